@@ -1,0 +1,15 @@
+-- The demand call's answer (document 01, Demand and The twelve numbers): Dem(p), or refusal 1 outside the bounds.
+use Prim.Native.Nat.{ℕ}
+use mathlib.Core.Bool.{Bool, cond, _&&_}
+use Rattle.curve.specs.Demand.{dem, inBounds, inRange}
+
+-- number 0 is an acceptance, every other one a refusal, whose value is 0
+pub record Answer : Type 0 where
+  pub number : ℕ
+  pub value : ℕ
+
+unfoldable pub demandAnswer : ℕ → ℕ → ℕ → ℕ → ℕ → Answer
+demandAnswer ce d m1 m2 p =
+    cond (inBounds ce d m1 m2 && inRange ce p)
+    (record { number = 0; value = dem ce d m1 m2 p })
+    (record { number = 1; value = 0 })

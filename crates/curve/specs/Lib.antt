@@ -1,0 +1,10 @@
+pub mod Curve
+pub mod Demand
+pub mod Answer
+pub mod Marked
+pub mod Signs
+pub mod Range
+pub mod Inverse
+pub mod Order
+pub mod Words
+pub mod Exact

@@ -1,0 +1,21 @@
+-- The ten marked cases of document 01, Demand: CE 20,000, D 1,000, M1 900, M2 1,200. Computed, for Dem in words and by formulas alike.
+use mathlib.Core.Path.{_≡_, refl}
+use Prim.Native.Nat.{ℕ}
+use Rattle.numbers.specs.Least.{leastFrom}
+use Rattle.curve.specs.Curve.{curve, priced}
+use Rattle.curve.specs.Demand.{dem, demInWords}
+
+abbrev pub Marked : (ℕ → ℕ) → Type 0
+Marked f =
+    (f 40000 ≡ 900) × (f 30001 ≡ 950) × (f 30000 ≡ 950) × (f 29999 ≡ 951) × (f 25999 ≡ 971)
+    × (f 20000 ≡ 1000) × (f 19999 ≡ 1001) × (f 19950 ≡ 1001) × (f 19949 ≡ 1002) × (f 10000 ≡ 1200)
+
+abbrev pub MarkedCases : Type 0
+MarkedCases = Marked (demInWords 20000 1000 900 1200) × Marked (dem 20000 1000 900 1200)
+
+pub marked-cases : MarkedCases
+unfolding demInWords leastFrom priced curve dem
+marked-cases = (
+  (refl, refl, refl, refl, refl, refl, refl, refl, refl, refl),
+  (refl, refl, refl, refl, refl, refl, refl, refl, refl, refl),
+)

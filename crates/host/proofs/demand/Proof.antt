@@ -1,0 +1,27 @@
+-- `demand` hands on the quantity, or 2^64 - 1 for refusal 1: each case of the enum, by its number and value.
+use mathlib.Core.Path.{_≡_, sym, ap, _∙_}
+use Rattle.demand.specs.Answers.{answerOf}
+use Rattle.host.specs.Host.{hostNumber}
+use borrow.Author.Needs.{needs}
+use Rattle.host.proofs.demand.Statement.{statement}
+use Rattle.host.proofs.demand.Tie as tie
+
+demand-requires : tie.Need-demand-requires
+demand-requires c κs = search needs
+
+enum-known-q : tie.Need-enum-known-q
+enum-known-q c = search needs
+
+enum-told : tie.Need-enum-told
+enum-told c = search needs
+
+returns : tie.Need-returns
+unfolding hostNumber
+returns c = ap (λ x. hostNumber (answerOf x)) (sym (c .before .q .given .1)) ∙ ap hostNumber (c .before .before .before .demand .ensures)
+
+returns-2 : tie.Need-returns-2
+unfolding hostNumber
+returns-2 c = ap (λ x. hostNumber (answerOf x)) (sym (c .enum-told .given .1)) ∙ ap hostNumber (c .before .before .demand .ensures)
+
+pub demand-spec : {M : Type 1} → statement M
+demand-spec = tie.close (tie.spec demand-requires enum-known-q enum-told returns returns-2)

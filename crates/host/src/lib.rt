@@ -1,0 +1,18 @@
+// The calls that a C host links: plain numbers and byte slices, no preconditions.
+ghost use mathlib.Core.Path.{_≡_};
+ghost use Rattle.curve.specs.Answer.{demandAnswer};
+ghost use Rattle.host.specs.Host.{hostNumber};
+use demand::Demanded;
+
+// What C gets for refusal 1.
+const REFUSAL_1: u64 = 0xffff_ffff_ffff_ffff;
+
+#[no_mangle]
+pub extern "C" fn demand(ce: u64, d: u64, m1: u64, m2: u64, p: u64) -> u64
+    ensures { λ r. ⌜ r ≡ hostNumber (demandAnswer ce d m1 m2 p) ⌝ }
+{
+    match demand::demand(ce, d, m1, m2, p) {
+        Demanded::Quantity(q) => q,
+        Demanded::OutOfBounds => REFUSAL_1,
+    }
+}

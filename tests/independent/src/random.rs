@@ -1,0 +1,66 @@
+//! Numbers for the generated inputs, from splitmix64: the same seed gives the same inputs.
+
+pub struct Random(u64);
+
+impl Random {
+    pub fn new(seed: u64) -> Random {
+        Random(seed)
+    }
+
+    /// Any number of 64 bits.
+    pub fn any(&mut self) -> u64 {
+        self.0 = self.0.wrapping_add(0x9E37_79B9_7F4A_7C15);
+        let mut z = self.0;
+        z = (z ^ (z >> 30)).wrapping_mul(0xBF58_476D_1CE4_E5B9);
+        z = (z ^ (z >> 27)).wrapping_mul(0x94D0_49BB_1331_11EB);
+        z ^ (z >> 31)
+    }
+
+    /// A number from `low` to `high`, both included.
+    pub fn between(&mut self, low: u64, high: u64) -> u64 {
+        assert!(low <= high, "no number from {low} to {high}");
+        let count = u128::from(high - low) + 1;
+        low + ((u128::from(self.any()) * count) >> 64) as u64
+    }
+
+    /// A number from `low` to `high` whose distance from `low` is as often short as long in
+    /// binary digits; an even choice would seldom give a small distance.
+    pub fn of_any_size(&mut self, low: u64, high: u64) -> u64 {
+        let digits = u64::from(u64::BITS - (high - low).leading_zeros());
+        let dropped = self.between(0, digits.min(63));
+        low + self.between(0, (high - low) >> dropped)
+    }
+
+    pub fn one_of<T: Copy>(&mut self, values: &[T]) -> T {
+        values[self.between(0, values.len() as u64 - 1) as usize]
+    }
+}
+
+#[cfg(test)]
+mod tests {
+    use super::*;
+
+    /// The generator's published first numbers for seed 0.
+    #[test]
+    fn splitmix64() {
+        let mut random = Random::new(0);
+        assert_eq!(random.any(), 0xE220_A839_7B1D_CDAF);
+        assert_eq!(random.any(), 0x6E78_9E6A_A1B9_65F4);
+        assert_eq!(random.any(), 0x06C4_5D18_8009_454F);
+    }
+
+    #[test]
+    fn ends_are_reached() {
+        let mut random = Random::new(1);
+        for high in [5, 6, 7, 8] {
+            let even: Vec<u64> = (0..1_000).map(|_| random.between(5, high)).collect();
+            let sized: Vec<u64> = (0..1_000).map(|_| random.of_any_size(5, high)).collect();
+            for n in 5..=high {
+                assert!(even.contains(&n) && sized.contains(&n));
+            }
+            assert!(even.iter().chain(&sized).all(|n| (5..=high).contains(n)));
+        }
+        random.between(0, u64::MAX);
+        random.of_any_size(0, u64::MAX);
+    }
+}
