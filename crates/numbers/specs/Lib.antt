@@ -1,2 +1,5 @@
 pub mod Cases
 pub mod Least
+pub mod Lists
+pub mod OneTo
+pub mod ListLaws

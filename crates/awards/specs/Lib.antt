@@ -1,0 +1,4 @@
+pub mod AwardLaws
+pub mod Declared
+pub mod OpenLevels
+pub mod Winners

@@ -1,0 +1,1 @@
+// Laws of the open levels, the award and its developers. Specifications only: see specs/.

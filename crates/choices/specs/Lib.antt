@@ -1,0 +1,8 @@
+pub mod Choices
+pub mod AboveOr
+pub mod Foremost
+pub mod Pairwise
+pub mod Count
+pub mod Larger
+pub mod Best
+pub mod Order

@@ -1,0 +1,40 @@
+-- What holds of every number of a sound ledger, registered or not: withdrawals fall in level and descend in price from the highest level
+-- declared, which is at most 10^9.
+use Prim.Native.Nat.{ℕ, _≤_, zero-le}
+use mathlib.Core.Path.{_≡_, refl, sym, subst}
+use mathlib.Core.Logic.{⊎-elim}
+use mathlib.Core.Bool.{true}
+use Rattle.numbers.specs.Lists.{lastOr}
+use Rattle.rules.specs.Ledger.{Developer, Ledger, nobody}
+use Rattle.rules.specs.Clearing.{highest}
+use Rattle.rules.specs.Refusals.{lowering}
+use Rattle.rules.specs.Rounds.{lastLevel}
+use Rattle.rules.specs.CheckLaws.{highest-in-bounds}
+use Rattle.sound.specs.Sound.{appliedTo, levelsOf, Descends, SoundDeveloper, SoundOffer, Sound}
+
+-- levels fall strictly, from below the highest declared
+abbrev pub Falls : Developer → Type 0
+Falls x = lowering (x .declared .levels) (highest x) (levelsOf (x .withdrawals)) ≡ true
+
+-- a developer's course: what was withdrawn from its highest level, at prices from a down to c, and what is left
+pub record Course (c a : ℕ) (x : Developer) : Type 0 where
+  pub falls : Falls x
+  pub prices : Descends c a (x .withdrawals)
+  pub quantity : x .quantity ≡ lastLevel (highest x) (x .withdrawals)
+  pub small : highest x ≤ 1000000000
+
+pub course : (c a : ℕ) (x : Developer) → SoundDeveloper c a x → Course c a x
+course c a x s = record { falls = s .falls; prices = s .prices; quantity = s .quantity; small = highest-in-bounds (x .declared .levels) (s .declared .levels) .1 }
+
+pub course-of-nobody : (c a : ℕ) → Course c a nobody
+unfolding lowering lastLevel lastOr Descends
+course-of-nobody c a = record { falls = refl; prices = tt; quantity = refl; small = zero-le }
+
+-- ---- of every number of a sound ledger
+
+pub courses : (l : Ledger) → Sound l → (n : ℕ) → Course (appliedTo (l .phase) l) (l .settings .a) (l .developers n)
+courses l s n = ⊎-elim (λ e. subst (λ (x : Developer). Course (appliedTo (l .phase) l) (l .settings .a) x) (sym e) (course-of-nobody _ _)) (λ r. course _ _ _ (r .developer)) (s .each n)
+
+pub offers : (l : Ledger) → Sound l → (n : ℕ) → SoundOffer l (l .developers n) (l .developers n .offer)
+unfolding SoundOffer
+offers l s n = ⊎-elim (λ e. subst (λ (x : Developer). SoundOffer l x (x .offer)) (sym e) tt) (λ r. r .offer) (s .each n)

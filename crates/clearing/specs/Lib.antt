@@ -1,0 +1,4 @@
+pub mod Course
+pub mod HighLow
+pub mod Supply
+pub mod ClosingPrice

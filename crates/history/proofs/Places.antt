@@ -1,0 +1,48 @@
+-- Histories that agree, and the places of a list with zeros behind it: what stands there, and a store behind the last.
+use Prim.Native.Nat.{ℕ, suc, _+_, _-_, _≤_, _<_}
+use mathlib.Core.Path.{_≡_, sym, ap, _∙_}
+use mathlib.Core.List.{List, [], _∷_, _++_, map, append-assoc}
+use native.Mathlib.Omega.{arith}
+use native.Mathlib.Numerals.{add-one}
+use lib.ListN.{length, getD, take, set, replicate, length-append, length-map, List·getD-append, List·getD-map}
+use lib.Seq.{set-append-seam, take-suc, length-take-le}
+use Rattle.numbers.specs.Lists.{padded}
+use Rattle.rules.specs.Ledger.{Step}
+use Rattle.history.specs.declared.History.{History}
+
+pub same : (h g : History) → h .prices ≡ g .prices → h .levels ≡ g .levels → h .count ≡ g .count → h .offered ≡ g .offered → h ≡ g
+same h g p l c o = λ i. record { prices = p i; levels = l i; count = c i; offered = o i }
+
+pub count-of : {h g : History} → h ≡ g → h .count ≡ g .count
+count-of e = ap (λ (x : History). x .count) e
+
+pub offered-of : {h g : History} → h ≡ g → h .offered ≡ g .offered
+offered-of e = ap (λ (x : History). x .offered) e
+
+module _ (k : ℕ) where
+  pub padded-more : (xs : List ℕ) (n x : ℕ) → length xs ≡ n → n < k → set (padded k xs) n x ≡ padded k (xs ++ (x ∷ []))
+  padded-more xs n x e h =
+      let f : k - length xs ≡ suc (k - length (xs ++ (x ∷ []))) = omega (arith, length-append xs (x ∷ [])) in
+      rw (f, ← e) (set-append-seam xs 0 (replicate (k - length (xs ++ (x ∷ []))) 0) x ∙ sym (append-assoc xs (x ∷ []) (replicate (k - length (xs ++ (x ∷ []))) 0)))
+
+  -- the next element of ys stored behind xs and those before it
+  pub padded-next :
+      (xs ys : List ℕ) (n i : ℕ) → length xs ≡ n → i < length ys → n + length ys ≤ k →
+      set (padded k (xs ++ take i ys)) (n + i) (getD ys i 0) ≡ padded k (xs ++ take (i + 1) ys)
+  padded-next xs ys n i e h w =
+      let l : length (xs ++ take i ys) ≡ n + i = omega (arith, length-append xs (take i ys), length-take-le i ys (omega arith)) in
+      padded-more (xs ++ take i ys) (n + i) (getD ys i 0) l (omega arith)
+      ∙ ap (padded k) (append-assoc xs (take i ys) (getD ys i 0 ∷ []) ∙ ap (λ (zs : List ℕ). xs ++ zs) (sym (rw add-one (take-suc ys i 0 h))))
+
+abbrev pub noStep : Step
+noStep = record { price = 0; level = 0 }
+
+-- a place of the first steps
+pub padded-at :
+    (f : Step → ℕ) → f noStep ≡ 0 → (k : ℕ) (ws ss : List Step) (i : ℕ) → i < length ws →
+    getD (padded k (map f (ws ++ ss))) i 0 ≡ f (getD ws i noStep)
+padded-at f z k ws ss i w =
+    List·getD-append (map f (ws ++ ss)) (replicate (k - length (map f (ws ++ ss))) 0) 0 i (omega (arith, length-map (ws ++ ss) f, length-append ws ss))
+    ∙ ap (λ (d : ℕ). getD (map f (ws ++ ss)) i d) (sym z)
+    ∙ List·getD-map f (ws ++ ss) i noStep
+    ∙ ap f (List·getD-append ws ss noStep i w)

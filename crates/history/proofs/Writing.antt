@@ -1,0 +1,147 @@
+-- What the writing functions leave: an offer's steps behind the withdrawals, and the withdrawals once an offer is applied.
+use Prim.Native.Nat.{ℕ, _+_, _-_, _≤_, _<_}
+use mathlib.Core.Path.{_≡_, refl, sym, ap, _∙_}
+use mathlib.Core.Bool.{Bool, true, false}
+use mathlib.Core.List.{List, [], _∷_, _++_, map, map-append, append-nil}
+use native.Mathlib.Omega.{arith}
+use lib.ListN.{length, getD, take, set, length-append, length-map}
+use lib.Seq.{take-all}
+use Rattle.numbers.specs.Lists.{padded}
+use Rattle.rules.specs.Ledger.{Step, Standing, none, made}
+use Rattle.rules.specs.Rounds.{steps}
+use Rattle.sound.specs.Sound.{pricesOf, levelsOf}
+use Rattle.history.specs.declared.History.{History}
+use Rattle.history.specs.Held.{held, additions, Offered, Applied}
+use Rattle.history.specs.HeldLaws.{steps-prices, steps-levels, steps-length}
+use Rattle.history.proofs.Places.{same, count-of, offered-of, padded-more, padded-next}
+
+-- a column of the arrays
+column : (f : Step → ℕ) (ws ss : List Step) (xs : List ℕ) → map f ss ≡ xs → padded 8 (map f ws ++ xs) ≡ padded 8 (map f (ws ++ ss))
+column f ws ss xs e = ap (padded 8) (ap (λ (ys : List ℕ). map f ws ++ ys) (sym e) ∙ sym (map-append f ws ss))
+
+-- one step more
+column-more :
+    (f : Step → ℕ) (ws : List Step) (s : Step) (n : ℕ) → n ≡ length ws → n < 8 →
+    set (padded 8 (map f (ws ++ []))) n (f s) ≡ padded 8 (map f (ws ++ (s ∷ []) ++ []))
+column-more f ws s n e h =
+    simp append-nil (padded-more 8 (map f ws) n (f s) (length-map ws f ∙ sym e) h ∙ column f ws (s ∷ []) (f s ∷ []) refl)
+
+-- ---- offer
+
+-- i steps stored, the offer not counted yet
+abbrev storedTo : List Step → List ℕ → List ℕ → ℕ → History
+storedTo ws ps qs i = record {
+  prices = padded 8 (pricesOf ws ++ take i ps);
+  levels = padded 8 (levelsOf ws ++ take i qs);
+  count = length ws;
+  offered = 0;
+}
+
+-- the loop before step i: `h₀` is the history that it begins with, `h` that of now
+pub record Storing (ps qs : List ℕ) (h₀ h : History) (n i : ℕ) : Type 0 where
+  pub within : i ≤ length ps
+  pub count : n ≡ h₀ .count
+  pub stored : (ws : List Step) → h₀ ≡ held ws none → length ps ≡ length qs → length ws + length ps ≤ 8 → h ≡ storedTo ws ps qs i
+
+pub store-first : (ps qs : List ℕ) (h : History) → Storing ps qs h h (h .count) 0
+store-first ps qs h = record {
+  within = omega arith;
+  count = refl;
+  stored = λ ws e s w. e ∙ same (held ws none) (storedTo ws ps qs 0) (sym (column (λ t. t .price) ws [] [] refl)) (sym (column (λ t. t .level) ws [] [] refl)) refl refl;
+}
+
+-- an early return is not reached where there is room
+pub no-room : (ps qs : List ℕ) (h r : History) → ((ws : List Step) → h .count ≡ length ws → length ps ≡ length qs → length ws + length ps ≤ 8 → ⊥) → Offered h ps qs r
+no-room ps qs h r z = record { right = λ ws e s w. absurd (z ws (count-of e) s w) }
+
+module _ (ps qs : List ℕ) (h₀ h : History) (n i : ℕ) (t : Storing ps qs h₀ h n i) where
+  pub store-next :
+      i < length ps →
+      Storing ps qs h₀ (record {
+        prices = set (h .prices) (n + i) (getD ps i 0);
+        levels = set (h .levels) (n + i) (getD qs i 0);
+        count = h .count;
+        offered = h .offered;
+      }) n (i + 1)
+  store-next w = record {
+    within = omega arith;
+    count = t .count;
+    stored = λ ws e s v.
+        let g : h ≡ storedTo ws ps qs i = t .stored ws e s v in
+        let m : n ≡ length ws = t .count ∙ count-of e in
+        same _ (storedTo ws ps qs (i + 1))
+        (ap (λ (x : History). set (x .prices) (n + i) (getD ps i 0)) g ∙ padded-next 8 (pricesOf ws) ps n i (length-map ws (λ x. x .price) ∙ sym m) w (omega arith))
+        (ap (λ (x : History). set (x .levels) (n + i) (getD qs i 0)) g ∙ padded-next 8 (levelsOf ws) qs n i (length-map ws (λ x. x .level) ∙ sym m) (omega arith) (omega arith))
+        (count-of g)
+        (offered-of g);
+  }
+
+  -- all steps are stored
+  pub store-end : length ps ≤ i → Offered h₀ ps qs (record { prices = h .prices; levels = h .levels; count = h .count; offered = i + 1 })
+  store-end w = record {
+    right = λ ws e s v.
+        let g : h ≡ storedTo ws ps qs i = t .stored ws e s v in
+        same _ (held ws (made (steps ps qs)))
+        (ap (λ (x : History). x .prices) g ∙ column (λ x. x .price) ws (steps ps qs) (take i ps) (steps-prices ps qs s ∙ sym (take-all i ps w)))
+        (ap (λ (x : History). x .levels) g ∙ column (λ x. x .level) ws (steps ps qs) (take i qs) (steps-levels ps qs s ∙ sym (take-all i qs (omega arith))))
+        (count-of g)
+        (omega (arith, steps-length ps qs s, t .within));
+  }
+
+-- ---- close
+
+module _ (h : History) (missing : Bool) (o : ℕ) where
+  -- by the offer that stands
+  by-standing :
+      (r : History) →
+      ((ws : List Step) → h ≡ held ws none → length ws + length (additions missing o none) ≤ 8 → r ≡ held (ws ++ additions missing o none) none) →
+      ((ws ss : List Step) → h ≡ held ws (made ss) → length ws + length ss ≤ 8 → r ≡ held (ws ++ ss) none) →
+      Applied h missing o r
+  by-standing r f g = record { right = go }
+    where
+      go : (ws : List Step) (s : Standing) → h ≡ held ws s → length ws + length (additions missing o s) ≤ 8 → r ≡ held (ws ++ additions missing o s) none
+      go ws none e w = f ws e w
+      go ws (made ss) e w = g ws ss e w
+
+  with-offer : (r : History) → 0 < h .offered → ((ws ss : List Step) → h ≡ held ws (made ss) → length ws + length ss ≤ 8 → r ≡ held (ws ++ ss) none) → Applied h missing o r
+  with-offer r k g = by-standing r (λ ws e w. absurd (omega (arith, offered-of e))) g
+
+  without-offer :
+      (r : History) → h .offered ≤ 0 →
+      ((ws : List Step) → h ≡ held ws none → length ws + length (additions missing o none) ≤ 8 → r ≡ held (ws ++ additions missing o none) none) →
+      Applied h missing o r
+  without-offer r k f = by-standing r f (λ ws ss e w. absurd (omega (arith, offered-of e)))
+
+  -- the steps of an offer are in place already
+  pub close-offer : 0 < h .offered → Applied h missing o (record { prices = h .prices; levels = h .levels; count = h .count + (h .offered - 1); offered = 0 })
+  close-offer k = with-offer _ k (λ ws ss e w.
+      same _ (held (ws ++ ss) none)
+      (ap (λ (x : History). x .prices) e ∙ ap (λ (x : List Step). padded 8 (pricesOf x)) (sym (append-nil (ws ++ ss))))
+      (ap (λ (x : History). x .levels) e ∙ ap (λ (x : List Step). padded 8 (levelsOf x)) (sym (append-nil (ws ++ ss))))
+      (omega (arith, count-of e, offered-of e, length-append ws ss))
+      refl)
+
+  -- an early return is not reached where there is room
+  pub close-no-room : (r : History) → 0 < h .offered → 8 < h .count + (h .offered - 1) → Applied h missing o r
+  close-no-room r k v = with-offer r k (λ ws ss e w. absurd (omega (arith, count-of e, offered-of e)))
+
+  -- all is withdrawn at o
+  pub close-missing :
+      h .offered ≤ 0 → missing ≡ true → h .count < 8 →
+      Applied h missing o (record { prices = set (h .prices) (h .count) o; levels = set (h .levels) (h .count) 0; count = h .count + 1; offered = h .offered })
+  close-missing k m n = without-offer _ k (λ ws e w.
+      let s : Step = record { price = o; level = 0 } in
+      let l : h .count ≡ length ws = count-of e in
+      rw m
+      (same _ (held (ws ++ (s ∷ [])) none)
+      (ap (λ (x : History). set (x .prices) (h .count) o) e ∙ column-more (λ x. x .price) ws s (h .count) l n)
+      (ap (λ (x : History). set (x .levels) (h .count) 0) e ∙ column-more (λ x. x .level) ws s (h .count) l n)
+      (omega (arith, length-append ws (s ∷ [])))
+      (offered-of e)))
+
+  pub close-full : h .offered ≤ 0 → missing ≡ true → 8 ≤ h .count → Applied h missing o h
+  close-full k m n = without-offer h k (λ ws e w. absurd (omega (arith, count-of e, rw m at w)))
+
+  -- no offer is missing: all stays
+  pub close-kept : h .offered ≤ 0 → missing ≡ false → Applied h missing o h
+  close-kept k m = without-offer h k (λ ws e w. rw m (e ∙ ap (λ (x : List Step). held x none) (sym (append-nil ws))))

@@ -1,0 +1,35 @@
+-- The numbers 1 to n: how many, which, and the one at each place.
+use Prim.Native.Nat.{ℕ, zero, suc, _≤_, _<_}
+use mathlib.Core.Path.{_≡_, refl, sym, ap, _∙_}
+use mathlib.Core.Logic.{⊎-elim, _↔_}
+use mathlib.Core.List.{[], _∷_, List·Memᴰ, List·Memᴰ·head, List·Memᴰ·not-nil, List·Memᴰ·append-cases, List·Memᴰ·eq-of-singleton, Memᴰ·append-left, Memᴰ·append-right}
+use native.Mathlib.Omega.{arith}
+use lib.ListN.{length, getD, length-append, List·getD-append}
+use lib.Seq.{getD-at}
+use Rattle.numbers.specs.Cases.{le-or-lt}
+use Rattle.numbers.specs.Lists.{oneTo}
+
+pub length-one-to : (n : ℕ) → length (oneTo n) ≡ n
+unfolding oneTo
+length-one-to zero = refl
+length-one-to (suc n) = omega (arith, length-append (oneTo n) (suc n ∷ []), length-one-to n)
+
+pub in-one-to : (n m : ℕ) → List·Memᴰ n (oneTo m) ↔ ((1 ≤ n) × (n ≤ m))
+unfolding oneTo
+in-one-to n m = (out m, (λ r. into m (r .0) (r .1)))
+  where
+    out : (m : ℕ) → List·Memᴰ n (oneTo m) → (1 ≤ n) × (n ≤ m)
+    out zero k = absurd (List·Memᴰ·not-nil k)
+    out (suc m) k = ⊎-elim (λ j. let r = out m j in (omega arith, omega arith)) (λ j. let e : n ≡ suc m = List·Memᴰ·eq-of-singleton j in (omega arith, omega arith)) (List·Memᴰ·append-cases (oneTo m) k)
+
+    into : (m : ℕ) → 1 ≤ n → n ≤ m → List·Memᴰ n (oneTo m)
+    into zero l h = absurd (omega arith)
+    into (suc m) l h = ⊎-elim (λ g. Memᴰ·append-left (suc m ∷ []) (into m l g)) (λ g. Memᴰ·append-right (oneTo m) (List·Memᴰ·head (omega arith))) (le-or-lt n m)
+
+pub one-to-nth : (n i : ℕ) → i < n → getD (oneTo n) i 0 ≡ suc i
+unfolding oneTo
+one-to-nth zero i h = absurd (omega arith)
+one-to-nth (suc n) i h = ⊎-elim
+    (λ g. List·getD-append (oneTo n) (suc n ∷ []) 0 i (omega (arith, length-one-to n)) ∙ one-to-nth n i g)
+    (λ g. let e : i ≡ n = omega arith in getD-at (oneTo n) (suc n) [] 0 i (length-one-to n ∙ sym e) ∙ ap suc (sym e))
+    (le-or-lt (suc i) n)

@@ -1,0 +1,74 @@
+-- What acceptance says: the checks that an accepted call passed. What each of these says stands in the crate `rules`.
+use Prim.Native.Nat.{ℕ, suc}
+use mathlib.Core.Path.{_≡_, refl}
+use mathlib.Core.Bool.{Bool, true, false}
+use mathlib.Core.List.{List}
+use native.Mathlib.Omega.{arith}
+use Rattle.rules.specs.Ledger.{Settings, Declaration, SetUp, Register, Open, Offer, Close, Ledger}
+use Rattle.rules.specs.Refusals.{isFresh, isReady, mayOpen, inRound, settingsOk, numbersOk, declarationOk, closingOk, startCovered, isNone, mayOffer, pricesOk, lowering, check, number}
+pub use Rattle.rules.specs.CheckLaws.{Numbers, numbers-facts, Levels, levels-facts, rising-first, Declared, declaration-facts, closing-facts, may-offer-facts, Prices, prices-facts, falling-first, lowering-first}
+
+pub record SetUpPassed (l : Ledger) (s : Settings) : Type 0 where
+  pub phase : isFresh (l .phase) ≡ true
+  pub settings : settingsOk s ≡ true
+
+pub record RegisterPassed (l : Ledger) (n : ℕ) (x : Declaration) : Type 0 where
+  pub phase : isReady (l .phase) ≡ true
+  pub numbers : numbersOk l (x .project) n ≡ true
+  pub declaration : declarationOk l x ≡ true
+
+pub record OpenPassed (l : Ledger) (c : ℕ) : Type 0 where
+  pub phase : mayOpen (l .phase) ≡ true
+  pub closing : closingOk l c ≡ true
+  pub covered : startCovered l ≡ true
+
+pub record OfferPassed (l : Ledger) (n : ℕ) (ps qs : List ℕ) : Type 0 where
+  pub phase : inRound (l .phase) ≡ true
+  pub developer : mayOffer l n ≡ true
+  pub first : isNone (l .developers n .offer) ≡ true
+  pub prices : pricesOk l ps qs ≡ true
+  pub levels : lowering (l .developers n .declared .levels) (l .developers n .quantity) qs ≡ true
+
+pub record ClosePassed (l : Ledger) : Type 0 where
+  pub phase : inRound (l .phase) ≡ true
+
+passed : (b : Bool) (k next : ℕ) → check b (suc k) next ≡ 0 → (b ≡ true) × (next ≡ 0)
+passed true k next e = (refl, e)
+passed false k next e = absurd (omega arith)
+
+pub set-up-passed : (l : Ledger) (s : Settings) → number l (SetUp s) ≡ 0 → SetUpPassed l s
+unfolding number
+set-up-passed l s e =
+    let p = passed (isFresh (l .phase)) 1 _ e in
+    let q = passed (settingsOk s) 0 _ (p .1) in
+    record { phase = p .0; settings = q .0 }
+
+pub register-passed : (l : Ledger) (n : ℕ) (x : Declaration) → number l (Register n x) ≡ 0 → RegisterPassed l n x
+unfolding number
+register-passed l n x e =
+    let p = passed (isReady (l .phase)) 1 _ e in
+    let q = passed (numbersOk l (x .project) n) 2 _ (p .1) in
+    let r = passed (declarationOk l x) 3 _ (q .1) in
+    record { phase = p .0; numbers = q .0; declaration = r .0 }
+
+pub open-passed : (l : Ledger) (c : ℕ) → number l (Open c) ≡ 0 → OpenPassed l c
+unfolding number
+open-passed l c e =
+    let p = passed (mayOpen (l .phase)) 1 _ e in
+    let q = passed (closingOk l c) 4 _ (p .1) in
+    let r = passed (startCovered l) 8 _ (q .1) in
+    record { phase = p .0; closing = q .0; covered = r .0 }
+
+pub offer-passed : (l : Ledger) (n : ℕ) (ps qs : List ℕ) → number l (Offer n ps qs) ≡ 0 → OfferPassed l n ps qs
+unfolding number
+offer-passed l n ps qs e =
+    let p = passed (inRound (l .phase)) 1 _ e in
+    let q = passed (mayOffer l n) 2 _ (p .1) in
+    let r = passed (isNone (l .developers n .offer)) 7 _ (q .1) in
+    let s = passed (pricesOk l ps qs) 5 _ (r .1) in
+    let t = passed (lowering (l .developers n .declared .levels) (l .developers n .quantity) qs) 6 _ (s .1) in
+    record { phase = p .0; developer = q .0; first = r .0; prices = s .0; levels = t .0 }
+
+pub close-passed : (l : Ledger) → number l Close ≡ 0 → ClosePassed l
+unfolding number
+close-passed l e = record { phase = passed (inRound (l .phase)) 1 0 e .0 }

@@ -1,0 +1,107 @@
+-- What a ledger may hold under a developer's number, said of the developer held there; and ledgers that differ in their developers alone.
+use Prim.Native.Nat.{ℕ, _≤_}
+use mathlib.Core.Path.{_≡_, refl, sym, subst}
+use mathlib.Core.Logic.{_⊎_, inl, inr, ⊎-elim}
+use mathlib.Core.Bool.{Bool, true, false, cond}
+use mathlib.Core.List.{[]}
+use lib.Dec.{eqb}
+use borrow.Author.Tests.{eqb-true}
+use Rattle.numbers.specs.Cases.{clash}
+use Rattle.rules.specs.Ledger.{Standing, none, made, Developer, Phase, Fresh, Ready, Round, Between, Closed, Ledger, nobody}
+use Rattle.rules.specs.Clearing.{covered}
+use Rattle.rules.specs.Refusals.{isFresh, isReady, mayOpen, inRound}
+use Rattle.rules.specs.Rounds.{put}
+use Rattle.sound.specs.Sound.{started, appliedTo, SoundDeveloper, SoundOffer, Registered, Sound}
+pub use Rattle.clearing.specs.ClosingPrice.{started-not-fresh}
+
+-- ---- phases
+
+pub is-ready : (p : Phase) → isReady p ≡ true → p ≡ Ready
+is-ready Ready e = refl
+is-ready Fresh e = absurd (clash e refl)
+is-ready Round e = absurd (clash e refl)
+is-ready Between e = absurd (clash e refl)
+is-ready Closed e = absurd (clash e refl)
+
+pub in-round : (p : Phase) → inRound p ≡ true → p ≡ Round
+in-round Round e = refl
+in-round Fresh e = absurd (clash e refl)
+in-round Ready e = absurd (clash e refl)
+in-round Between e = absurd (clash e refl)
+in-round Closed e = absurd (clash e refl)
+
+pub by-may-open : (P : Phase → Type 0) → P Ready → P Between → (p : Phase) → mayOpen p ≡ true → P p
+by-may-open P r b Ready e = r
+by-may-open P r b Between e = b
+by-may-open P r b Fresh e = absurd (clash e refl)
+by-may-open P r b Round e = absurd (clash e refl)
+by-may-open P r b Closed e = absurd (clash e refl)
+
+-- ---- held
+
+pub record Held (l : Ledger) (n : ℕ) (x : Developer) : Type 0 where
+  pub number-low : 1 ≤ n
+  pub number-high : n ≤ 32
+  pub developer : SoundDeveloper (appliedTo (l .phase) l) (l .settings .a) x
+  pub offer : SoundOffer l x (x .offer)
+
+-- nobody, or held so
+abbrev pub Kept : Ledger → ℕ → Developer → Type 0
+Kept l n x = (x ≡ nobody) ⊎ Held l n x
+
+pub kept : (l : Ledger) → Sound l → (n : ℕ) → Kept l n (l .developers n)
+kept l s n = ⊎-elim inl (λ r. inr (record { number-low = r .number-low; number-high = r .number-high; developer = r .developer; offer = r .offer })) (s .each n)
+
+pub registered : (l : Ledger) (n : ℕ) → Kept l n (l .developers n) → (l .developers n ≡ nobody) ⊎ Registered l n
+registered l n k = ⊎-elim inl (λ h. inr (record { number-low = h .number-low; number-high = h .number-high; developer = h .developer; offer = h .offer })) k
+
+-- what holds of x under n and of every other developer holds of all once x is put under n
+pub by-put : (P : ℕ → Developer → Type 0) (n : ℕ) (x : Developer) (f : ℕ → Developer) → P n x → ((m : ℕ) → P m (f m)) → (m : ℕ) → P m (put n x f m)
+by-put P n x f h g m = go (eqb m n) refl
+  where
+    go : (b : Bool) → eqb m n ≡ b → P m (cond b x (f m))
+    go true e = subst (λ (k : ℕ). P k x) (sym (eqb-true m n e)) h
+    go false e = g m
+
+-- ---- the ledger with other developers
+
+abbrev pub withDevelopers : Ledger → (ℕ → Developer) → Ledger
+withDevelopers l f = record { phase = l .phase; settings = l .settings; opening = l .opening; closing = l .closing; developers = f }
+
+applied-to-with : (p : Phase) (l : Ledger) (f : ℕ → Developer) → appliedTo p l ≡ appliedTo p (withDevelopers l f)
+applied-to-with Fresh l f = refl
+applied-to-with Ready l f = refl
+applied-to-with Round l f = refl
+applied-to-with Between l f = refl
+applied-to-with Closed l f = refl
+
+pub developer-with : (l : Ledger) (f : ℕ → Developer) (x : Developer) → SoundDeveloper (appliedTo (l .phase) l) (l .settings .a) x → SoundDeveloper (appliedTo (l .phase) (withDevelopers l f)) (l .settings .a) x
+developer-with l f x d = subst (λ (c : ℕ). SoundDeveloper c (l .settings .a) x) (applied-to-with (l .phase) l f) d
+
+offer-with : (l : Ledger) (f : ℕ → Developer) (x : Developer) (o : Standing) → SoundOffer l x o → SoundOffer (withDevelopers l f) x o
+unfolding SoundOffer
+offer-with l f x none h = tt
+offer-with l f x (made ss) h = record { round = h .round; kind = h .kind; few = h .few; prices = h .prices; levels = h .levels }
+
+pub kept-with : (l : Ledger) (f : ℕ → Developer) (n : ℕ) (x : Developer) → Kept l n x → Kept (withDevelopers l f) n x
+kept-with l f n x k = ⊎-elim inl
+    (λ h. inr (record { number-low = h .number-low; number-high = h .number-high; developer = developer-with l f x (h .developer); offer = offer-with l f x (x .offer) (h .offer) })) k
+
+-- a sound ledger, set up, stays sound with developers of which these hold
+pub record SoundWith (l : Ledger) (f : ℕ → Developer) : Type 0 where
+  pub idle : started (l .phase) ≡ false → (n : ℕ) → f n .withdrawals ≡ []
+  pub start-covered : started (l .phase) ≡ true → covered (withDevelopers l f) (l .settings .a) ≡ true
+  pub each : (n : ℕ) → Kept (withDevelopers l f) n (f n)
+  pub alone : (m n : ℕ) → f m .declared .kind ≡ 1 → f m .declared .project ≡ f n .declared .project → m ≡ n
+
+pub sound-with : (l : Ledger) (f : ℕ → Developer) → Sound l → isFresh (l .phase) ≡ false → SoundWith l f → Sound (withDevelopers l f)
+sound-with l f s p w = record {
+  fresh = λ e. absurd (clash e p);
+  settings = s .settings;
+  unopened = s .unopened;
+  idle = w .idle;
+  prices = λ e. let r = s .prices e in record { low = r .low; order = r .order; high = r .high };
+  start-covered = w .start-covered;
+  each = λ n. registered (withDevelopers l f) n (w .each n);
+  alone = w .alone;
+}

@@ -1,0 +1,13 @@
+pub mod Steps
+pub mod Checks
+pub mod Histories
+pub mod Supplies
+pub mod Held
+pub mod Registering
+pub mod Opening
+pub mod Offering
+pub mod Closing
+pub mod Reachable
+pub mod Counting
+pub mod Bounds
+pub mod RoundCount

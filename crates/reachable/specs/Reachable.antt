@@ -1,0 +1,62 @@
+-- The ledger of every list of calls is sound: the empty one is, and each call, accepted or refused, keeps it so.
+use mathlib.Core.Path.{_≡_, refl, sym, subst}
+use mathlib.Core.Logic.{inl}
+use mathlib.Core.Bool.{true, false}
+use mathlib.Core.List.{List, [], _∷_}
+use native.Mathlib.Omega.{arith}
+use Rattle.numbers.specs.Cases.{clash}
+use Rattle.rules.specs.Ledger.{Settings, Call, SetUp, Register, Open, Offer, Close, Phase, Fresh, Ready, Ledger, nobody, start}
+use Rattle.rules.specs.Refusals.{isFresh, settingsOk, number}
+use Rattle.rules.specs.Rounds.{accepted, step, stepAll, ledger}
+use Rattle.sound.specs.Sound.{started, Sound}
+use Rattle.reachable.specs.Steps.{by-step}
+use Rattle.reachable.specs.Checks.{SetUpPassed, set-up-passed, register-passed, open-passed, offer-passed, close-passed}
+use Rattle.reachable.specs.Opening.{sound-open}
+use Rattle.reachable.specs.Registering.{sound-register}
+use Rattle.reachable.specs.Offering.{sound-offer}
+use Rattle.reachable.specs.Closing.{sound-close}
+
+-- before the first registration
+abbrev blank : Phase → Settings → Ledger
+blank p t = record { phase = p; settings = t; opening = 0; closing = 0; developers = λ _. nobody }
+
+sound-blank : (p : Phase) (t : Settings) → (isFresh p ≡ true → blank p t ≡ start) → (isFresh p ≡ false → settingsOk t ≡ true) → started p ≡ false → Sound (blank p t)
+sound-blank p t h g n = record {
+  fresh = h;
+  settings = g;
+  unopened = λ e. (refl, refl);
+  idle = λ e m. refl;
+  prices = λ e. absurd (clash e n);
+  start-covered = λ e. absurd (clash e n);
+  each = λ m. inl refl;
+  alone = λ m j e f. absurd (omega arith);
+}
+
+pub sound-start : Sound start
+sound-start = sound-blank Fresh (start .settings) (λ e. refl) (λ e. absurd (clash refl e)) refl
+
+set-up-start : (t : Settings) → settingsOk t ≡ true → Sound (accepted start (SetUp t))
+unfolding accepted
+set-up-start t h = sound-blank Ready t (λ e. absurd (clash e refl)) (λ e. h) refl
+
+sound-set-up : (l : Ledger) (t : Settings) → Sound l → SetUpPassed l t → Sound (accepted l (SetUp t))
+sound-set-up l t s p = subst (λ (m : Ledger). Sound (accepted m (SetUp t))) (sym (s .fresh (p .phase))) (set-up-start t (p .settings))
+
+sound-accepted : (l : Ledger) (c : Call) → number l c ≡ 0 → Sound l → Sound (accepted l c)
+sound-accepted l (SetUp t) e s = sound-set-up l t s (set-up-passed l t e)
+sound-accepted l (Register n x) e s = sound-register l n x s (register-passed l n x e)
+sound-accepted l (Open c) e s = sound-open l c s (open-passed l c e)
+sound-accepted l (Offer n ps qs) e s = sound-offer l n ps qs s (offer-passed l n ps qs e)
+sound-accepted l Close e s = sound-close l s (close-passed l e)
+
+pub sound-step : (l : Ledger) (c : Call) → Sound l → Sound (step l c)
+sound-step l c s = by-step Sound l c s (λ e. sound-accepted l c e s)
+
+sound-all : (l : Ledger) (cs : List Call) → Sound l → Sound (stepAll l cs)
+unfolding stepAll
+sound-all l [] s = s
+sound-all l (c ∷ cs) s = sound-all (step l c) cs (sound-step l c s)
+
+pub sound : (cs : List Call) → Sound (ledger cs)
+unfolding ledger
+sound cs = sound-all start cs sound-start

@@ -1,0 +1,44 @@
+-- One call more: what a refused and an accepted call make of the ledger, and the ledger and the replies of a list with one call more.
+use mathlib.Core.Path.{_≡_, refl, ap}
+use mathlib.Core.Bool.{Bool, true, false, cond}
+use mathlib.Core.List.{List, [], _∷_, _++_}
+use lib.Dec.{eqb}
+use borrow.Author.Tests.{eqb-true, eq-eqb, ne-eqb}
+use Rattle.rules.specs.Ledger.{Call, Ledger, start}
+use Rattle.rules.specs.Refusals.{number}
+use Rattle.rules.specs.Rounds.{accepted, step, stepAll, ledger, Reply, reply, repliesFrom, replies}
+
+pub step-refused : (l : Ledger) (c : Call) → (number l c ≡ 0 → ⊥) → step l c ≡ l
+unfolding step
+step-refused l c h = ap (λ (t : Bool). cond t (accepted l c) l) (ne-eqb (number l c) 0 h)
+
+pub step-accepted : (l : Ledger) (c : Call) → number l c ≡ 0 → step l c ≡ accepted l c
+unfolding step
+step-accepted l c e = ap (λ (t : Bool). cond t (accepted l c) l) (eq-eqb (number l c) 0 e)
+
+-- what holds of the ledger, and after the call if it is accepted, holds after the call
+pub by-step : (P : Ledger → Type 0) (l : Ledger) (c : Call) → P l → (number l c ≡ 0 → P (accepted l c)) → P (step l c)
+unfolding step
+by-step P l c h g = go (eqb (number l c) 0) refl
+  where
+    go : (b : Bool) → eqb (number l c) 0 ≡ b → P (cond b (accepted l c) l)
+    go true e = g (eqb-true (number l c) 0 e)
+    go false e = h
+
+step-all-snoc : (l : Ledger) (cs : List Call) (c : Call) → stepAll l (cs ++ (c ∷ [])) ≡ step (stepAll l cs) c
+unfolding stepAll
+step-all-snoc l [] c = refl
+step-all-snoc l (d ∷ cs) c = step-all-snoc (step l d) cs c
+
+pub ledger-snoc : (cs : List Call) (c : Call) → ledger (cs ++ (c ∷ [])) ≡ step (ledger cs) c
+unfolding ledger
+ledger-snoc cs c = step-all-snoc start cs c
+
+replies-from-snoc : (l : Ledger) (cs : List Call) (c : Call) → repliesFrom l (cs ++ (c ∷ [])) ≡ repliesFrom l cs ++ (reply (stepAll l cs) c ∷ [])
+unfolding stepAll repliesFrom
+replies-from-snoc l [] c = refl
+replies-from-snoc l (d ∷ cs) c = ap (λ (rs : List Reply). reply l d ∷ rs) (replies-from-snoc (step l d) cs c)
+
+pub replies-snoc : (cs : List Call) (c : Call) → replies (cs ++ (c ∷ [])) ≡ replies cs ++ (reply (ledger cs) c ∷ [])
+unfolding replies ledger
+replies-snoc cs c = replies-from-snoc start cs c

@@ -1,0 +1,81 @@
+-- The calls, and what the ledger holds (document 01, Registration, Rounds and Closing price and award). Nothing here is the engine's.
+use Prim.Native.Nat.{ℕ}
+use mathlib.Core.List.{List, []}
+
+-- CE, D, M1, M2 and the opening price A
+pub record Settings : Type 0 where
+  pub ce : ℕ
+  pub d : ℕ
+  pub m1 : ℕ
+  pub m2 : ℕ
+  pub a : ℕ
+
+-- what a registration declares: the project, the kind of plant (1 existing, 2 new), study value, start day, levels
+pub record Declaration : Type 0 where
+  pub project : ℕ
+  pub kind : ℕ
+  pub study : ℕ
+  pub day : ℕ
+  pub levels : List ℕ
+
+-- a step of an offer, or a withdrawal: at a price, down to a level
+pub record Step : Type 0 where
+  pub price : ℕ
+  pub level : ℕ
+
+-- The calls, with any arguments, absurd ones too. A registration and an offer name the developer; an offer lists prices and levels,
+-- of any lengths
+pub data Call : Type 0 where
+  SetUp : Settings → Call
+  Register : ℕ → Declaration → Call
+  Open : ℕ → Call
+  Offer : ℕ → List ℕ → List ℕ → Call
+  Close : Call
+
+-- the offer of a developer in the open round; one of no steps is an offer too
+pub data Standing : Type 0 where
+  none : Standing
+  made : List Step → Standing
+
+-- what is held of a developer number. Of one that is not registered, all fields are 0 or empty
+pub record Developer : Type 0 where
+  pub declared : Declaration
+  pub quantity : ℕ
+  pub withdrawals : List Step
+  pub offer : Standing
+
+-- Fresh: before set-up. Ready: set up, no round opened yet. Round: a round is open. Between: a round was closed, another may be
+-- opened. Closed: the auction is closed
+pub data Phase : Type 0 where
+  Fresh : Phase
+  Ready : Phase
+  Round : Phase
+  Between : Phase
+  Closed : Phase
+
+-- The ledger, a term of document 01. `opening` and `closing` are the prices of the open or else the latest round, 0 before the first;
+-- so between rounds and after the last, `closing` is the last C
+pub record Ledger : Type 0 where
+  pub phase : Phase
+  pub settings : Settings
+  pub opening : ℕ
+  pub closing : ℕ
+  pub developers : ℕ → Developer
+
+abbrev pub nobody : Developer
+nobody = record {
+  declared = record { project = 0; kind = 0; study = 0; day = 0; levels = [] };
+  quantity = 0;
+  withdrawals = [];
+  offer = none;
+}
+
+-- the ledger starts empty
+abbrev pub start : Ledger
+start = record {
+  phase = Fresh;
+  settings = record { ce = 0; d = 0; m1 = 0; m2 = 0; a = 0 };
+  opening = 0;
+  closing = 0;
+  developers = λ _. nobody;
+}

@@ -1,0 +1,10 @@
+pub mod Ledger
+pub mod Clearing
+pub mod Refusals
+pub mod Rounds
+pub mod Award
+pub mod Settling
+pub mod Sample
+pub mod CheckLaws
+pub mod Projects
+pub mod RoundLaws

@@ -1,0 +1,146 @@
+-- Which calls are refused, and by which number (document 01, Registration, Rounds and The twelve numbers).
+use Prim.Native.Nat.{ℕ, _/_, _*_}
+use mathlib.Core.Bool.{Bool, true, false, cond, not, _&&_, _||_}
+use mathlib.Core.List.{List, [], _∷_}
+use lib.Dec.{leb, ltb, eqb}
+use lib.ListN.{length}
+use Rattle.numbers.specs.Lists.{all, member}
+use Rattle.curve.specs.Demand.{inBounds}
+use Rattle.rules.specs.Ledger.{Settings, Declaration, Call, SetUp, Register, Open, Offer, Close, Standing, none, made, Developer, Phase, Fresh, Ready, Round, Between, Closed, Ledger}
+use Rattle.rules.specs.Clearing.{developersOf, covered}
+
+-- ---- the phase that accepts a call
+
+abbrev pub isFresh : Phase → Bool
+isFresh Fresh = true
+isFresh Ready = false
+isFresh Round = false
+isFresh Between = false
+isFresh Closed = false
+
+abbrev pub isReady : Phase → Bool
+isReady Fresh = false
+isReady Ready = true
+isReady Round = false
+isReady Between = false
+isReady Closed = false
+
+abbrev pub mayOpen : Phase → Bool
+mayOpen Fresh = false
+mayOpen Ready = true
+mayOpen Round = false
+mayOpen Between = true
+mayOpen Closed = false
+
+abbrev pub inRound : Phase → Bool
+inRound Fresh = false
+inRound Ready = false
+inRound Round = true
+inRound Between = false
+inRound Closed = false
+
+abbrev pub isClosed : Phase → Bool
+isClosed Fresh = false
+isClosed Ready = false
+isClosed Round = false
+isClosed Between = false
+isClosed Closed = true
+
+-- ---- set-up
+
+-- the settings within their bounds, and CE/2 < A <= 2 CE
+unfoldable pub settingsOk : Settings → Bool
+settingsOk s = inBounds (s .ce) (s .d) (s .m1) (s .m2) && ltb (s .ce / 2) (s .a) && leb (s .a) (2 * s .ce)
+
+-- ---- registration
+
+abbrev pub isNumber : ℕ → Bool
+isNumber n = leb 1 n && leb n 32
+
+abbrev pub unused : Developer → Bool
+unused x = eqb (x .declared .project) 0
+
+-- project and developer have numbers 1 to 32, and the developer's is not used
+unfoldable pub numbersOk : Ledger → ℕ → ℕ → Bool
+numbersOk l k n = isNumber k && isNumber n && unused (l .developers n)
+
+-- strictly rising from above v, at most 10^9
+unfoldable pub rising : ℕ → List ℕ → Bool
+rising v [] = true
+rising v (x ∷ xs) = ltb v x && leb x 1000000000 && rising x xs
+
+-- 1 to 8 levels, strictly rising, the first above 0, the last at most 10^9
+unfoldable pub levelsOk : List ℕ → Bool
+levelsOk ls = leb 1 (length ls) && leb (length ls) 8 && rising 0 ls
+
+-- an existing project has one developer; a new project may have several, all of kind 2
+unfoldable pub mayJoin : Ledger → ℕ → ℕ → Bool
+mayJoin l k kind = all (λ m. eqb kind 2 && eqb (l .developers m .declared .kind) 2) (developersOf l k)
+
+unfoldable pub declarationOk : Ledger → Declaration → Bool
+declarationOk l x = (eqb (x .kind) 1 || eqb (x .kind) 2) && levelsOk (x .levels) && mayJoin l (x .project) (x .kind)
+
+-- ---- opening
+
+abbrev pub floor : Ledger → ℕ
+floor l = l .settings .ce / 2
+
+-- a round's opening price is A, or the previous C
+unfoldable pub openingPrice : Ledger → ℕ
+openingPrice l = cond (isReady (l .phase)) (l .settings .a) (l .closing)
+
+-- C is at least the floor and below the opening price
+unfoldable pub closingOk : Ledger → ℕ → Bool
+closingOk l c = leb (floor l) c && ltb c (openingPrice l)
+
+-- at the first opening A is covered
+unfoldable pub startCovered : Ledger → Bool
+startCovered l = not (isReady (l .phase)) || covered l (l .settings .a)
+
+-- ---- offers
+
+abbrev pub isNone : Standing → Bool
+isNone none = true
+isNone (made ss) = false
+
+-- a developer of kind 2
+abbrev pub mayOffer : Ledger → ℕ → Bool
+mayOffer l n = isNumber n && eqb (l .developers n .declared .kind) 2
+
+-- prices fall strictly from below o, and are at least c
+unfoldable pub falling : ℕ → ℕ → List ℕ → Bool
+falling c o [] = true
+falling c o (p ∷ ps) = leb c p && ltb p o && falling c p ps
+
+-- price and level lists of equal length, at most 8 steps, prices from C to the opening price less 1
+unfoldable pub pricesOk : Ledger → List ℕ → List ℕ → Bool
+pricesOk l ps qs = eqb (length ps) (length qs) && leb (length ps) 8 && falling (l .closing) (l .opening) ps
+
+-- each level is declared or 0, and strictly below the quantity before it (activity rule, 3.10)
+unfoldable pub lowering : List ℕ → ℕ → List ℕ → Bool
+lowering declared q [] = true
+lowering declared q (v ∷ vs) = (eqb v 0 || member v declared) && ltb v q && lowering declared v vs
+
+-- ---- the refusal of a call, or 0: the first check that fails gives its number
+
+-- the refusal n where the check fails, what follows where it passes
+abbrev pub check : Bool → ℕ → ℕ → ℕ
+check passes n next = cond passes next n
+
+unfoldable pub number : Ledger → Call → ℕ
+number l (SetUp s) = check (isFresh (l .phase)) 2 (check (settingsOk s) 1 0)
+number l (Register n x) =
+    check (isReady (l .phase)) 2
+    (check (numbersOk l (x .project) n) 3
+    (check (declarationOk l x) 4 0))
+number l (Open c) =
+    check (mayOpen (l .phase)) 2
+    (check (closingOk l c) 5
+    (check (startCovered l) 9 0))
+number l (Offer n ps qs) =
+    check (inRound (l .phase)) 2
+    (check (mayOffer l n) 3
+    (check (isNone (l .developers n .offer)) 8
+    (check (pricesOk l ps qs) 6
+    (check (lowering (l .developers n .declared .levels) (l .developers n .quantity) qs) 7 0))))
+number l Close = check (inRound (l .phase)) 2 0

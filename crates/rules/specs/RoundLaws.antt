@@ -1,0 +1,115 @@
+-- Closing a round in words (document 01, Rounds): what it leaves of each developer, the excess, and when the auction is closed.
+use Prim.Native.Nat.{ℕ, _≤_, _<_}
+use mathlib.Core.Path.{_≡_, refl, ap, _∙_}
+use mathlib.Core.Logic.{_⊎_, ⊎-elim, ⊎-map, _↔_}
+use mathlib.Core.Bool.{Bool, true, false, cond, _&&_, _||_, true≢false}
+use mathlib.Core.List.{List, [], _∷_, _++_}
+use native.Mathlib.Omega.{arith}
+use lib.Dec.{leb, ltb, eqb}
+use lib.IntN.{pos, _+ℤ_, -ℤ-+ℤ-cancel}
+use borrow.Author.Tests.{leb-true, le-leb, ltb-true, lt-ltb, eqb-true, eq-eqb}
+use Rattle.numbers.specs.Cases.{and-true, or-true, or-left, or-right}
+use Rattle.rules.specs.Ledger.{Step, Close, Standing, none, made, Developer, Phase, Between, Closed, Ledger}
+use Rattle.rules.specs.Clearing.{developersOf, greatestOf, supply, demandAt}
+use Rattle.rules.specs.Refusals.{inRound, floor}
+use Rattle.rules.specs.Rounds.{added, lastLevel, applied, supplyAfter, phaseAfter, accepted, excess}
+
+pub last-level-append : (q : ℕ) (ws vs : List Step) → lastLevel q (ws ++ vs) ≡ lastLevel (lastLevel q ws) vs
+unfolding lastLevel
+last-level-append q [] vs = refl
+last-level-append q (w ∷ ws) vs = last-level-append (w .level) ws vs
+
+-- ---- a developer after the closing
+
+-- a missing offer adds a withdrawal to 0 at the opening price o, of a kind 2 developer above 0 alone
+pub by-missing : (P : List Step → Type 0) (o : ℕ) (x : Developer) → (x .declared .kind ≡ 2 → 0 < x .quantity → P (record { price = o; level = 0 } ∷ [])) → ((x .declared .kind ≡ 2 → 0 < x .quantity → ⊥) → P []) → P (added o x none)
+unfolding added
+by-missing P o x h g = go (eqb (x .declared .kind) 2 && ltb 0 (x .quantity)) refl
+  where
+    go : (b : Bool) → eqb (x .declared .kind) 2 && ltb 0 (x .quantity) ≡ b → P (cond b (record { price = o; level = 0 } ∷ []) [])
+    go true e = let t = and-true (eqb (x .declared .kind) 2) (ltb 0 (x .quantity)) e in h (eqb-true _ 2 (t .0)) (ltb-true 0 _ (t .1))
+    go false e = g (λ k q. true≢false (rw (eq-eqb (x .declared .kind) 2 k, lt-ltb 0 (x .quantity) q) at e))
+
+-- developer n after the closing: at quantity q, with ws behind its withdrawals and no offer; its declaration stays
+pub record AfterClosing (l : Ledger) (n q : ℕ) (ws : List Step) : Type 0 where
+  pub declared : accepted l Close .developers n .declared ≡ l .developers n .declared
+  pub quantity : accepted l Close .developers n .quantity ≡ q
+  pub withdrawals : accepted l Close .developers n .withdrawals ≡ l .developers n .withdrawals ++ ws
+  pub offer : accepted l Close .developers n .offer ≡ none
+
+-- it keeps its quantity and withdraws nothing
+abbrev pub Keeps : Ledger → ℕ → Type 0
+Keeps l n = AfterClosing l n (l .developers n .quantity) []
+
+module _ (l : Ledger) (n : ℕ) where
+  after-closing : (s : Standing) (ws : List Step) → l .developers n .offer ≡ s → added (l .opening) (l .developers n) s ≡ ws → AfterClosing l n (lastLevel (l .developers n .quantity) ws) ws
+  unfolding accepted applied
+  after-closing s ws e a =
+      let b = ap (added (l .opening) (l .developers n)) e ∙ a in
+      record { declared = refl; quantity = ap (lastLevel (l .developers n .quantity)) b; withdrawals = ap (λ vs. l .developers n .withdrawals ++ vs) b; offer = refl }
+
+  -- a kind 2 developer without an offer and above 0 withdraws to 0 at the round's opening price
+  pub missing-offer-withdraws : l .developers n .declared .kind ≡ 2 → l .developers n .offer ≡ none → 0 < l .developers n .quantity → AfterClosing l n 0 (record { price = l .opening; level = 0 } ∷ [])
+  unfolding lastLevel
+  missing-offer-withdraws k e q = after-closing none _ e (by-missing (λ ws. ws ≡ record { price = l .opening; level = 0 } ∷ []) (l .opening) (l .developers n) (λ j i. refl) (λ not. absurd (not k q)))
+
+  keeps : (l .developers n .declared .kind ≡ 2 → 0 < l .developers n .quantity → ⊥) → l .developers n .offer ≡ none → Keeps l n
+  unfolding lastLevel
+  keeps not e = after-closing none [] e (by-missing (λ ws. ws ≡ []) (l .opening) (l .developers n) (λ k q. absurd (not k q)) (λ i. refl))
+
+  -- one at 0 already stays there
+  pub withdrawn-keeps : l .developers n .quantity ≡ 0 → l .developers n .offer ≡ none → Keeps l n
+  withdrawn-keeps z = keeps (λ k q. omega arith)
+
+  -- an existing plant, which makes no offers, keeps its quantity
+  pub existing-keeps : l .developers n .declared .kind ≡ 1 → l .developers n .offer ≡ none → Keeps l n
+  existing-keeps o = keeps (λ k q. omega arith)
+
+  -- an offer of no steps keeps the quantity too
+  pub empty-offer-keeps : l .developers n .offer ≡ made [] → Keeps l n
+  unfolding lastLevel added
+  empty-offer-keeps e = after-closing (made []) [] e refl
+
+  -- an offer's steps are added, and the level of the last one becomes the quantity
+  pub offer-withdraws : (ss : List Step) (s : Step) → l .developers n .offer ≡ made (ss ++ (s ∷ [])) → AfterClosing l n (s .level) (ss ++ (s ∷ []))
+  unfolding lastLevel added
+  offer-withdraws ss s e = rw (last-level-append (l .developers n .quantity) ss (s ∷ [])) at (after-closing (made (ss ++ (s ∷ []))) _ e refl)
+
+-- ---- the auction after the closing
+
+module _ (l : Ledger) where
+  -- supply after the withdrawals at C is that of the quantities they leave
+  pub supply-after-closing : supplyAfter l ≡ supply (λ x. x .quantity) (accepted l Close)
+  unfolding supplyAfter supply greatestOf developersOf accepted applied
+  supply-after-closing = refl
+
+  -- the excess and Dem(C) make up that supply
+  pub excess-is-difference : inRound (l .phase) ≡ true → excess l Close +ℤ pos (demandAt l (l .closing)) ≡ pos (supplyAfter l)
+  unfolding excess
+  excess-is-difference e = rw e (-ℤ-+ℤ-cancel (pos (supplyAfter l)) (pos (demandAt l (l .closing))))
+
+  -- the auction is closed exactly where supply is at most demand or C is the floor
+  pub closed-when : (accepted l Close .phase ≡ Closed) ↔ ((supplyAfter l ≤ demandAt l (l .closing)) ⊎ (l .closing ≡ floor l))
+  unfolding accepted phaseAfter
+  closed-when = (decided test refl, (λ h. ap (λ b. cond b Closed Between) (passes h)))
+    where
+      met : Bool
+      met = leb (supplyAfter l) (demandAt l (l .closing))
+
+      test : Bool
+      test = met || eqb (l .closing) (floor l)
+
+      decided : (b : Bool) → test ≡ b → cond b Closed Between ≡ Closed → (supplyAfter l ≤ demandAt l (l .closing)) ⊎ (l .closing ≡ floor l)
+      decided true e h = ⊎-map (leb-true _ _) (eqb-true _ _) (or-true met _ e)
+      decided false e h = absurd (let z : _≡_ {A = ℕ} 0 1 = cc in omega arith)
+
+      passes : (supplyAfter l ≤ demandAt l (l .closing)) ⊎ (l .closing ≡ floor l) → test ≡ true
+      passes = ⊎-elim (λ h. or-left met _ (le-leb _ _ h)) (λ h. or-right met _ (eq-eqb _ _ h))
+
+  pub by-phase-after : (P : Phase → Type 0) → P Closed → P Between → P (phaseAfter l)
+  unfolding phaseAfter
+  by-phase-after P h g = go (leb (supplyAfter l) (demandAt l (l .closing)) || eqb (l .closing) (floor l))
+    where
+      go : (b : Bool) → P (cond b Closed Between)
+      go true = h
+      go false = g

@@ -1,0 +1,57 @@
+-- The sample record of document 01 as a list of calls. Its settling and the ten marked cases of demand, shown jointly and computed.
+use mathlib.Core.Path.{_≡_, refl}
+use lib.IntN.{pos, _-ℤ_}
+use mathlib.Core.List.{List, [], _∷_, _++_, map}
+use lib.ListN.{replicate}
+use Rattle.numbers.specs.Lists.{oneTo, keep, total, greatest, lastOr, any, all}
+use Rattle.numbers.specs.Least.{leastFrom}
+use Rattle.curve.specs.Demand.{dem, inBounds}
+use Rattle.curve.specs.Marked.{MarkedCases, marked-cases}
+use Rattle.rules.specs.Ledger.{Call, SetUp, Register, Open, Offer, Close, Closed}
+use Rattle.rules.specs.Clearing.{after, high, low, developersOf, greatestOf, supply, covered, closingPrice}
+use Rattle.rules.specs.Refusals.{settingsOk, numbersOk, rising, levelsOk, mayJoin, declarationOk, openingPrice, closingOk, startCovered, falling, pricesOk, lowering, number}
+use Rattle.rules.specs.Rounds.{steps, added, lastLevel, applied, supplyAfter, phaseAfter, accepted, step, stepAll, ledger, excess, reply, repliesFrom, replies}
+use Rattle.choices.specs.Choices.{spread, choices, covering, larger, before, best, bestOf}
+use Rattle.rules.specs.Award.{openToDeveloper, openTo, insert, insertAll, declaredBy, openLevels, row, rows, admissible, coveringChoices, award, preferred, mostPreferred, firstPreferred, winner}
+use Rattle.rules.specs.Settling.{recordsFrom, records, settlementAt, settlement}
+
+abbrev pub sample : List Call
+sample =
+    SetUp (record { ce = 20000; d = 1000; m1 = 900; m2 = 1200; a = 40000 })
+    ∷ Register 1 (record { project = 1; kind = 1; study = 0; day = 0; levels = 820 ∷ [] })
+    ∷ Register 2 (record { project = 2; kind = 2; study = 400; day = 10; levels = 100 ∷ 200 ∷ [] })
+    ∷ Register 3 (record { project = 2; kind = 2; study = 500; day = 20; levels = 200 ∷ [] })
+    ∷ Register 4 (record { project = 3; kind = 2; study = 0; day = 0; levels = 150 ∷ [] })
+    ∷ Open 25000
+    ∷ Offer 2 (26000 ∷ []) (100 ∷ [])
+    ∷ Offer 3 (26000 ∷ []) (0 ∷ [])
+    ∷ Offer 4 (26000 ∷ []) (0 ∷ [])
+    ∷ Close
+    ∷ []
+
+-- the ledger is closed; P is 26,000 and Dem(P) 970; the open totals are 920, 1,020, 1,070 and 1,170, of which three cover; the award is
+-- 1,020: 820 to developer 1 of project 1 and 200 to developer 3 of project 2
+abbrev pub SampleSettled : Type 0
+SampleSettled =
+    (ledger sample .phase ≡ Closed)
+    × (map total (admissible (ledger sample) 26000) ≡ 920 ∷ 1070 ∷ 1020 ∷ 1170 ∷ [])
+    × (settlement (ledger sample) ≡ record {
+      price = 26000;
+      demand = 970;
+      total = 1020;
+      choices = 4;
+      covering = 3;
+      records = (1 ∷ 1 ∷ 0 ∷ 0 ∷ 3 ∷ 52 ∷ []) ∷ (2 ∷ 3 ∷ 0 ∷ 0 ∷ 0 ∷ 200 ∷ []) ∷ [];
+    })
+    × (map (λ r. r .number) (replies sample) ≡ replicate 10 0)
+    × (map (λ r. r .excess) (replies sample) ≡ replicate 9 (pos 0) ++ ((pos 0 -ℤ pos 55) ∷ []))
+
+pub shown-jointly : MarkedCases × SampleSettled
+unfolding oneTo keep total greatest lastOr any all leastFrom dem inBounds
+    after high low developersOf greatestOf supply covered closingPrice
+    settingsOk numbersOk rising levelsOk mayJoin declarationOk openingPrice closingOk startCovered falling pricesOk lowering number
+    steps added lastLevel applied supplyAfter phaseAfter accepted step stepAll ledger excess reply repliesFrom replies
+    spread choices covering larger before best bestOf
+    openToDeveloper openTo insert insertAll declaredBy openLevels row rows admissible coveringChoices award preferred mostPreferred firstPreferred winner
+    recordsFrom records settlementAt settlement
+shown-jointly = (marked-cases, (refl, refl, refl, refl, refl))

@@ -1,0 +1,51 @@
+-- The award records and the settling's answer (document 01, Closing price and award and The twelve numbers).
+use Prim.Native.Nat.{ℕ, suc, min, _*_, _/_, _%_}
+use mathlib.Core.Bool.{cond}
+use mathlib.Core.List.{List, [], _∷_}
+use lib.Dec.{leb, eqb}
+use lib.ListN.{length}
+use Rattle.numbers.specs.Lists.{total}
+use Rattle.rules.specs.Ledger.{Ledger}
+use Rattle.rules.specs.Clearing.{demandAt, closingPrice}
+use Rattle.rules.specs.Refusals.{check, isClosed}
+use Rattle.rules.specs.Award.{admissible, coveringChoices, award, winner}
+
+-- an award record, 6 bytes: project, developer, quantity with the high byte first
+abbrev pub recordOf : ℕ → ℕ → ℕ → List ℕ
+recordOf k n v = k ∷ n ∷ v / 16777216 % 256 ∷ v / 65536 % 256 ∷ v / 256 % 256 ∷ v % 256 ∷ []
+
+-- the records of the levels vs of the projects from k on, by rising project: one for each above 0
+unfoldable pub recordsFrom : Ledger → ℕ → ℕ → List ℕ → List (List ℕ)
+recordsFrom l p k [] = []
+recordsFrom l p k (v ∷ vs) = cond (eqb v 0) (recordsFrom l p (suc k) vs) (recordOf k (winner l p k v) v ∷ recordsFrom l p (suc k) vs)
+
+unfoldable pub records : Ledger → ℕ → List (List ℕ)
+records l p = recordsFrom l p 1 (award l p)
+
+unfoldable pub settlingNumber : Ledger → ℕ → ℕ → ℕ
+settlingNumber l limit room =
+    check (isClosed (l .phase)) 2
+    (check (leb (length (admissible l (closingPrice l))) (min limit 65536)) 10
+    (check (leb (6 * length (records l (closingPrice l))) room) 11 0))
+
+-- P, Dem(P), the award's total, the numbers of admissible and of covering choices, and the award records
+pub record Settlement : Type 0 where
+  pub price : ℕ
+  pub demand : ℕ
+  pub total : ℕ
+  pub choices : ℕ
+  pub covering : ℕ
+  pub records : List (List ℕ)
+
+unfoldable pub settlementAt : Ledger → ℕ → Settlement
+settlementAt l p = record {
+  price = p;
+  demand = demandAt l p;
+  total = total (award l p);
+  choices = length (admissible l p);
+  covering = length (coveringChoices l p);
+  records = records l p;
+}
+
+unfoldable pub settlement : Ledger → Settlement
+settlement l = settlementAt l (closingPrice l)

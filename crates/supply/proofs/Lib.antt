@@ -1,0 +1,4 @@
+mod Words
+mod Joining
+mod Greatest
+mod Summing

@@ -1,0 +1,45 @@
+-- What is taken project by project from lists of projects and numbers is, over a ledger's developers, what the rules take of the ledger.
+use Prim.Native.Nat.{ℕ}
+use mathlib.Core.Path.{_≡_, refl, ap, _∙_}
+use mathlib.Core.Bool.{Bool, true, false, cond, _&&_}
+use mathlib.Core.List.{List, [], _∷_, map}
+use lib.Dec.{eqb}
+use Rattle.numbers.specs.Lists.{oneTo, keep, total, greatest, all}
+use Rattle.numbers.specs.ListLaws.{map-same}
+use Rattle.rules.specs.Ledger.{Developer, Ledger}
+use Rattle.rules.specs.Clearing.{developersOf, greatestOf, supply as supplyBy}
+use Rattle.rules.specs.Refusals.{mayJoin}
+use Rattle.supply.specs.ByProject.{ofProject, greatestByProject, supplyOf, joins}
+
+-- the numbers of a project's developers are those of the developers kept
+pub of-project-map : {A : Type 0} (k : ℕ) (f g : A → ℕ) (xs : List A) → ofProject k (map f xs) (map g xs) ≡ map g (keep (λ n. eqb (f n) k) xs)
+unfolding ofProject keep
+of-project-map k f g [] = refl
+of-project-map {A} k f g (x ∷ xs) = go (eqb (f x) k) (of-project-map k f g xs)
+  where
+    those : List ℕ
+    those = ofProject k (map f xs) (map g xs)
+
+    kept : List A
+    kept = keep (λ n. eqb (f n) k) xs
+
+    go : (b : Bool) → those ≡ map g kept → cond b (g x ∷ those) those ≡ map g (cond b (x ∷ kept) kept)
+    go true e = ap {B = List ℕ} (λ r. g x ∷ r) e
+    go false e = e
+
+pub supply-of :
+    (f : Developer → ℕ) (l : Ledger) →
+    supplyOf (map (λ n. l .developers n .declared .project) (oneTo 32)) (map (λ n. f (l .developers n)) (oneTo 32)) ≡ supplyBy f l
+unfolding supplyOf greatestByProject supplyBy greatestOf developersOf
+supply-of f l = ap total (map-same _ _ (oneTo 32) (λ k m. ap greatest (of-project-map k _ _ (oneTo 32))))
+
+all-map : {A B : Type 0} (t : B → Bool) (f : A → B) (xs : List A) → all t (map f xs) ≡ all (λ x. t (f x)) xs
+unfolding all
+all-map t f [] = refl
+all-map t f (x ∷ xs) = ap (λ (b : Bool). t (f x) && b) (all-map t f xs)
+
+pub joins-of :
+    (l : Ledger) (k kind : ℕ) →
+    joins (map (λ n. l .developers n .declared .project) (oneTo 32)) (map (λ n. l .developers n .declared .kind) (oneTo 32)) k kind ≡ mayJoin l k kind
+unfolding joins mayJoin developersOf
+joins-of l k kind = ap (all (λ x. eqb kind 2 && eqb x 2)) (of-project-map k _ _ (oneTo 32)) ∙ all-map _ _ (keep _ (oneTo 32))

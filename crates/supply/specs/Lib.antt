@@ -1,0 +1,2 @@
+pub mod ByProject
+pub mod ByProjectLaws
