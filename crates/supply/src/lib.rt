@@ -23,7 +23,7 @@ pub fn may_join(projects: [u8; 32], kinds: [u8; 32], project: u8, kind: u8) -> b
 }
 
 // The greatest quantity among the developers of each project.
-fn greatest_by_project(projects: [u8; 32], quantities: [u32; 32]) -> [u32; 32]
+pub fn greatest_by_project(projects: [u8; 32], quantities: [u32; 32]) -> [u32; 32]
     ensures { λ r. ⌜ r ≡ greatestByProject projects quantities ⌝ }
 {
     let mut best = [0u32; 32];

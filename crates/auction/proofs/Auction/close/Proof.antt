@@ -1,0 +1,50 @@
+-- Refused unless a round is open; else the offers are applied, and supply, demand at C, excess and phase are the ledger's.
+use native.Mathlib.Omega.{arith}
+use borrow.Author.Needs.{needs}
+use Rattle.auction.proofs.Signed.{difference-back}
+use Rattle.auction.proofs.ClosingRound.{close-phase, close-taken}
+use Rattle.auction.proofs.Auction.close.Statement.{statement}
+use Rattle.auction.proofs.Auction.close.Tie as tie
+
+returns : tie.Need-returns
+returns c = close-phase _ (c .if1 .taken)
+
+with-offers-applied-requires : tie.Need-with-offers-applied-requires
+with-offers-applied-requires c κs = search needs
+
+supply-requires : tie.Need-supply-requires
+supply-requires c κs = search needs
+
+demand-at-requires : tie.Need-demand-at-requires
+demand-at-requires c κs = search needs
+
+less-requires : tie.Need-less-requires
+less-requires c κs = search needs
+
+phase-after-requires : tie.Need-phase-after-requires
+phase-after-requires c κs = search needs
+
+returns-2 : tie.Need-returns-2
+returns-2 c =
+    let supply = c .before .before .before .before .supply in
+    let demand = c .before .before .before .demand-at in
+    close-taken _ _ _ _ _ _ (record {
+      round = c .before .before .before .before .before .before .before .before .if1 .left;
+      applied = c .before .before .before .before .before .before .before .with-offers-applied .ensures;
+      supply-is = supply .ensures .0;
+      demand-is = demand .ensures .0;
+      phase-is = c .phase-after .ensures;
+      excess-is = difference-back (supply .result) (demand .result) (omega arith) (omega arith) (c .before .before .less .result) (c .before .before .less .ensures);
+    })
+
+pub close-spec : {M : Type 1} → statement M
+close-spec =
+    tie.close
+    (tie.spec
+    returns
+    with-offers-applied-requires
+    supply-requires
+    demand-at-requires
+    less-requires
+    phase-after-requires
+    returns-2)

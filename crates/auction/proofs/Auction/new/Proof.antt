@@ -1,0 +1,35 @@
+-- A fresh auction holds the empty ledger: every array is a repeat of what stands for nobody.
+use mathlib.Core.Path.{_≡_, refl}
+use borrow.Author.Needs.{needs}
+use Rattle.rules.specs.Rounds.{stepAll, ledger}
+use Rattle.levels.specs.Held.{heldLevels}
+use Rattle.history.specs.Held.{held}
+use Rattle.auction.specs.Holds.{auctionOf}
+use Rattle.auction.specs.Places.{fresh-places}
+use Rattle.auction.proofs.Auction.new.Statement.{statement}
+use Rattle.auction.proofs.Auction.new.Tie as tie
+
+none-requires : tie.Need-none-requires
+none-requires c κs = search needs
+
+new-requires : tie.Need-new-requires
+new-requires c κs = search needs
+
+returns : tie.Need-returns
+unfolding auctionOf ledger stepAll
+returns c = λ i. record {
+  phase = 0;
+  settings = record { ce = 0; d = 0; m1 = 0; m2 = 0; a = 0 };
+  opening = 0;
+  closing = 0;
+  projects = fresh-places (λ x. x .declared .project) 0 refl i;
+  kinds = fresh-places (λ x. x .declared .kind) 0 refl i;
+  studies = fresh-places (λ x. x .declared .study) 0 refl i;
+  days = fresh-places (λ x. x .declared .day) 0 refl i;
+  quantities = fresh-places (λ x. x .quantity) 0 refl i;
+  declared = fresh-places (λ x. heldLevels (x .declared .levels)) (c .before .none .result) (c .before .none .ensures) i;
+  histories = fresh-places (λ x. held (x .withdrawals) (x .offer)) (c .new .result) (c .new .ensures) i;
+}
+
+pub new-spec : {M : Type 1} → statement M
+new-spec = tie.close (tie.spec none-requires new-requires returns)

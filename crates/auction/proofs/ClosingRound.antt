@@ -1,0 +1,99 @@
+-- Closing a round: refused unless one is open; else the offers are applied, the excess is supply less Dem(C), and the phase follows from it.
+use Prim.Native.Nat.{ℕ, _/_}
+use mathlib.Core.Path.{_≡_, refl, ap, _∙_}
+use mathlib.Core.Bool.{Bool, true, false, cond, _||_}
+use native.Mathlib.Omega.{arith}
+use lib.Dec.{eqb, leb}
+use lib.IntN.{ℤ, pos, _-ℤ_}
+use borrow.Author.Tests.{eq-eqb, ne-eqb}
+use Rattle.rules.specs.Ledger.{Close, Round, Between, Closed, Ledger}
+use Rattle.rules.specs.Clearing.{demandAt}
+use Rattle.rules.specs.Refusals.{isFresh, inRound, floor, number}
+use Rattle.rules.specs.Rounds.{applied, supplyAfter, phaseAfter, accepted, excess}
+use Rattle.sound.specs.Sound.{started, Sound}
+use Rattle.reachable.specs.Held.{in-round}
+use Rattle.reachable.specs.Bounds.{settings-facts, closing-in-range}
+use Rattle.supply.specs.ByProject.{supplyOf}
+use Rattle.supply.specs.ByProjectLaws.{supply-of}
+use Rattle.auction.specs.declared.Auction.{Auction}
+use Rattle.auction.specs.Holds.{phaseNumber, auctionOf}
+use Rattle.auction.specs.Called.{Called, demandBy, OffersApplied}
+use Rattle.auction.proofs.Calls.{refused, Taken, taken}
+use Rattle.auction.proofs.Phases.{round-is}
+use Rattle.auction.specs.Demands.{demand-is}
+
+pub close-phase : (a : Auction) → (a .phase ≡ 2 → ⊥) → Called Close a a 2 (pos 0)
+unfolding number
+close-phase a z = refused Close a 2 (omega arith) (λ l s h. simp (round-is a l h ∙ ne-eqb _ 2 z))
+
+-- what the engine computed of the auction a: b with the offers applied, supply, demand at C, the phase and the excess
+pub record Computed (a b : Auction) (supply demand phase : ℕ) (excess : ℤ) : Type 0 where
+  pub round : a .phase ≡ 2
+  pub applied : OffersApplied a b
+  pub supply-is : supply ≡ supplyOf (b .projects) (b .quantities)
+  pub demand-is : demand ≡ demandBy (a .settings) (a .closing)
+  pub phase-is : phase ≡ cond (leb supply demand || eqb (a .closing) (a .settings .ce / 2)) 4 3
+  pub excess-is : excess ≡ pos supply -ℤ pos demand
+
+module _ (a b : Auction) (q d n : ℕ) (e : ℤ) (k : Computed a b q d n e) where
+  -- the auction with the offers applied, in its next phase
+  abbrev pub closed : Auction
+  closed = record {
+    phase = n;
+    settings = b .settings;
+    opening = b .opening;
+    closing = b .closing;
+    projects = b .projects;
+    kinds = b .kinds;
+    studies = b .studies;
+    days = b .days;
+    quantities = b .quantities;
+    declared = b .declared;
+    histories = b .histories;
+  }
+
+  module _ (l : Ledger) (s : Sound l) (h : a ≡ auctionOf l) where
+    open-round : inRound (l .phase) ≡ true
+    open-round = round-is a l h ∙ eq-eqb _ 2 (k .round)
+
+    round : l .phase ≡ Round
+    round = in-round (l .phase) open-round
+
+    supply-held : q ≡ supplyAfter l
+    unfolding auctionOf applied supplyAfter
+    supply-held = k .supply-is ∙ ap (λ (x : Auction). supplyOf (x .projects) (x .quantities)) (k .applied .right l s h) ∙ supply-of (λ x. applied (l .opening) x .quantity) l
+
+    demand-held : d ≡ demandAt l (l .closing)
+    unfolding auctionOf demandBy
+    demand-held = k .demand-is ∙ ap (λ (x : Auction). demandBy (x .settings) (x .closing)) h ∙ demand-is _ _ _ _ _ (settings-facts (l .settings) (s .settings (ap isFresh round)) .0) (closing-in-range s (ap started round))
+
+    phase-held : n ≡ phaseNumber (phaseAfter l)
+    unfolding auctionOf phaseAfter
+    phase-held = k .phase-is ∙ ap (λ (x : Auction). cond (leb q d || eqb (x .closing) (x .settings .ce / 2)) 4 3) h ∙ rw (supply-held, demand-held) (by-test (leb (supplyAfter l) (demandAt l (l .closing)) || eqb (l .closing) (floor l)))
+      where
+        by-test : (t : Bool) → cond t 4 3 ≡ phaseNumber (cond t Closed Between)
+        by-test true = refl
+        by-test false = refl
+
+    held-closed : Taken Close closed e l
+    unfolding number excess accepted auctionOf
+    held-closed = let g = k .applied .right l s h in record {
+      number = simp open-round;
+      excess = simp (open-round, k .excess-is, supply-held, demand-held);
+      next = λ i. record {
+        phase = phase-held i;
+        settings = g i .settings;
+        opening = g i .opening;
+        closing = g i .closing;
+        projects = g i .projects;
+        kinds = g i .kinds;
+        studies = g i .studies;
+        days = g i .days;
+        quantities = g i .quantities;
+        declared = g i .declared;
+        histories = g i .histories;
+      };
+    }
+
+  pub close-taken : Called Close a closed 0 e
+  close-taken = taken Close a closed e held-closed

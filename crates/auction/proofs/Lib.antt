@@ -1,0 +1,9 @@
+mod Calls
+mod Phases
+mod Signed
+mod SettingUp
+mod Registering
+mod Opening
+mod Offering
+mod ApplyingOffers
+mod ClosingRound

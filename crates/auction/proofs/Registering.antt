@@ -1,0 +1,148 @@
+-- Registration: the tests over the arrays are the ledger's, and a newcomer is stored to one place of each array.
+use Prim.Native.Nat.{ℕ, zero, suc, _-_, _≤_}
+use mathlib.Core.Path.{_≡_, refl, sym, ap, _∙_}
+use mathlib.Core.Logic.{⊎-elim}
+use mathlib.Core.Bool.{Bool, true, false, _&&_, _||_}
+use mathlib.Core.List.{List, [], map}
+use native.Mathlib.Omega.{arith}
+use lib.Dec.{eqb, leb}
+use lib.IntN.{pos}
+use lib.ListN.{length, set}
+use borrow.Author.Tests.{eq-eqb, ne-eqb, le-leb, lt-leb, leb-true}
+use Rattle.numbers.specs.Cases.{and-true}
+use Rattle.numbers.specs.Lists.{oneTo, lastOr}
+use Rattle.rules.specs.Ledger.{Declaration, Call, none, Developer, Ledger, nobody}
+use Rattle.rules.specs.Refusals.{isNumber, numbersOk, declarationOk, check, number}
+use Rattle.rules.specs.Rounds.{put, accepted, excess}
+use Rattle.sound.specs.Sound.{Sound}
+use Rattle.reachable.specs.Checks.{RegisterPassed, register-passed, Numbers, numbers-facts, declaration-facts, levels-facts}
+use Rattle.levels.specs.declared.Levels.{Levels}
+use Rattle.levels.specs.Held.{heldLevels, Copied, Highest}
+use Rattle.history.specs.Held.{held}
+use Rattle.supply.specs.ByProjectLaws.{joins-of}
+use Rattle.auction.specs.declared.Auction.{Auction}
+use Rattle.auction.specs.Holds.{ofEach, auctionOf}
+use Rattle.auction.specs.Called.{Called, registers, numbersFree, declarable}
+use Rattle.auction.specs.Places.{each-at, put-at, put-keeps}
+use Rattle.auction.proofs.Calls.{Holding, refused, taken}
+use Rattle.auction.proofs.Phases.{ready-is}
+
+-- ---- the tests
+
+-- the two kinds are the numbers from 1 to 2
+pub kind-by-bounds : (n : ℕ) → eqb n 1 || eqb n 2 ≡ leb 1 n && leb n 2
+kind-by-bounds zero = refl
+kind-by-bounds (suc zero) = refl
+kind-by-bounds (suc (suc zero)) = refl
+kind-by-bounds (suc (suc (suc n))) = simp (ne-eqb (suc (suc (suc n))) 1 (λ e. omega arith), ne-eqb (suc (suc (suc n))) 2 (λ e. omega arith), le-leb 1 (suc (suc (suc n))) (omega arith), lt-leb (suc (suc (suc n))) 2 (omega arith))
+
+number-bounds : (n : ℕ) → isNumber n ≡ true → (1 ≤ n) × (n ≤ 32)
+number-bounds n e = let t = and-true (leb 1 n) (leb n 32) e in (leb-true 1 n (t .0), leb-true n 32 (t .1))
+
+-- a place is read only under a developer's number
+if-numbers : (a b : Bool) {x y : Bool} → (b ≡ true → x ≡ y) → a && b && x ≡ a && b && y
+if-numbers true true h = h refl
+if-numbers true false h = refl
+if-numbers false b h = refl
+
+pub free-number : (projects : List ℕ) (k n : ℕ) → numbersFree projects k n ≡ true → (1 ≤ n) × (n ≤ 32)
+unfolding numbersFree
+free-number projects k n e =
+    let t = and-true (isNumber k && isNumber n) _ e in
+    number-bounds n (and-true (isNumber k) (isNumber n) (t .0) .1)
+
+numbers-held : (l : Ledger) (k n : ℕ) → numbersFree (ofEach (λ x. x .declared .project) l) k n ≡ numbersOk l k n
+unfolding numbersFree numbersOk
+numbers-held l k n = if-numbers (isNumber k) (isNumber n) (λ e.
+    let b = number-bounds n e in
+    ap (λ (m : ℕ). eqb m 0) (each-at (λ x. x .declared .project) l n 0 (b .0) (b .1)))
+
+-- under an unused number stands nobody
+unused-nobody : {l : Ledger} → Sound l → (n : ℕ) → l .developers n .declared .project ≡ 0 → l .developers n ≡ nobody
+unused-nobody s n e = ⊎-elim (λ w. w) (λ r. let low = r .developer .declared .project-low in absurd (omega arith)) (s .each n)
+
+-- ---- registration
+
+module _ (a : Auction) (k n kind study day : ℕ) (ls : List ℕ) where
+  abbrev declaration : Declaration
+  declaration = record { project = k; kind = kind; study = study; day = day; levels = ls }
+
+  abbrev newcomer : Developer
+  newcomer = record { declared = declaration; quantity = lastOr 0 ls; withdrawals = []; offer = none }
+
+  abbrev call : Call
+  call = registers k n kind study day ls
+
+  -- the ledger's number, by what the auction holds
+  abbrev numberBy : ℕ
+  numberBy = check (eqb (a .phase) 1) 2 (check (numbersFree (a .projects) k n) 3 (check (declarable (a .projects) (a .kinds) k kind ls) 4 0))
+
+  number-held : Holding a (λ l. numberBy ≡ number l call)
+  unfolding number auctionOf declarable declarationOk
+  number-held l s h = rw (← ready-is a l h, h, joins-of l k kind, numbers-held l k n)
+
+  pub register-phase : (a .phase ≡ 1 → ⊥) → Called call a a 2 (pos 0)
+  register-phase z = refused _ a 2 (omega arith) (λ l s h. simp (ne-eqb _ 1 z) at (number-held l s h))
+
+  pub register-numbers : a .phase ≡ 1 → numbersFree (a .projects) k n ≡ false → Called call a a 3 (pos 0)
+  register-numbers z f = refused _ a 3 (omega arith) (λ l s h. simp (eq-eqb _ 1 z, f) at (number-held l s h))
+
+  pub register-declaration : a .phase ≡ 1 → numbersFree (a .projects) k n ≡ true → declarable (a .projects) (a .kinds) k kind ls ≡ false → Called call a a 4 (pos 0)
+  register-declaration z f g = refused _ a 4 (omega arith) (λ l s h. simp (eq-eqb _ 1 z, f, g) at (number-held l s h))
+
+  -- the auction with the newcomer, whose levels are held as v with the highest q
+  abbrev pub registered : Levels → ℕ → Auction
+  registered v q = record {
+    phase = a .phase;
+    settings = a .settings;
+    opening = a .opening;
+    closing = a .closing;
+    projects = set (a .projects) (n - 1) k;
+    kinds = set (a .kinds) (n - 1) kind;
+    studies = set (a .studies) (n - 1) study;
+    days = set (a .days) (n - 1) day;
+    quantities = set (a .quantities) (n - 1) q;
+    declared = set (a .declared) (n - 1) v;
+    histories = a .histories;
+  }
+
+  module _ (v : Levels) (q : ℕ) (copied : Copied ls v) (highest : Highest v q) where
+    holds : Holding a (λ l. number l call ≡ 0 → registered v q ≡ auctionOf (accepted l call))
+    unfolding accepted auctionOf
+    holds l s h e = λ i. record {
+      phase = h i .phase;
+      settings = h i .settings;
+      opening = h i .opening;
+      closing = h i .closing;
+      projects = stored (λ x. x .declared .project) (λ j. h j .projects) refl i;
+      kinds = stored (λ x. x .declared .kind) (λ j. h j .kinds) refl i;
+      studies = stored (λ x. x .declared .study) (λ j. h j .studies) refl i;
+      days = stored (λ x. x .declared .day) (λ j. h j .days) refl i;
+      quantities = stored (λ x. x .quantity) (λ j. h j .quantities) (highest .right ls levels few) i;
+      declared = stored (λ x. heldLevels (x .declared .levels)) (λ j. h j .declared) levels i;
+      histories = (ap (λ (x : Auction). x .histories) h ∙ sym (put-keeps (λ x. held (x .withdrawals) (x .offer)) l n newcomer kept)) i;
+    }
+      where
+        passed : RegisterPassed l n declaration
+        passed = register-passed l n declaration e
+
+        numbers : Numbers l k n
+        numbers = numbers-facts l k n (passed .numbers)
+
+        few : length ls ≤ 8
+        few = levels-facts ls (declaration-facts l declaration (passed .declaration) .levels) .few
+
+        levels : v ≡ heldLevels ls
+        levels = copied .right few
+
+        kept : held [] none ≡ held (l .developers n .withdrawals) (l .developers n .offer)
+        kept = ap (λ (x : Developer). held (x .withdrawals) (x .offer)) (sym (unused-nobody s n (numbers .unused)))
+
+        stored : {A : Type 0} (f : Developer → A) {xs : List A} {w : A} → xs ≡ ofEach f l → w ≡ f newcomer → set xs (n - 1) w ≡ map (λ m. f (put n newcomer (l .developers) m)) (oneTo 32)
+        stored f {xs} {w} d g = ap (λ ys. set ys (n - 1) w) d ∙ put-at f l n newcomer w (numbers .number-low) (numbers .number-high) g
+
+    pub register-taken : a .phase ≡ 1 → numbersFree (a .projects) k n ≡ true → declarable (a .projects) (a .kinds) k kind ls ≡ true → Called call a (registered v q) 0 (pos 0)
+    unfolding excess
+    register-taken z f g = taken _ a (registered v q) (pos 0) (λ l s h.
+        let e : number l call ≡ 0 = sym (simp (eq-eqb _ 1 z, f, g) at (number-held l s h)) in
+        record { number = e; excess = refl; next = holds l s h e })

@@ -1,0 +1,84 @@
+-- Set-up, and demand by the settings that the auction holds.
+use Prim.Native.Nat.{ℕ, _≤_, _<_}
+use mathlib.Core.Path.{_≡_, refl, sym, ap, _∙_}
+use mathlib.Core.Bool.{Bool, true, false, cond, _&&_}
+use native.Mathlib.Omega.{arith}
+use lib.IntN.{pos}
+use borrow.Author.Tests.{ne-eqb, eq-eqb}
+use Rattle.numbers.specs.Cases.{and-true}
+use Rattle.curve.specs.Demand.{dem, inBounds, inRange}
+use Rattle.curve.specs.Range.{in-bounds, in-range, dem-range}
+use Rattle.curve.specs.Answer.{Answer, demandAnswer}
+use Rattle.rules.specs.Ledger.{Settings, Ledger}
+use Rattle.rules.specs.Refusals.{settingsOk, number}
+use Rattle.rules.specs.Rounds.{accepted, excess}
+use Rattle.sound.specs.Sound.{Sound}
+use Rattle.auction.specs.declared.Auction.{Auction}
+use Rattle.auction.specs.Holds.{auctionOf}
+use Rattle.auction.specs.Called.{Called, settingsOf, setsUp}
+use Rattle.auction.proofs.Calls.{refused, Taken, taken}
+use Rattle.auction.proofs.Phases.{fresh-is}
+
+-- ---- demand
+
+demand-small : (ce d m1 m2 p : ℕ) → demandAnswer ce d m1 m2 p .value ≤ 100000000000
+unfolding demandAnswer
+demand-small ce d m1 m2 p = go (inBounds ce d m1 m2 && inRange ce p) refl
+  where
+    go : (b : Bool) → (inBounds ce d m1 m2 && inRange ce p) ≡ b → _≤_ (cond {A = Answer} b (record { number = 0; value = dem ce d m1 m2 p }) (record { number = 1; value = 0 }) .value) 100000000000
+    go true e =
+        let t = and-true (inBounds ce d m1 m2) (inRange ce p) e in
+        let s = in-bounds ce d m1 m2 (t .0) in
+        let r = dem-range ce d m1 m2 p s (in-range ce p (t .1)) in
+        omega arith
+    go false e = omega arith
+
+pub demand-bounded : (ce d m1 m2 p : ℕ) {n : ℕ} → n ≡ demandAnswer ce d m1 m2 p .value → (n ≡ demandAnswer ce d m1 m2 p .value) × (n ≤ 100000000000)
+demand-bounded ce d m1 m2 p e = (e, omega (arith, demand-small ce d m1 m2 p))
+
+-- ---- set-up
+
+module _ (a : Auction) (ce d m1 m2 a₀ : ℕ) where
+  pub set-up-phase : (a .phase ≡ 0 → ⊥) → Called (setsUp ce d m1 m2 a₀) a a 2 (pos 0)
+  unfolding number
+  set-up-phase z = refused _ a 2 (omega arith) (λ l s h. simp (fresh-is a l h ∙ ne-eqb _ 0 z))
+
+  pub set-up-settings : a .phase ≡ 0 → settingsOk (settingsOf ce d m1 m2 a₀) ≡ false → Called (setsUp ce d m1 m2 a₀) a a 1 (pos 0)
+  unfolding number
+  set-up-settings z f = refused _ a 1 (omega arith) (λ l s h. simp (fresh-is a l h ∙ eq-eqb _ 0 z, f))
+
+  -- the auction with the settings, set up
+  abbrev pub setUp : Auction
+  setUp = record {
+    phase = 1;
+    settings = record { ce = ce; d = d; m1 = m1; m2 = m2; a = a₀ };
+    opening = a .opening;
+    closing = a .closing;
+    projects = a .projects;
+    kinds = a .kinds;
+    studies = a .studies;
+    days = a .days;
+    quantities = a .quantities;
+    declared = a .declared;
+    histories = a .histories;
+  }
+
+  pub set-up-taken : a .phase ≡ 0 → settingsOk (settingsOf ce d m1 m2 a₀) ≡ true → Called (setsUp ce d m1 m2 a₀) a setUp 0 (pos 0)
+  unfolding number excess accepted auctionOf
+  set-up-taken z f = taken _ a setUp (pos 0) (λ l s h. record {
+    number = simp (fresh-is a l h ∙ eq-eqb _ 0 z, f);
+    excess = refl;
+    next = λ i. record {
+      phase = 1;
+      settings = record { ce = ce; d = d; m1 = m1; m2 = m2; a = a₀ };
+      opening = h i .opening;
+      closing = h i .closing;
+      projects = h i .projects;
+      kinds = h i .kinds;
+      studies = h i .studies;
+      days = h i .days;
+      quantities = h i .quantities;
+      declared = h i .declared;
+      histories = h i .histories;
+    };
+  })

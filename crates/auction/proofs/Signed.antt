@@ -1,0 +1,34 @@
+-- The signed difference of two numbers fits 64 bits.
+use Prim.Native.Nat.{ℕ, zero, suc, _+_, _-_, _<_, _^_}
+use mathlib.Core.Path.{_≡_, refl, ap}
+use mathlib.Core.Bool.{Bool, true, false, cond}
+use native.Mathlib.Omega.{arith}
+use lib.Dec.{ltb}
+use lib.IntN.{ℤ, pos, negsuc, subℕ, _-ℤ_}
+use lib.Signed.{mag}
+use mir.Syntax.{w64}
+use mir.Val.{toZ, ofZ, SFits}
+use mir.Facts.{toZ-pos, toZ-ofZ}
+use borrow.Author.Tests.{le-ltb}
+
+pos-minus : (x y : ℕ) → pos x -ℤ pos y ≡ subℕ x y
+pos-minus x zero = simp (le-ltb x 0 (omega arith)) (ap pos (omega arith))
+pos-minus x (suc y) = refl
+
+module _ (x y : ℕ) (v : x < 2 ^ 62) (w : y < 2 ^ 62) where
+  small : mag (subℕ x y) < 2 ^ 63
+  small = go (ltb x y)
+    where
+      go : (b : Bool) → mag (cond b (negsuc (y - suc x)) (pos (x - y))) < 2 ^ 63
+      go true = omega arith
+      go false = omega arith
+
+  pub difference : toZ w64 x -ℤ toZ w64 y ≡ pos x -ℤ pos y
+  difference = rw (toZ-pos w64 {n = x} (omega arith), toZ-pos w64 {n = y} (omega arith))
+
+  pub difference-fits : SFits w64 (pos x -ℤ pos y)
+  difference-fits = rw pos-minus (record { sfits = small })
+
+  -- read back from its 64 bits
+  pub difference-back : (z : ℤ) → z ≡ pos x -ℤ pos y → toZ w64 (ofZ w64 z) ≡ pos x -ℤ pos y
+  difference-back z e = rw e (toZ-ofZ difference-fits)

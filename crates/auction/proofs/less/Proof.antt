@@ -1,0 +1,21 @@
+-- The difference of two numbers below 2^62, signed.
+use mir.Facts.{toZ-ofZ}
+use borrow.Author.Needs.{needs}
+use Rattle.auction.proofs.Signed.{difference, difference-fits}
+use Rattle.auction.proofs.less.Statement.{statement}
+use Rattle.auction.proofs.less.Tie as tie
+
+cast-result : tie.Need-cast-result
+cast-result c = search needs
+
+cast-result-2 : tie.Need-cast-result-2
+cast-result-2 c = search needs
+
+sub-result : tie.Need-sub-result
+sub-result c = rw (difference (c .args .x) (c .args .y) (c .pre .0) (c .pre .1)) (difference-fits (c .args .x) (c .args .y) (c .pre .0) (c .pre .1))
+
+returns : tie.Need-returns
+returns c = rw (difference (c .args .x) (c .args .y) (c .pre .0) (c .pre .1)) (toZ-ofZ (difference-fits (c .args .x) (c .args .y) (c .pre .0) (c .pre .1)))
+
+pub less-spec : {M : Type 1} → statement M
+less-spec = tie.close (tie.spec cast-result cast-result-2 sub-result returns)

@@ -1,0 +1,41 @@
+-- The one auction that holds a ledger: developer n stands at place n - 1 of each array, what is not used is zero.
+use Prim.Native.Nat.{ℕ}
+use mathlib.Core.List.{List, [], map}
+use Rattle.numbers.specs.Lists.{oneTo}
+use Rattle.rules.specs.Ledger.{Developer, Phase, Fresh, Ready, Round, Between, Closed, Ledger}
+use Rattle.levels.specs.Held.{heldLevels}
+use Rattle.history.specs.Held.{held}
+use Rattle.auction.specs.declared.Settings.{Settings}
+use Rattle.auction.specs.declared.Auction.{Auction}
+
+abbrev pub phaseNumber : Phase → ℕ
+phaseNumber Fresh = 0
+phaseNumber Ready = 1
+phaseNumber Round = 2
+phaseNumber Between = 3
+phaseNumber Closed = 4
+
+-- of each developer, 1 to 32
+abbrev pub ofEach : {A : Type 0} → (Developer → A) → Ledger → List A
+ofEach f l = map (λ n. f (l .developers n)) (oneTo 32)
+
+unfoldable pub auctionOf : Ledger → Auction
+auctionOf l = record {
+  phase = phaseNumber (l .phase);
+  settings = record {
+    ce = l .settings .ce;
+    d = l .settings .d;
+    m1 = l .settings .m1;
+    m2 = l .settings .m2;
+    a = l .settings .a;
+  };
+  opening = l .opening;
+  closing = l .closing;
+  projects = ofEach (λ x. x .declared .project) l;
+  kinds = ofEach (λ x. x .declared .kind) l;
+  studies = ofEach (λ x. x .declared .study) l;
+  days = ofEach (λ x. x .declared .day) l;
+  quantities = ofEach (λ x. x .quantity) l;
+  declared = ofEach (λ x. heldLevels (x .declared .levels)) l;
+  histories = ofEach (λ x. held (x .withdrawals) (x .offer)) l;
+}

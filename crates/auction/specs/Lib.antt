@@ -1,0 +1,4 @@
+pub mod Holds
+pub mod Called
+pub mod Places
+pub mod Demands

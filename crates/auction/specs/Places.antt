@@ -1,0 +1,86 @@
+-- Laws of the arrays of 32 places, developer n at place n - 1: reading one place, storing to one, and filling all.
+use Prim.Native.Nat.{ℕ, zero, suc, _+_, _-_, _≤_, _<_}
+use mathlib.Core.Path.{_≡_, refl, sym, ap, _∙_}
+use mathlib.Core.Logic.{⊎-elim}
+use mathlib.Core.Bool.{Bool, true, false, cond}
+use mathlib.Core.List.{List, [], _∷_, map}
+use native.Mathlib.Omega.{arith}
+use lib.Dec.{eqb}
+use lib.ListN.{length, getD, set, replicate, length-map, length-set, length-replicate, getD-replicate, List·getD-map}
+use lib.Seq.{ext-getD, getD-set-same, getD-set-other}
+use borrow.Author.Tests.{eq-eqb, ne-eqb, eqb-true, eqb-false}
+use Rattle.numbers.specs.Cases.{le-or-lt}
+use Rattle.numbers.specs.Lists.{oneTo}
+use Rattle.numbers.specs.ListLaws.{length-one-to, one-to-nth}
+use Rattle.rules.specs.Ledger.{Developer, Ledger, nobody, start}
+use Rattle.rules.specs.Rounds.{put}
+use Rattle.auction.specs.Holds.{ofEach}
+
+module _ {A : Type 0} where
+  -- of any function of the developers' numbers
+  pub numbered-length : (g : ℕ → A) → length (map g (oneTo 32)) ≡ 32
+  numbered-length g = length-map (oneTo 32) g ∙ length-one-to 32
+
+  -- by the place i of the list, whatever stands behind its end
+  pub numbered-at : (g : ℕ → A) (i : ℕ) (d : A) → i < 32 → getD (map g (oneTo 32)) i d ≡ g (suc i)
+  numbered-at g i d h = inside g (oneTo 32) i d (let e = length-one-to 32 in omega arith) ∙ ap g (one-to-nth 32 i h)
+    where
+      inside : (g : ℕ → A) (xs : List ℕ) (i : ℕ) (d : A) → i < length xs → getD (map g xs) i d ≡ g (getD xs i 0)
+      inside g [] i d h = absurd (omega arith)
+      inside g (x ∷ xs) zero d h = refl
+      inside g (x ∷ xs) (suc i) d h = inside g xs i d (omega arith)
+
+  pub numbered : (g : ℕ → A) (d : A) (xs : List A) → length xs ≡ 32 → ((i : ℕ) → i < 32 → getD xs i d ≡ g (suc i)) → xs ≡ map g (oneTo 32)
+  numbered g d xs e h = ext-getD d xs (map g (oneTo 32)) (e ∙ sym (numbered-length g)) (λ i w. h i (omega arith) ∙ sym (numbered-at g i d (omega arith)))
+
+  -- filled place by place: the first i places are done
+  pub record Filling (g : ℕ → A) (d : A) (xs : List A) (i : ℕ) : Type 0 where
+    pub long : length xs ≡ 32
+    pub done : (j : ℕ) → j < i → getD xs j d ≡ g (suc j)
+
+  pub filling-next : (g : ℕ → A) (d : A) (xs : List A) (i : ℕ) (v : A) → Filling g d xs i → i < 32 → v ≡ g (suc i) → Filling g d (set xs i v) (i + 1)
+  filling-next g d xs i v f h e = record {
+    long = length-set xs i v ∙ f .long;
+    done = λ j w. ⊎-elim (λ k. getD-set-other xs i j v d (λ q. omega arith) ∙ f .done j k) (λ k. here j (omega arith)) (le-or-lt (suc j) i);
+  }
+    where
+      here : (j : ℕ) → j ≡ i → getD (set xs i v) j d ≡ g (suc j)
+      here j q = rw q (getD-set-same xs i v d (let z = f .long in omega arith) ∙ e)
+
+  pub filling-all : (g : ℕ → A) (d : A) (xs : List A) → Filling g d xs 32 → xs ≡ map g (oneTo 32)
+  filling-all g d xs f = numbered g d xs (f .long) (f .done)
+
+  module _ (f : Developer → A) where
+    -- a store to the place of developer n
+    pub put-stores : (l : Ledger) (i : ℕ) (x : Developer) (v : A) → i < 32 → v ≡ f x → set (ofEach f l) i v ≡ map (λ m. f (put (suc i) x (l .developers) m)) (oneTo 32)
+    put-stores l i x v h e = numbered (λ m. f (put (suc i) x (l .developers) m)) v (set (ofEach f l) i v) (length-set (ofEach f l) i v ∙ numbered-length _) (λ j w. go j w (eqb (suc j) (suc i)) refl)
+      where
+        go : (j : ℕ) → j < 32 → (b : Bool) → eqb (suc j) (suc i) ≡ b → getD (set (ofEach f l) i v) j v ≡ f (cond b x (l .developers (suc j)))
+        go j w true t =
+            let q : j ≡ i = let z = eqb-true (suc j) (suc i) t in omega arith in
+            rw q (getD-set-same (ofEach f l) i v v (let z = numbered-length (λ n. f (l .developers n)) in omega arith) ∙ e)
+        go j w false t = getD-set-other (ofEach f l) i j v v (λ q. eqb-false (suc j) (suc i) t (ap suc q)) ∙ numbered-at _ j v w
+
+    -- the same by the developer's number
+    pub each-at : (l : Ledger) (n : ℕ) (d : A) → 1 ≤ n → n ≤ 32 → getD (ofEach f l) (n - 1) d ≡ f (l .developers n)
+    each-at l n d low high = numbered-at (λ m. f (l .developers m)) (n - 1) d (omega arith) ∙ ap (λ (m : ℕ). f (l .developers m)) (omega arith)
+
+    pub put-at : (l : Ledger) (n : ℕ) (x : Developer) (v : A) → 1 ≤ n → n ≤ 32 → v ≡ f x → set (ofEach f l) (n - 1) v ≡ map (λ m. f (put n x (l .developers) m)) (oneTo 32)
+    put-at l n x v low high e =
+        let k : suc (n - 1) ≡ n = omega arith in
+        rw k at (put-stores l (n - 1) x v (omega arith) e)
+
+    -- a field that the new entry shares with the old one
+    pub put-keeps : (l : Ledger) (n : ℕ) (x : Developer) → f x ≡ f (l .developers n) → map (λ m. f (put n x (l .developers) m)) (oneTo 32) ≡ ofEach f l
+    put-keeps l n x e = ap (λ (g : ℕ → A). map g (oneTo 32)) (λ i m. same m i)
+      where
+        go : (m : ℕ) (b : Bool) → eqb m n ≡ b → f (cond b x (l .developers m)) ≡ f (l .developers m)
+        go m true t = e ∙ ap (λ (k : ℕ). f (l .developers k)) (sym (eqb-true m n t))
+        go m false t = refl
+
+        same : (m : ℕ) → f (put n x (l .developers) m) ≡ f (l .developers m)
+        same m = go m (eqb m n) refl
+
+    -- the arrays of a fresh auction
+    pub fresh-places : (v : A) → v ≡ f nobody → replicate 32 v ≡ ofEach f start
+    fresh-places v e = numbered (λ n. f (start .developers n)) v (replicate 32 v) (length-replicate 32 v) (λ i h. getD-replicate 32 i v v h ∙ e)

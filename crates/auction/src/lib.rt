@@ -1,0 +1,463 @@
+// The auction: its state, passed by value, and the five calls that change it. Each call's contract is an equation with the ledger of
+// document 01, for every list of calls (specs/Called.antt).
+ghost use mathlib.Core.Path.{_≡_};
+ghost use mathlib.Core.List.{[]};
+ghost use mathlib.Core.Bool.{cond, not, _&&_, _||_};
+ghost use Prim.Native.Nat.{_≤_, _<_, _^_};
+ghost use lib.Dec.{eqb, leb, ltb};
+ghost use lib.IntN.{pos, _-ℤ_};
+ghost use Rattle.rules.specs.Ledger.{Open, Offer};
+ghost use Rattle.rules.specs.Refusals.{settingsOk};
+ghost use Rattle.rules.specs.Rounds.{ledger};
+ghost use Rattle.supply.specs.ByProject.{supplyOf};
+ghost use Rattle.auction.specs.Holds.{auctionOf};
+ghost use Rattle.auction.specs.Called.{Answered, Closes, settingsOf, setsUp, registers, numbersFree, declarable, demandBy, OffersApplied};
+use demand::Demanded;
+use history::History;
+use levels::Levels;
+
+pub struct Settings {
+    pub ce: u32,
+    pub d: u64,
+    pub m1: u64,
+    pub m2: u64,
+    pub a: u32,
+}
+
+// Developer n stands at place n - 1 of each array; a place that is not used is zero.
+pub struct Auction {
+    pub phase: u8,
+    pub settings: Settings,
+    pub opening: u32,
+    pub closing: u32,
+    pub projects: [u8; 32],
+    pub kinds: [u8; 32],
+    pub studies: [u32; 32],
+    pub days: [u32; 32],
+    pub quantities: [u32; 32],
+    pub declared: [Levels; 32],
+    pub histories: [History; 32],
+}
+
+// The answer of a call: 0 or a refusal's number, and the next auction.
+pub struct Answer {
+    pub number: u8,
+    pub auction: Auction,
+}
+
+// The same with the excess of a closing.
+pub struct Closing {
+    pub number: u8,
+    pub excess: i64,
+    pub auction: Auction,
+}
+
+// Whether the settings are within their bounds and A is above CE/2 and at most 2 CE.
+fn settings_ok(ce: u64, d: u64, m1: u64, m2: u64, a: u64) -> bool
+    ensures { λ r. ⌜ r ≡ settingsOk (settingsOf ce d m1 m2 a) ⌝ }
+{
+    if !demand::settings_in_bounds(ce, d, m1, m2) {
+        return false;
+    }
+    if a <= ce / 2 {
+        return false;
+    }
+    if 2 * ce < a {
+        return false;
+    }
+    true
+}
+
+// Whether project and developer have numbers 1 to 32 and the developer's is not used.
+fn numbers_ok(projects: [u8; 32], project: u8, developer: u8) -> bool
+    ensures { λ r. ⌜ r ≡ numbersFree projects project developer ⌝ }
+{
+    if project < 1 {
+        return false;
+    }
+    if Auction::MOST < project {
+        return false;
+    }
+    if developer < 1 {
+        return false;
+    }
+    if Auction::MOST < developer {
+        return false;
+    }
+    let i = (developer - 1) as usize;
+    if projects[i] != 0 {
+        return false;
+    }
+    true
+}
+
+// Whether the kind and the levels are sound, and a developer of this kind may join the project.
+fn declaration_ok(
+    projects: [u8; 32],
+    kinds: [u8; 32],
+    project: u8,
+    kind: u8,
+    levels: &[u32],
+) -> bool
+    ensures { λ r. ⌜ r ≡ declarable projects kinds project kind (now (levels .entry)) ⌝ }
+{
+    if kind < 1 {
+        return false;
+    }
+    if 2 < kind {
+        return false;
+    }
+    if !levels::levels_ok(levels) {
+        return false;
+    }
+    supply::may_join(projects, kinds, project, kind)
+}
+
+// Whether an opening is accepted in this phase.
+fn may_open(phase: u8) -> bool
+    ensures { λ r. ⌜ r ≡ (eqb phase 1 || eqb phase 3) ⌝ }
+{
+    if phase == Auction::READY {
+        return true;
+    }
+    phase == Auction::BETWEEN
+}
+
+// The phase once a round is closed: closed if there is no excess or C is the floor.
+fn phase_after(supply: u64, demand: u64, closing: u32, floor: u32) -> u8
+    ensures { λ r. ⌜ r ≡ cond (leb supply demand || eqb closing floor) 4 3 ⌝ }
+{
+    if supply <= demand {
+        return Auction::CLOSED;
+    }
+    if closing == floor {
+        return Auction::CLOSED;
+    }
+    Auction::BETWEEN
+}
+
+// Whether a developer without an offer withdraws: one of kind 2 that is above 0.
+fn withdraws(kind: u8, quantity: u32) -> bool
+    ensures { λ r. ⌜ r ≡ (eqb kind 2 && ltb 0 quantity) ⌝ }
+{
+    if kind != 2 {
+        return false;
+    }
+    0 < quantity
+}
+
+// The signed difference.
+fn less(x: u64, y: u64) -> i64
+    requires { ⌜ (x < 2 ^ 62) × (y < 2 ^ 62) ⌝ }
+    ensures { λ r. ⌜ r ≡ pos x -ℤ pos y ⌝ }
+{
+    x as i64 - y as i64
+}
+
+impl Auction {
+    // Projects and developers have numbers 1 to 32 (document 01, Registration).
+    pub const MOST: u8 = 32;
+    // The highest price that an auction can have: 2 CE at the largest CE (document 01, Demand).
+    pub const TOP_PRICE: u32 = 1_000_000;
+    // The most choices that a settling counts (document 01, Closing price and award).
+    pub const CHOICE_LIMIT: u32 = 65_536;
+
+    // The phases (document 01, Rounds).
+    pub const FRESH: u8 = 0;
+
+    pub const READY: u8 = 1;
+
+    pub const ROUND: u8 = 2;
+
+    pub const BETWEEN: u8 = 3;
+
+    pub const CLOSED: u8 = 4;
+
+    pub fn new() -> Auction
+        ensures { λ r. ⌜ r ≡ auctionOf (ledger []) ⌝ }
+    {
+        let none = Levels::none();
+        let empty = History::new();
+        let settings = Settings {
+            ce: 0,
+            d: 0,
+            m1: 0,
+            m2: 0,
+            a: 0,
+        };
+        let declared = [none; 32];
+        let histories = [empty; 32];
+        Auction {
+            phase: Auction::FRESH,
+            settings: settings,
+            opening: 0,
+            closing: 0,
+            projects: [0; 32],
+            kinds: [0; 32],
+            studies: [0; 32],
+            days: [0; 32],
+            quantities: [0; 32],
+            declared: declared,
+            histories: histories,
+        }
+    }
+
+    pub fn set_up(self, ce: u64, d: u64, m1: u64, m2: u64, a: u64) -> Answer
+        ensures { λ r. ⌜ Answered (setsUp ce d m1 m2 a) self r ⌝ }
+    {
+        if self.phase != Auction::FRESH {
+            return Answer {
+                number: 2,
+                auction: self,
+            };
+        }
+        if !settings_ok(ce, d, m1, m2, a) {
+            return Answer {
+                number: 1,
+                auction: self,
+            };
+        }
+        let settings = Settings {
+            ce: ce as u32,
+            d: d,
+            m1: m1,
+            m2: m2,
+            a: a as u32,
+        };
+        let mut next = self;
+        next.phase = Auction::READY;
+        next.settings = settings;
+        Answer {
+            number: 0,
+            auction: next,
+        }
+    }
+
+    pub fn register(
+        self,
+        project: u8,
+        developer: u8,
+        kind: u8,
+        study: u32,
+        day: u32,
+        levels: &[u32],
+    ) -> Answer
+        ensures { λ r. ⌜ Answered (registers project developer kind study day (now (levels .entry))) self r ⌝ }
+    {
+        if self.phase != Auction::READY {
+            return Answer {
+                number: 2,
+                auction: self,
+            };
+        }
+        let projects = self.projects;
+        let kinds = self.kinds;
+        if !numbers_ok(projects, project, developer) {
+            return Answer {
+                number: 3,
+                auction: self,
+            };
+        }
+        if !declaration_ok(projects, kinds, project, kind, levels) {
+            return Answer {
+                number: 4,
+                auction: self,
+            };
+        }
+        let i = (developer - 1) as usize;
+        let declared = Levels::copied(levels);
+        let mut next = self;
+        next.projects[i] = project;
+        next.kinds[i] = kind;
+        next.studies[i] = study;
+        next.days[i] = day;
+        next.quantities[i] = declared.highest();
+        next.declared[i] = declared;
+        Answer {
+            number: 0,
+            auction: next,
+        }
+    }
+
+    // Dem(p) by the auction's settings; 0 where p or the settings are beyond their bounds.
+    pub fn demand_at(self, p: u32) -> u64
+        ensures { λ r. ⌜ (r ≡ demandBy (self .settings) p) × (r ≤ 100000000000) ⌝ }
+    {
+        let s = self.settings;
+        match demand::demand(s.ce as u64, s.d, s.m1, s.m2, p as u64) {
+            Demanded::Quantity(q) => q,
+            Demanded::OutOfBounds => 0,
+        }
+    }
+
+    // The opening price of the next round: A, or the last C.
+    fn opening_price(self) -> u32
+        ensures { λ r. ⌜ r ≡ cond (eqb (self .phase) 1) (self .settings .a) (self .closing) ⌝ }
+    {
+        if self.phase == Auction::READY {
+            return self.settings.a;
+        }
+        self.closing
+    }
+
+    // Whether A is covered, if this is the first opening.
+    fn start_covered(self) -> bool
+        ensures { λ r. ⌜ r ≡ (not (eqb (self .phase) 1) || leb (demandBy (self .settings) (self .settings .a)) (supplyOf (self .projects) (self .quantities))) ⌝ }
+    {
+        if self.phase != Auction::READY {
+            return true;
+        }
+        let projects = self.projects;
+        let quantities = self.quantities;
+        let a = self.settings.a;
+        self.demand_at(a) <= supply::supply(projects, quantities)
+    }
+
+    pub fn open(self, c: u32) -> Answer
+        ensures { λ r. ⌜ Answered (Open c) self r ⌝ }
+    {
+        if !may_open(self.phase) {
+            return Answer {
+                number: 2,
+                auction: self,
+            };
+        }
+        if c < self.settings.ce / 2 {
+            return Answer {
+                number: 5,
+                auction: self,
+            };
+        }
+        let opening = self.opening_price();
+        if opening <= c {
+            return Answer {
+                number: 5,
+                auction: self,
+            };
+        }
+        if !self.start_covered() {
+            return Answer {
+                number: 9,
+                auction: self,
+            };
+        }
+        let mut next = self;
+        next.phase = Auction::ROUND;
+        next.opening = opening;
+        next.closing = c;
+        Answer {
+            number: 0,
+            auction: next,
+        }
+    }
+
+    pub fn offer(self, developer: u8, prices: &[u32], levels: &[u32]) -> Answer
+        ensures { λ r. ⌜ Answered (Offer developer (now (prices .entry)) (now (levels .entry))) self r ⌝ }
+    {
+        if self.phase != Auction::ROUND {
+            return Answer {
+                number: 2,
+                auction: self,
+            };
+        }
+        if developer < 1 {
+            return Answer {
+                number: 3,
+                auction: self,
+            };
+        }
+        if Auction::MOST < developer {
+            return Answer {
+                number: 3,
+                auction: self,
+            };
+        }
+        let i = (developer - 1) as usize;
+        if self.kinds[i] != 2 {
+            return Answer {
+                number: 3,
+                auction: self,
+            };
+        }
+        let history = self.histories[i];
+        if 0 < history.offered {
+            return Answer {
+                number: 8,
+                auction: self,
+            };
+        }
+        if prices.len() != levels.len() {
+            return Answer {
+                number: 6,
+                auction: self,
+            };
+        }
+        if History::MOST < prices.len() {
+            return Answer {
+                number: 6,
+                auction: self,
+            };
+        }
+        if !history::prices_fall(self.closing, self.opening, prices) {
+            return Answer {
+                number: 6,
+                auction: self,
+            };
+        }
+        let declared = self.declared[i];
+        if !declared.lowers(self.quantities[i], levels) {
+            return Answer {
+                number: 7,
+                auction: self,
+            };
+        }
+        let mut next = self;
+        next.histories[i] = history.offer(prices, levels);
+        Answer {
+            number: 0,
+            auction: next,
+        }
+    }
+
+    // All developers' offers applied; one of kind 2 without an offer and above 0 withdraws at the opening price.
+    fn with_offers_applied(self) -> Auction
+        ensures { λ r. ⌜ OffersApplied self r ⌝ }
+    {
+        let mut next = self;
+        let opening = self.opening;
+        for i in 0..32 {
+            let h = next.histories[i];
+            let q = next.quantities[i];
+            let missing = withdraws(next.kinds[i], q);
+            let applied = h.close(missing, opening);
+            next.histories[i] = applied;
+            next.quantities[i] = applied.last_level(q);
+        }
+        next
+    }
+
+    pub fn close(self) -> Closing
+        ensures { λ r. ⌜ Closes self r ⌝ }
+    {
+        if self.phase != Auction::ROUND {
+            return Closing {
+                number: 2,
+                excess: 0,
+                auction: self,
+            };
+        }
+        let mut next = self.with_offers_applied();
+        let projects = next.projects;
+        let quantities = next.quantities;
+        let closing = self.closing;
+        let supply = supply::supply(projects, quantities);
+        let demand = self.demand_at(closing);
+        let excess = less(supply, demand);
+        next.phase = phase_after(supply, demand, closing, self.settings.ce / 2);
+        Closing {
+            number: 0,
+            excess: excess,
+            auction: next,
+        }
+    }
+}

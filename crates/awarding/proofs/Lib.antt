@@ -1,0 +1,6 @@
+mod Counting
+mod Tails
+mod Writing
+mod Preferring
+mod Candidates
+mod Winning

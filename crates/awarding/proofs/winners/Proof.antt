@@ -1,0 +1,129 @@
+-- `winners` finds the developer of each awarded level: the loop keeps the preferred ones among the first i developers.
+use Prim.Native.Nat.{_-_, _≤_}
+use mathlib.Core.Path.{_≡_, sym, ap, _∙_}
+use mathlib.Core.Logic.{⊎-elim}
+use native.Mathlib.Omega.{arith}
+use lib.ListN.{getD}
+use borrow.Author.Needs.{needs}
+use Rattle.awarding.specs.Choosing.{mayGet}
+use Rattle.awarding.proofs.Winning.{Winning, winning-first, gets, gets-place, winning-kept, winning-stored, winning-end}
+use Rattle.awarding.proofs.winners.Statement.{statement}
+use Rattle.awarding.proofs.winners.Tie as tie
+
+abbrev Inv-loop : tie.InvT-loop
+Inv-loop studies days award projects declared lows highs best₀ i₀ best i = Winning projects studies days declared lows highs award best i
+
+abbrev μ-loop : tie.MeasureT-loop
+μ-loop studies days award projects declared lows highs best₀ i₀ best i = 32 - i
+
+-- the test of the branch
+tested :
+    (c : tie.After-may-get Inv-loop μ-loop) →
+    let a = c .before .before .before .before .before .args in
+    c .may-get .result ≡ gets (a .t1) (a .t4) (a .t5) (a .t6) (a .award) (c .before .before .before .before .loop .i)
+tested c = c .may-get .ensures ∙ ap (mayGet _ _ _) (c .before .before .awarded .ensures)
+
+-- the project of a developer that passes
+place :
+    (c : tie.Then1 Inv-loop μ-loop) →
+    let k = getD (c .before .before .before .before .before .before .args .t1) (c .before .before .before .before .before .loop .i) 0 in
+    (1 ≤ k) × (k ≤ 32)
+place c =
+    let a = c .before .before .before .before .before .before .args in
+    let l = c .before .before .before .before .before .loop in
+    gets-place (a .t1) (a .t4) (a .t5) (a .t6) (a .award) (l .i) (l .inv .levels) (sym (tested (c .before)) ∙ c .if1 .taken)
+
+loop-holds : tie.Need-loop-holds Inv-loop μ-loop
+loop-holds c = winning-first _ _ _ _ _ _ _ (search needs)
+
+array-read-k : tie.Need-array-read-k Inv-loop μ-loop
+array-read-k c = search needs
+
+cast-k : tie.Need-cast-k Inv-loop μ-loop
+cast-k c = search needs
+
+awarded-requires : tie.Need-awarded-requires Inv-loop μ-loop
+awarded-requires c κs = search needs
+
+mul-levels : tie.Need-mul-levels Inv-loop μ-loop
+mul-levels c = search needs
+
+array-copy-out-levels : tie.Need-array-copy-out-levels Inv-loop μ-loop
+array-copy-out-levels c = search needs
+
+mul-may-get : tie.Need-mul-may-get Inv-loop μ-loop
+mul-may-get c = search needs
+
+array-read-may-get : tie.Need-array-read-may-get Inv-loop μ-loop
+array-read-may-get c = search needs
+
+mul-may-get-2 : tie.Need-mul-may-get-2 Inv-loop μ-loop
+mul-may-get-2 c = search needs
+
+array-read-may-get-2 : tie.Need-array-read-may-get-2 Inv-loop μ-loop
+array-read-may-get-2 c = search needs
+
+may-get-requires : tie.Need-may-get-requires Inv-loop μ-loop
+may-get-requires c κs = search needs
+
+sub-preferred : tie.Need-sub-preferred Inv-loop μ-loop
+sub-preferred c = place c .0
+
+array-read-preferred : tie.Need-array-read-preferred Inv-loop μ-loop
+array-read-preferred c = omega (arith, place c)
+
+preferred-requires : tie.Need-preferred-requires Inv-loop μ-loop
+preferred-requires c κs =
+    let l = c .before .before .before .before .before .loop in
+    (l .inv .small _ (omega (arith, place c)), c .before .before .before .before .loop-test .taken)
+
+sub-best : tie.Need-sub-best Inv-loop μ-loop
+sub-best c = place (c .before) .0
+
+array-write-best : tie.Need-array-write-best Inv-loop μ-loop
+array-write-best c = omega (arith, place (c .before))
+
+add-i : tie.Need-add-i Inv-loop μ-loop
+add-i c = search needs
+
+loop-less : tie.Need-loop-less Inv-loop μ-loop
+loop-less c = search needs
+
+loop-again : tie.Need-loop-again Inv-loop μ-loop
+loop-again c =
+    let l = c .before .before .before .before .before .loop in
+    let h = c .before .before .before .before .loop-test .taken in
+    ⊎-elim
+    (λ w. rw (w .2) (winning-stored _ _ _ _ _ _ _ _ _ (l .inv) h (w .1 .result) (sym (tested (c .before)) ∙ w .0 .taken) (w .1 .ensures)))
+    (λ w. rw (w .1) (winning-kept _ _ _ _ _ _ _ _ _ (l .inv) h (sym (tested (c .before)) ∙ w .0 .left)))
+    (c .if1 .came)
+
+returns : tie.Need-returns Inv-loop μ-loop
+returns c = winning-end _ _ _ _ _ _ _ _ _ (c .before .loop .inv) (c .loop-test .left)
+
+pub winners-spec : {M : Type 1} → statement M
+winners-spec =
+    tie.close
+    (tie.spec
+    Inv-loop
+    μ-loop
+    loop-holds
+    array-read-k
+    cast-k
+    awarded-requires
+    mul-levels
+    array-copy-out-levels
+    mul-may-get
+    array-read-may-get
+    mul-may-get-2
+    array-read-may-get-2
+    may-get-requires
+    sub-preferred
+    array-read-preferred
+    preferred-requires
+    sub-best
+    array-write-best
+    add-i
+    loop-less
+    loop-again
+    returns)

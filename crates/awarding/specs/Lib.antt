@@ -1,0 +1,3 @@
+pub mod Awarding
+pub mod Choosing
+pub mod AwardingLaws

@@ -1,0 +1,87 @@
+-- The table of field widths by frame kind, and what a line reads as (document 01, Frames).
+use Prim.Native.Nat.{ℕ, _+_, _-_, _*_}
+use mathlib.Core.Bool.{Bool, cond, _&&_}
+use mathlib.Core.List.{List, [], _∷_, _++_}
+use mathlib.Core.Option.{Option, none, some}
+use lib.Dec.{leb, eqb}
+use lib.ListN.{length, getD, take, drop, replicate}
+use Rattle.numbers.specs.Lists.{total}
+use Rattle.format.specs.Hex.{allHex, number}
+
+-- the fields of a frame kind: the widths of the fixed ones, and how many of 8 digits follow for each one that the last fixed field counts
+pub record Row : Type 0 where
+  pub widths : List ℕ
+  pub repeated : ℕ
+
+abbrev pub row : List ℕ → ℕ → Row
+row ws n = record { widths = ws; repeated = n }
+
+-- THE TABLE: a row for each kind
+abbrev pub rows : List Row
+rows =
+    row [] 0  -- 00 is no kind
+    ∷ row (8 ∷ 10 ∷ 10 ∷ 10 ∷ 8 ∷ []) 0  -- 01 set-up: CE, D, M1, M2, A
+    ∷ row (2 ∷ 2 ∷ 2 ∷ 8 ∷ 8 ∷ 2 ∷ []) 1  -- 02 registration: project, developer, kind, study, day, count; levels
+    ∷ row (8 ∷ []) 0  -- 03 open: C
+    ∷ row (2 ∷ 2 ∷ []) 2  -- 04 offer: developer, count; steps of price and level
+    ∷ row [] 0  -- 05 close
+    ∷ row (8 ∷ []) 0  -- 06 settle: limit
+    ∷ []
+
+abbrev pub lastKind : ℕ
+lastKind = 6
+
+abbrev pub known : ℕ → Bool
+known k = leb 1 k && leb k lastKind
+
+-- the widths of a kind's fixed fields, and how many fields follow for each one counted
+unfoldable pub fixed : ℕ → List ℕ
+fixed k = getD rows k (row [] 0) .widths
+
+unfoldable pub each : ℕ → ℕ
+each k = getD rows k (row [] 0) .repeated
+
+-- what the last of the fixed fields counts, where these are the fields
+unfoldable pub count : ℕ → List ℕ → ℕ
+count k ns = getD (take (length (fixed k)) ns) (length (fixed k) - 1) 0
+
+-- how many fields follow the fixed ones
+abbrev pub repeats : ℕ → List ℕ → ℕ
+repeats k ns = each k * count k ns
+
+-- the widths of all fields of a frame of this kind, n of them behind the fixed ones
+unfoldable pub layout : ℕ → ℕ → List ℕ
+layout k n = fixed k ++ replicate n 8
+
+-- ---- reading
+
+-- a call as its frame says it
+pub record RawCall : Type 0 where
+  pub kind : ℕ
+  pub fields : List ℕ
+
+-- the numbers that stand in bytes, at these widths
+unfoldable pub fieldsAt : List ℕ → List ℕ → List ℕ
+fieldsAt [] cs = []
+fieldsAt (w ∷ ws) cs = number (take w cs) ∷ fieldsAt ws (drop w cs)
+
+unfoldable pub kindOf : List ℕ → ℕ
+kindOf l = number (take 2 l)
+
+-- the widths that a line's own kind and count ask
+unfoldable pub asked : List ℕ → List ℕ
+asked l = layout (kindOf l) (repeats (kindOf l) (fieldsAt (fixed (kindOf l)) (drop 2 l)))
+
+abbrev pub longest : ℕ
+longest = 160
+
+-- at most 160 characters, all digits, a known kind, and as long as kind and count ask
+unfoldable pub wellFormed : List ℕ → Bool
+wellFormed l = leb (length l) longest && allHex l && known (kindOf l) && eqb (length l) (2 + total (asked l))
+
+unfoldable pub callOf : List ℕ → RawCall
+callOf l = record { kind = kindOf l; fields = fieldsAt (asked l) (drop 2 l) }
+
+-- the call of a line, none of a malformed one
+unfoldable pub read : List ℕ → Option RawCall
+read l = cond (wellFormed l) (some (callOf l)) none

@@ -1,0 +1,7 @@
+pub mod Hex
+pub mod Lines
+pub mod Fields
+pub mod HexLaws
+pub mod LineLaws
+pub mod FieldLaws
+pub mod Tails

@@ -1,0 +1,56 @@
+-- Bisection: the bracket holds the lowest covered price and shrinks.
+use Prim.Native.Nat.{_+_, _-_, _/_}
+use native.Mathlib.Omega.{arith}
+use borrow.Author.Needs.{needs}
+use Rattle.price.proofs.Halving.{Halving, halving-first, halving-next, halving-end, halving-less}
+use Rattle.price.proofs.closing_price.Statement.{statement}
+use Rattle.price.proofs.closing_price.Tie as tie
+
+abbrev Inv-loop : tie.InvT-loop
+Inv-loop auction highest b₀ b = Halving auction highest b
+
+abbrev μ-loop : tie.MeasureT-loop
+μ-loop auction highest b₀ b = b .hi - b .lo
+
+loop-holds : tie.Need-loop-holds Inv-loop μ-loop
+loop-holds c = halving-first _ _
+
+sub-mid : tie.Need-sub-mid Inv-loop μ-loop
+sub-mid c = omega arith
+
+add-mid : tie.Need-add-mid Inv-loop μ-loop
+add-mid c = omega arith
+
+covered-at-requires : tie.Need-covered-at-requires Inv-loop μ-loop
+covered-at-requires c κs = search needs
+
+halved-requires : tie.Need-halved-requires Inv-loop μ-loop
+halved-requires c κs = omega arith
+
+loop-less : tie.Need-loop-less Inv-loop μ-loop
+loop-less c =
+    let b = c .before .before .before .before .before .before .loop .b in
+    halving-less b _ (b .lo + (b .hi - b .lo) / 2) (c .before .covered-at .result) (c .halved .ensures) (omega arith) (omega arith)
+
+loop-again : tie.Need-loop-again Inv-loop μ-loop
+loop-again c =
+    let b = c .before .before .before .before .before .before .loop .b in
+    rw (c .halved .ensures) (halving-next _ _ b (b .lo + (b .hi - b .lo) / 2) _ (c .before .before .before .before .before .before .loop .inv) (omega arith) (omega arith) (c .before .covered-at .ensures))
+
+returns : tie.Need-returns Inv-loop μ-loop
+returns c = halving-end _ _ _ (c .before .before .loop .inv) (c .if1 .left)
+
+pub closing-price-spec : {M : Type 1} → statement M
+closing-price-spec =
+    tie.close
+    (tie.spec
+    Inv-loop
+    μ-loop
+    loop-holds
+    sub-mid
+    add-mid
+    covered-at-requires
+    halved-requires
+    loop-less
+    loop-again
+    returns)

@@ -1,0 +1,30 @@
+-- What the functions to the closing price ensure, for an auction that holds a sound ledger.
+use Prim.Native.Nat.{ℕ, _+_, _≤_}
+use mathlib.Core.Path.{_≡_}
+use mathlib.Core.Bool.{Bool, true, cond}
+use mathlib.Core.List.{List}
+use Rattle.rules.specs.Ledger.{Ledger}
+use Rattle.rules.specs.Clearing.{highest, low, covered, closingPrice}
+use Rattle.sound.specs.Sound.{Sound, started}
+use Rattle.levels.specs.Held.{heldLevels}
+use Rattle.levels.specs.declared.Levels.{Levels}
+use Rattle.history.specs.Held.{held}
+use Rattle.history.specs.declared.History.{History}
+use Rattle.auction.specs.Holds.{ofEach, auctionOf}
+use Rattle.auction.specs.declared.Auction.{Auction}
+use Rattle.price.specs.declared.Bracket.{Bracket}
+
+pub record Highests (declared : List Levels) (r : List ℕ) : Type 0 where
+  pub right : (l : Ledger) → Sound l → declared ≡ ofEach (λ x. heldLevels (x .declared .levels)) l → r ≡ ofEach highest l
+
+pub record Lows (histories : List History) (firsts : List ℕ) (p : ℕ) (r : List ℕ) : Type 0 where
+  pub right : (l : Ledger) → Sound l → histories ≡ ofEach (λ x. held (x .withdrawals) (x .offer)) l → firsts ≡ ofEach highest l → r ≡ ofEach (low p) l
+
+pub record CoveredAt (a : Auction) (firsts : List ℕ) (p : ℕ) (r : Bool) : Type 0 where
+  pub right : (l : Ledger) → Sound l → started (l .phase) ≡ true → a ≡ auctionOf l → firsts ≡ ofEach highest l → l .closing ≤ p → p ≤ l .settings .a → r ≡ covered l p
+
+pub record ClosingPrice (a : Auction) (firsts : List ℕ) (r : ℕ) : Type 0 where
+  pub right : (l : Ledger) → Sound l → started (l .phase) ≡ true → a ≡ auctionOf l → firsts ≡ ofEach highest l → r ≡ closingPrice l
+
+abbrev pub halvedAt : Bracket → ℕ → Bool → Bracket
+halvedAt b mid t = record { lo = cond t (b .lo) (mid + 1); hi = cond t mid (b .hi) }

@@ -1,0 +1,86 @@
+// The closing price: the lowest covered price of those that the clock passed, found by halving.
+ghost use mathlib.Core.Path.{_≡_};
+ghost use mathlib.Core.Bool.{cond};
+ghost use Prim.Native.Nat.{_+_, _<_};
+ghost use Rattle.price.specs.Prices.{Highests, Lows, CoveredAt, ClosingPrice, halvedAt};
+use auction::Auction;
+use history::History;
+use levels::Levels;
+
+// The prices among which the lowest covered one lies: hi is covered, nothing below lo is.
+struct Bracket {
+    lo: u32,
+    hi: u32,
+}
+
+// The highest level of each developer.
+pub fn highest_levels(declared: [Levels; 32]) -> [u32; 32]
+    ensures { λ r. ⌜ Highests declared r ⌝ }
+{
+    let mut out = [0u32; 32];
+    for i in 0..32 {
+        let levels = declared[i];
+        out[i] = levels.highest();
+    }
+    out
+}
+
+// The low of each developer at p, from its highest level.
+pub fn lows_at(histories: [History; 32], highest: [u32; 32], p: u32) -> [u32; 32]
+    ensures { λ r. ⌜ Lows histories highest p r ⌝ }
+{
+    let mut out = [0u32; 32];
+    for i in 0..32 {
+        let history = histories[i];
+        out[i] = history.level_at(highest[i], p);
+    }
+    out
+}
+
+// The next price. High at p is low there.
+pub fn above(p: u32) -> u32
+    ensures { λ r. ⌜ (p < 4294967295 → r ≡ p + 1) ⌝ }
+{
+    if p < 4294967295 {
+        return p + 1;
+    }
+    p
+}
+
+// Whether the sum of the projects' highs at p is at least Dem(p).
+fn covered_at(auction: Auction, highest: [u32; 32], p: u32) -> bool
+    ensures { λ r. ⌜ CoveredAt auction highest p r ⌝ }
+{
+    let histories = auction.histories;
+    let projects = auction.projects;
+    let highs = lows_at(histories, highest, above(p));
+    auction.demand_at(p) <= supply::supply(projects, highs)
+}
+
+fn halved(b: Bracket, mid: u32, covered: bool) -> Bracket
+    requires { ⌜ mid < b .hi ⌝ }
+    ensures { λ r. ⌜ r ≡ halvedAt b mid covered ⌝ }
+{
+    if covered {
+        return Bracket { lo: b.lo, hi: mid };
+    }
+    Bracket {
+        lo: mid + 1,
+        hi: b.hi,
+    }
+}
+
+pub fn closing_price(auction: Auction, highest: [u32; 32]) -> u32
+    ensures { λ r. ⌜ ClosingPrice auction highest r ⌝ }
+{
+    let mut b = Bracket {
+        lo: auction.closing,
+        hi: auction.settings.a,
+    };
+    while b.lo < b.hi {
+        let mid = b.lo + (b.hi - b.lo) / 2;
+        let covered = covered_at(auction, highest, mid);
+        b = halved(b, mid, covered);
+    }
+    b.lo
+}

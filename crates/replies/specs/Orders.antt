@@ -1,0 +1,60 @@
+-- What a line of a record asks (document 01, Frames): a call, a settling, or nothing that can be read.
+use Prim.Native.Nat.{ℕ}
+use mathlib.Core.Bool.{Bool, cond}
+use mathlib.Core.List.{List, [], _∷_}
+use mathlib.Core.Option.{Option, none, some}
+use lib.Dec.{eqb}
+use lib.ListN.{getD, drop}
+use Rattle.format.specs.Fields.{RawCall, read}
+use Rattle.rules.specs.Ledger.{Call, SetUp, Register, Open, Offer, Close}
+
+pub data Order : Type 0 where
+  Malformed : Order
+  Asks : Call → Order
+  Settle : ℕ → Order
+
+-- of steps price, level, price, level, ..: the prices, and the levels
+unfoldable pub firsts : List ℕ → List ℕ
+firsts [] = []
+firsts (p ∷ []) = p ∷ []
+firsts (p ∷ q ∷ rest) = p ∷ firsts rest
+
+unfoldable pub seconds : List ℕ → List ℕ
+seconds [] = []
+seconds (p ∷ []) = []
+seconds (p ∷ q ∷ rest) = q ∷ seconds rest
+
+-- 01 set-up: CE, D, M1, M2, A
+abbrev pub setUpOf : List ℕ → Call
+setUpOf ns = SetUp (record { ce = getD ns 0 0; d = getD ns 1 0; m1 = getD ns 2 0; m2 = getD ns 3 0; a = getD ns 4 0 })
+
+-- 02 registration: project, developer, kind, study, day, count, levels
+abbrev pub registrationOf : List ℕ → Call
+registrationOf ns = Register (getD ns 1 0) (record {
+  project = getD ns 0 0;
+  kind = getD ns 2 0;
+  study = getD ns 3 0;
+  day = getD ns 4 0;
+  levels = drop 6 ns;
+})
+
+-- 04 offer: developer, count, steps of price and level
+abbrev pub offerOf : List ℕ → Call
+offerOf ns = Offer (getD ns 0 0) (firsts (drop 2 ns)) (seconds (drop 2 ns))
+
+-- by the frame's kind
+unfoldable pub orderOf : RawCall → Order
+orderOf c =
+    cond (eqb (c .kind) 1) (Asks (setUpOf (c .fields)))
+    (cond (eqb (c .kind) 2) (Asks (registrationOf (c .fields)))
+    (cond (eqb (c .kind) 3) (Asks (Open (getD (c .fields) 0 0)))
+    (cond (eqb (c .kind) 4) (Asks (offerOf (c .fields)))
+    (cond (eqb (c .kind) 5) (Asks Close)
+    (Settle (getD (c .fields) 0 0))))))
+
+unfoldable pub ordered : Option RawCall → Order
+ordered none = Malformed
+ordered (some c) = orderOf c
+
+unfoldable pub orderIn : List ℕ → Order
+orderIn line = ordered (read line)

@@ -1,0 +1,57 @@
+-- Counting the choices row by row, up to a most.
+use Prim.Native.Nat.{ℕ, _+_, _-_, _*_, _≤_, _<_}
+use mathlib.Core.Path.{_≡_, sym, ap, _∙_}
+use mathlib.Core.List.{List, []}
+use native.Mathlib.Omega.{arith}
+use native.Mathlib.Nat.{mul-one, one-mul, mul-assoc, mul-le-mul, mul-le-mul-left}
+use lib.ListN.{length, drop, getD, drop-of-length-le}
+use Rattle.choices.specs.Choices.{choices}
+use Rattle.table.specs.Rows.{rowsIn, EndsRise}
+use Rattle.selection.specs.Places.{rowsBehind, left, count, CountedTo}
+use Rattle.selection.proofs.Places.{left-count, rise-row, rise-end, some-choice}
+
+-- the loop before row i, which starts at `at`: the rows before it have n choices
+pub record Tally (ends : List ℕ) (n at i : ℕ) : Type 0 where
+  pub placed : i ≤ 32
+  pub small : n ≤ 65536
+  pub rise : EndsRise at (drop i ends) 288
+  pub all : (levels : List ℕ) → length levels ≡ 288 → count (rowsIn levels 0 ends) ≡ n * count (left levels ends i at)
+
+pub tally-first : (ends : List ℕ) → EndsRise 0 ends 288 → Tally ends 1 0 0
+tally-first ends r = record { placed = omega arith; small = omega arith; rise = r; all = λ levels l. sym (one-mul (count (rowsIn levels 0 ends))) }
+
+module _ {ends : List ℕ} {n at i : ℕ} (t : Tally ends n at i) (e : length ends ≡ 32) where
+  module _ (h : i < 32) where
+    pub tally-row : (at < getD ends i 0) × (getD ends i 0 ≤ 288)
+    tally-row = let r = rise-row ends i at (omega arith) (t .rise) in (r .0, rise-end (getD ends i 0) (drop (i + 1) ends) (r .1))
+
+    pub tally-fits : n * (getD ends i 0 - at) ≤ 18874368
+    tally-fits = let p : n * (getD ends i 0 - at) ≤ 65536 * 288 = mul-le-mul {n₂ = 65536} {m₂ = 288} (t .small) (omega (arith, tally-row .1)) in omega arith
+
+    more : (levels : List ℕ) → length levels ≡ 288 → count (rowsIn levels 0 ends) ≡ n * (getD ends i 0 - at) * count (rowsBehind levels ends i)
+    more levels l =
+        t .all levels l
+        ∙ ap (λ (m : ℕ). n * m) (left-count levels ends i at (omega arith) (omega (arith, tally-row .1)))
+        ∙ sym (mul-assoc n (getD ends i 0 - at) (count (rowsBehind levels ends i)))
+
+    pub tally-again : n * (getD ends i 0 - at) ≤ 65536 → Tally ends (n * (getD ends i 0 - at)) (getD ends i 0) (i + 1)
+    tally-again k = record { placed = omega arith; small = k; rise = rise-row ends i at (omega arith) (t .rise) .1; all = more }
+
+    -- the number of choices is no smaller than that of the rows passed
+    pub tally-over : (most : ℕ) → most < n * (getD ends i 0 - at) → CountedTo most ends (n * (getD ends i 0 - at))
+    tally-over most k = record {
+      within = λ levels l w.
+          let m : ℕ = n * (getD ends i 0 - at) in
+          let rest : ℕ = count (rowsBehind levels ends i) in
+          let s : 0 < rest = some-choice levels l (getD ends i 0) (drop (i + 1) ends) (rise-row ends i at (omega arith) (t .rise) .1) in
+          let g : m * 1 ≤ m * rest = mul-le-mul-left m s in
+          absurd (omega (arith, more levels l, mul-one m));
+      over = λ levels l w. k;
+    }
+
+  pub tally-end : (most : ℕ) → 32 ≤ i → CountedTo most ends n
+  unfolding choices rowsIn
+  tally-end most h =
+      let z : drop i ends ≡ [] = drop-of-length-le ends {i = i} (omega arith) in
+      let all : (levels : List ℕ) → length levels ≡ 288 → count (rowsIn levels 0 ends) ≡ n = λ levels l. t .all levels l ∙ ap (λ (es : List ℕ). n * count (rowsIn levels at es)) z ∙ mul-one n in
+      record { within = λ levels l w. sym (all levels l); over = λ levels l w. omega (arith, all levels l) }

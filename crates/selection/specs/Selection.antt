@@ -1,0 +1,27 @@
+-- What `select` promises.
+use Prim.Native.Nat.{ℕ, min}
+use mathlib.Core.Path.{_≡_}
+use mathlib.Core.Bool.{cond}
+use mathlib.Core.List.{List, []}
+use lib.Dec.{leb}
+use lib.ListN.{length, replicate}
+use Rattle.numbers.specs.Lists.{total}
+use Rattle.choices.specs.Choices.{choices, covering, bestOf}
+use Rattle.table.specs.Rows.{Lays}
+use Rattle.table.specs.declared.Table.{Table}
+use Rattle.selection.specs.declared.Selected.{Selected}
+
+-- what settling a book of rows comes to: refusal 10 where there are more choices than the limit, which above 65,536 means 65,536
+unfoldable pub selectedOf : ℕ → ℕ → List (List ℕ) → Selected
+selectedOf limit d rows =
+    cond (leb (length (choices rows)) (min limit 65536))
+    (record { number = 0; choices = length (choices rows); covering = length (covering d (choices rows)); total = total (bestOf (covering d (choices rows))); award = bestOf (covering d (choices rows)) })
+    (record { number = 10; choices = 0; covering = 0; total = 0; award = replicate 32 0 })
+
+-- a refusal: every other number is 0
+abbrev pub refusedBy : ℕ → Selected
+refusedBy n = record { number = n; choices = 0; covering = 0; total = 0; award = replicate 32 0 }
+
+-- on a table that holds rows of which some choice covers
+pub record Selects (t : Table) (d limit : ℕ) (r : Selected) : Type 0 where
+  pub right : (rows : List (List ℕ)) → Lays t rows → (covering d (choices rows) ≡ [] → ⊥) → r ≡ selectedOf limit d rows

@@ -1,0 +1,264 @@
+-- From what the parts of settling ensure to the ledger's settlement: each refusal in its order, and the accepted answer with its records.
+use Prim.Native.Nat.{ℕ, suc, min, _+_, _*_, _≤_, _<_}
+use mathlib.Core.Path.{_≡_, refl, sym, ap, _∙_, subst}
+use mathlib.Core.Bool.{Bool, true, false, cond}
+use mathlib.Core.List.{List, [], flatten}
+use native.Mathlib.Omega.{arith}
+use native.Mathlib.Numerals.{add-one}
+use lib.Dec.{eqb, leb}
+use lib.ListN.{length, replicate}
+use borrow.Author.Tests.{eq-eqb, ne-eqb, le-leb, lt-leb}
+use Rattle.numbers.specs.Lists.{total}
+use Rattle.choices.specs.Choices.{choices, covering, bestOf}
+use Rattle.rules.specs.Ledger.{Phase, Fresh, Ready, Round, Between, Closed, Ledger}
+use Rattle.rules.specs.Clearing.{highest, high, low, covered, demandAt, closingPrice}
+use Rattle.rules.specs.Refusals.{isClosed}
+use Rattle.rules.specs.Rounds.{ledger}
+use Rattle.rules.specs.Award.{rows, admissible, coveringChoices, award}
+use Rattle.rules.specs.Settling.{recordsFrom, records, settlingNumber, Settlement, settlementAt, settlement}
+use Rattle.sound.specs.Sound.{Sound, started}
+use Rattle.clearing.specs.ClosingPrice.{settings-facts, passed-in-range, closing-price}
+use Rattle.reachable.specs.Reachable.{sound}
+use Rattle.awards.specs.AwardLaws.{some-cover}
+use Rattle.auction.specs.Holds.{phaseNumber, ofEach, auctionOf}
+use Rattle.auction.specs.Called.{demandBy}
+use Rattle.auction.specs.Demands.{demand-is}
+use Rattle.auction.specs.declared.Auction.{Auction}
+use Rattle.price.specs.Prices.{Highests, Lows, ClosingPrice}
+use Rattle.table.specs.Rows.{Lays}
+use Rattle.table.specs.declared.Table.{Table}
+use Rattle.open_levels.specs.Tabled.{Tabled}
+use Rattle.selection.specs.Selection.{selectedOf, Selects}
+use Rattle.selection.specs.declared.Selected.{Selected}
+use Rattle.awarding.specs.Awarding.{Winners, winnersFrom, awardCount, recordsOf, laid}
+use Rattle.awarding.specs.AwardingLaws.{records-are, records-from-count}
+use Rattle.settling.specs.declared.Settled.{Settled}
+use Rattle.settling.specs.Settles.{Settles, refusedWith, settledAs}
+
+closed-number : (p : Phase) → isClosed p ≡ eqb (phaseNumber p) 4
+closed-number Fresh = refl
+closed-number Ready = refl
+closed-number Round = refl
+closed-number Between = refl
+closed-number Closed = refl
+
+closed-started : (p : Phase) → isClosed p ≡ true → started p ≡ true
+closed-started Fresh e = e
+closed-started Ready e = e
+closed-started Round e = refl
+closed-started Between e = refl
+closed-started Closed e = refl
+
+-- of every sound ledger that the auction holds
+abbrev Holding : Auction → (Ledger → Type 0) → Type 0
+Holding a P = (l : Ledger) → Sound l → a ≡ auctionOf l → P l
+
+module _ (a : Auction) (limit : ℕ) (old : List ℕ) where
+  closed-is : (l : Ledger) → a ≡ auctionOf l → isClosed (l .phase) ≡ eqb (a .phase) 4
+  unfolding auctionOf
+  closed-is l h = closed-number (l .phase) ∙ ap (λ (x : Auction). eqb (x .phase) 4) (sym h)
+
+  refusal : (n : ℕ) → (n ≡ 0 → ⊥) → Holding a (λ l. n ≡ settlingNumber l limit (length old)) → Settles a limit old old (refusedWith n)
+  refusal n z f = record {
+    same = λ _. (refl, refl);
+    number = λ cs h. f (ledger cs) (sound cs) h;
+    answer = λ cs h e. absurd (z e);
+    buffer = λ cs h e. absurd (z e);
+  }
+
+  pub settle-phase : (a .phase ≡ 4 → ⊥) → Settles a limit old old (refusedWith 2)
+  unfolding settlingNumber
+  settle-phase z = refusal 2 (omega arith) (λ l s h. simp (closed-is l h ∙ ne-eqb _ 4 z))
+
+-- what the parts computed: P, demand there, and the selection from the table of open levels
+pub record Computed (a : Auction) (limit p demand : ℕ) (lows highs : List ℕ) (s : Selected) : Type 0 where
+  pub phase : a .phase ≡ 4
+  pub highest : List ℕ
+  pub next : ℕ
+  pub table : Table
+  pub highests : Highests (a .declared) highest
+  pub price : ClosingPrice a highest p
+  pub lows-at : Lows (a .histories) highest p lows
+  pub above : p < 4294967295 → next ≡ p + 1
+  pub highs-at : Lows (a .histories) highest next highs
+  pub tabled : Tabled (a .projects) (a .declared) lows highs table
+  pub demand-at : demand ≡ demandBy (a .settings) p
+  pub selects : Selects table demand limit s
+
+-- what that is of the ledger
+pub record Known (l : Ledger) (limit p demand : ℕ) (lows highs : List ℕ) (s : Selected) : Type 0 where
+  pub closed : isClosed (l .phase) ≡ true
+  pub price : p ≡ closingPrice l
+  pub lows-are : lows ≡ ofEach (low p) l
+  pub highs-are : highs ≡ ofEach (high p) l
+  pub demand-is : demand ≡ demandAt l p
+  pub selected : s ≡ selectedOf limit (demandAt l p) (rows l p)
+
+pub known : (a : Auction) (limit p demand : ℕ) (lows highs : List ℕ) (s : Selected) → Computed a limit p demand lows highs s → Holding a (λ l. Known l limit p demand lows highs s)
+unfolding auctionOf demandBy high low coveringChoices admissible
+known a limit p demand lows highs s c l snd h = record {
+  closed = closed;
+  price = price;
+  lows-are = lows-are;
+  highs-are = highs-are;
+  demand-is = demand-at;
+  selected = subst (λ (d : ℕ). s ≡ selectedOf limit d (rows l p)) demand-at (c .selects .right (rows l p) lays (subst (λ (d : ℕ). covering d (choices (rows l p)) ≡ [] → ⊥) (sym demand-at) some));
+}
+  where
+    closed : isClosed (l .phase) ≡ true
+    closed = closed-is a limit [] l h ∙ eq-eqb (a .phase) 4 (c .phase)
+
+    began : started (l .phase) ≡ true
+    began = closed-started (l .phase) closed
+
+    firsts : c .highest ≡ ofEach Rattle.rules.specs.Clearing.highest l
+    firsts = c .highests .right l snd (ap (λ (x : Auction). x .declared) h)
+
+    price : p ≡ closingPrice l
+    price = c .price .right l snd began h firsts
+
+    least-low : l .closing ≤ p
+    least-low = subst (λ (q : ℕ). l .closing ≤ q) (sym price) (closing-price l snd began .low)
+
+    least-high : p ≤ l .settings .a
+    least-high = subst (λ (q : ℕ). q ≤ l .settings .a) (sym price) (closing-price l snd began .high)
+
+    lows-are : lows ≡ ofEach (low p) l
+    lows-are = c .lows-at .right l snd (ap (λ (x : Auction). x .histories) h) firsts
+
+    next-is : c .next ≡ suc p
+    next-is = c .above (let f = settings-facts l snd began in let z = f .bounds .ce-high in let y = f .high in omega (arith, least-high)) ∙ add-one p
+
+    highs-are : highs ≡ ofEach (high p) l
+    highs-are = subst (λ (q : ℕ). highs ≡ ofEach (low q) l) next-is (c .highs-at .right l snd (ap (λ (x : Auction). x .histories) h) firsts)
+
+    demand-at : demand ≡ demandAt l p
+    demand-at = c .demand-at ∙ ap (λ (x : Auction). demandBy (x .settings) p) h ∙ demand-is _ _ _ _ _ (settings-facts l snd began .bounds) (passed-in-range l snd began p least-low least-high)
+
+    lays : Lays (c .table) (rows l p)
+    lays = c .tabled .right l p snd (ap (λ (x : Auction). x .projects) h) (ap (λ (x : Auction). x .declared) h) lows-are highs-are
+
+    some : covering (demandAt l p) (choices (rows l p)) ≡ [] → ⊥
+    some = some-cover l p snd (subst (λ (q : ℕ). covered l q ≡ true) (sym price) (closing-price l snd began .passes))
+
+-- ---- the selection's two answers
+
+abbrev chosen : ℕ → List (List ℕ) → Selected
+chosen d rs = record {
+  number = 0;
+  choices = length (choices rs);
+  covering = length (covering d (choices rs));
+  total = total (bestOf (covering d (choices rs)));
+  award = bestOf (covering d (choices rs));
+}
+
+abbrev overTen : Selected
+overTen = record { number = 10; choices = 0; covering = 0; total = 0; award = replicate 32 0 }
+
+-- refused: by 10, and the choices outnumber the limit
+over-limit : (limit d : ℕ) (rs : List (List ℕ)) (s : Selected) → s ≡ selectedOf limit d rs → (s .number ≡ 0 → ⊥) → (s .number ≡ 10) × (leb (length (choices rs)) (min limit 65536) ≡ false)
+unfolding selectedOf
+over-limit limit d rs s e z = go (leb (length (choices rs)) (min limit 65536)) refl e
+  where
+    go : (b : Bool) → leb (length (choices rs)) (min limit 65536) ≡ b → s ≡ cond b (chosen d rs) overTen → (s .number ≡ 10) × (b ≡ false)
+    go true f e = absurd (z (ap (λ (x : Selected). x .number) e))
+    go false f e = (ap (λ (x : Selected). x .number) e, refl)
+
+within-limit : (limit d : ℕ) (rs : List (List ℕ)) (s : Selected) → s ≡ selectedOf limit d rs → s .number ≡ 0 → (s ≡ chosen d rs) × (leb (length (choices rs)) (min limit 65536) ≡ true)
+unfolding selectedOf
+within-limit limit d rs s e z = go (leb (length (choices rs)) (min limit 65536)) refl e
+  where
+    go : (b : Bool) → leb (length (choices rs)) (min limit 65536) ≡ b → s ≡ cond b (chosen d rs) overTen → (s ≡ chosen d rs) × (b ≡ true)
+    go true f e = (e, refl)
+    go false f e = absurd (let k : _≡_ {A = ℕ} 10 0 = sym (ap (λ (x : Selected). x .number) e) ∙ z in omega arith)
+
+-- ---- the returns
+
+module _ (a : Auction) (limit p demand : ℕ) (lows highs : List ℕ) (s : Selected) (c : Computed a limit p demand lows highs s) (old : List ℕ) where
+  pub settle-over : (s .number ≡ 0 → ⊥) → Settles a limit old old (refusedWith (s .number))
+  unfolding settlingNumber admissible
+  settle-over z = refusal a limit old (s .number) z (λ l snd h.
+      let k = known a limit p demand lows highs s c l snd h in
+      let o = over-limit limit (demandAt l p) (rows l p) s (k .selected) z in
+      let e : leb (length (choices (rows l (closingPrice l)))) (min limit 65536) ≡ false = subst (λ (q : ℕ). leb (length (choices (rows l q))) (min limit 65536) ≡ false) (k .price) (o .1) in
+      o .0 ∙ sym (simp (k .closed, e)))
+
+  module _ (z : s .number ≡ 0) (n : ℕ) (counted : n ≡ awardCount (s .award)) where
+    -- accepted so far: the award, its total and the counts are the ledger's at p
+    module _ (l : Ledger) (snd : Sound l) (h : a ≡ auctionOf l) where
+      k : Known l limit p demand lows highs s
+      k = known a limit p demand lows highs s c l snd h
+
+      w : (s ≡ chosen (demandAt l p) (rows l p)) × (leb (length (choices (rows l p))) (min limit 65536) ≡ true)
+      w = within-limit limit (demandAt l p) (rows l p) s (k .selected) z
+
+      award-is : s .award ≡ award l p
+      unfolding award coveringChoices admissible
+      award-is = ap (λ (x : Selected). x .award) (w .0)
+
+      records-are-n : length (records l p) ≡ n
+      unfolding records
+      records-are-n = records-from-count l p 1 (award l p) ∙ ap awardCount (sym award-is) ∙ sym counted
+
+      limit-kept : leb (length (choices (rows l (closingPrice l)))) (min limit 65536) ≡ true
+      limit-kept = subst (λ (q : ℕ). leb (length (choices (rows l q))) (min limit 65536) ≡ true) (k .price) (w .1)
+
+      records-at : length (records l (closingPrice l)) ≡ n
+      records-at = subst (λ (q : ℕ). length (records l q) ≡ n) (k .price) records-are-n
+
+    pub settle-no-room : length old < 6 * n → Settles a limit old old (refusedWith 11)
+    unfolding settlingNumber admissible
+    settle-no-room short = refusal a limit old 11 (omega arith) (λ l snd h.
+        let e = records-at l snd h in
+        simp (k l snd h .closed, limit-kept l snd h, lt-leb (6 * length (records l (closingPrice l))) (length old) (omega arith)))
+
+    abbrev pub accepted : Settled
+    accepted = record {
+      number = 0;
+      price = p;
+      demand = demand;
+      total = s .total;
+      choices = s .choices;
+      covering = s .covering;
+      records = n;
+    }
+
+    module _ (room : 6 * n ≤ length old) (ns new : List ℕ) (won : Winners (a .projects) (a .studies) (a .days) (a .declared) lows highs (s .award) ns) (written : new ≡ laid (flatten (recordsOf 1 (s .award) ns)) old) where
+      records-written : (l : Ledger) → Sound l → a ≡ auctionOf l → recordsOf 1 (s .award) ns ≡ records l p
+      unfolding auctionOf records
+      records-written l snd h =
+          ap (λ (r : List ℕ). recordsOf 1 (s .award) r)
+          (won .right l p snd (record {
+            projects = ap (λ (x : Auction). x .projects) h;
+            studies = ap (λ (x : Auction). x .studies) h;
+            days = ap (λ (x : Auction). x .days) h;
+            declared = ap (λ (x : Auction). x .declared) h;
+            lows = k l snd h .lows-are;
+            highs = k l snd h .highs-are;
+          }))
+          ∙ records-are l p 1 (s .award)
+          ∙ ap (recordsFrom l p 1) (award-is l snd h)
+
+      settled-is : (l : Ledger) → Sound l → a ≡ auctionOf l → accepted ≡ settledAs (settlementAt l p)
+      unfolding settlementAt award coveringChoices admissible
+      settled-is l snd h = λ i. record {
+        number = 0;
+        price = p;
+        demand = k l snd h .demand-is i;
+        total = w l snd h .0 i .total;
+        choices = w l snd h .0 i .choices;
+        covering = w l snd h .0 i .covering;
+        records = sym (records-are-n l snd h) i;
+      }
+
+      pub settle-accepted : Settles a limit old new accepted
+      unfolding settlingNumber admissible settlement settlementAt records
+      settle-accepted = record {
+        same = λ f. absurd (f refl);
+        number = λ cs h.
+            let l = ledger cs in
+            let e = records-at l (sound cs) h in
+            sym (simp (k l (sound cs) h .closed, limit-kept l (sound cs) h, le-leb (6 * length (records l (closingPrice l))) (length old) (omega arith)));
+        answer = λ cs h _. settled-is (ledger cs) (sound cs) h ∙ ap (λ (q : ℕ). settledAs (settlementAt (ledger cs) q)) (k (ledger cs) (sound cs) h .price);
+        buffer = λ cs h _. written ∙ ap (λ (rs : List (List ℕ)). laid (flatten rs) old) (records-written (ledger cs) (sound cs) h) ∙ ap (λ (q : ℕ). laid (flatten (settlementAt (ledger cs) q .records)) old) (k (ledger cs) (sound cs) h .price);
+      }

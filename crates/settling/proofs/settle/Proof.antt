@@ -1,0 +1,110 @@
+-- Settling: each refusal in its order, then the records of the award. What the parts ensure is gathered once, in `computed`.
+use mathlib.Core.Path.{_≡_, sym, subst}
+use native.Mathlib.Omega.{arith}
+use borrow.Author.Needs.{needs}
+use Rattle.settling.specs.declared.Settled.{Settled}
+use Rattle.settling.specs.Settles.{Settles}
+use Rattle.settling.proofs.Settling.{Computed, settle-phase, settle-over, settle-no-room, settle-accepted}
+use Rattle.settling.proofs.settle.Statement.{statement}
+use Rattle.settling.proofs.settle.Tie as tie
+
+computed : (c : tie.After-select) → Computed (c .before .before .before .before .before .before .before .before .before .before .before .before .before .before .args .auction) (c .before .before .before .before .before .before .before .before .before .before .before .before .before .before .args .limit) (c .before .before .before .before .before .before .closing-price .result) (c .before .demand-at .result) (c .before .before .before .before .before .lows-at .result) (c .before .before .before .lows-at2 .result) (c .select .result)
+computed c = record {
+  phase = c .before .before .before .before .before .before .before .before .before .before .before .if1 .left;
+  highest = c .before .before .before .before .before .before .before .highest-levels .result;
+  next = c .before .before .before .before .above .result;
+  table = c .before .before .table-of .result;
+  highests = c .before .before .before .before .before .before .before .highest-levels .ensures;
+  price = c .before .before .before .before .before .before .closing-price .ensures;
+  lows-at = c .before .before .before .before .before .lows-at .ensures;
+  above = c .before .before .before .before .above .ensures;
+  highs-at = c .before .before .before .lows-at2 .ensures;
+  tabled = c .before .before .table-of .ensures;
+  demand-at = c .before .demand-at .ensures .0;
+  selects = c .select .ensures;
+}
+
+refused-requires : tie.Need-refused-requires
+refused-requires c κs = search needs
+
+returns : tie.Need-returns
+returns c = rw (c .refused .ensures) (settle-phase _ _ _ (c .before .if1 .taken))
+
+highest-levels-requires : tie.Need-highest-levels-requires
+highest-levels-requires c κs = search needs
+
+closing-price-requires : tie.Need-closing-price-requires
+closing-price-requires c κs = search needs
+
+lows-at-requires : tie.Need-lows-at-requires
+lows-at-requires c κs = search needs
+
+above-requires : tie.Need-above-requires
+above-requires c κs = search needs
+
+lows-at-requires-2 : tie.Need-lows-at-requires-2
+lows-at-requires-2 c κs = search needs
+
+table-of-requires : tie.Need-table-of-requires
+table-of-requires c κs = search needs
+
+demand-at-requires : tie.Need-demand-at-requires
+demand-at-requires c κs = search needs
+
+select-requires : tie.Need-select-requires
+select-requires c κs = search needs
+
+refused-requires-2 : tie.Need-refused-requires-2
+refused-requires-2 c κs = search needs
+
+returns-2 : tie.Need-returns-2
+returns-2 c = rw (c .refused2 .ensures) (settle-over _ _ _ _ _ _ _ (computed (c .before .before .before)) _ (c .before .if2 .taken))
+
+count-awards-requires : tie.Need-count-awards-requires
+count-awards-requires c κs = search needs
+
+mul-if3 : tie.Need-mul-if3
+mul-if3 c = search needs
+
+refused-requires-3 : tie.Need-refused-requires-3
+refused-requires-3 c κs = search needs
+
+returns-3 : tie.Need-returns-3
+returns-3 c = rw (c .refused3 .ensures) (settle-no-room _ _ _ _ _ _ _ (computed (c .before .before .before .before .before .before)) _ (c .before .before .before .before .if2 .left) _ (c .before .before .count-awards .ensures .0) (c .before .if3 .taken))
+
+winners-requires : tie.Need-winners-requires
+winners-requires c κs = search needs
+
+write-awards-requires : tie.Need-write-awards-requires
+write-awards-requires c κs = search needs
+
+same-length : tie.Need-same-length
+same-length c = search needs
+
+returns-4 : tie.Need-returns-4
+returns-4 c = settle-accepted _ _ _ _ _ _ _ (computed (c .before .before .before .before .before .before .before .before .before .before .before .before)) _ (c .before .before .before .before .before .before .before .before .before .before .if2 .left) _ (c .before .before .before .before .before .before .before .before .count-awards .ensures .0) (c .before .before .before .before .before .before .before .if3 .left) _ _ (c .before .before .before .before .winners .ensures) (c .before .before .write-awards .ensures)
+
+pub settle-spec : {M : Type 1} → statement M
+settle-spec =
+    tie.close
+    (tie.spec
+    refused-requires
+    returns
+    highest-levels-requires
+    closing-price-requires
+    lows-at-requires
+    above-requires
+    lows-at-requires-2
+    table-of-requires
+    demand-at-requires
+    select-requires
+    refused-requires-2
+    returns-2
+    count-awards-requires
+    mul-if3
+    refused-requires-3
+    returns-3
+    winners-requires
+    write-awards-requires
+    same-length
+    returns-4)

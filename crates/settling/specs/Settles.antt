@@ -1,0 +1,36 @@
+-- What settling ensures. `a` is the auction, `old` and `new` the lent buffer before and after, `r` the answer.
+use Prim.Native.Nat.{ℕ}
+use mathlib.Core.Path.{_≡_}
+use mathlib.Core.List.{List, flatten}
+use lib.ListN.{length}
+use Rattle.rules.specs.Ledger.{Call, Ledger}
+use Rattle.rules.specs.Rounds.{ledger}
+use Rattle.rules.specs.Settling.{Settlement, settlement, settlingNumber}
+use Rattle.auction.specs.Holds.{auctionOf}
+use Rattle.auction.specs.declared.Auction.{Auction}
+use Rattle.awarding.specs.Awarding.{laid}
+use Rattle.settling.specs.declared.Settled.{Settled}
+
+-- a refusal: its number, every other number 0
+abbrev pub refusedWith : ℕ → Settled
+refusedWith n = record { number = n; price = 0; demand = 0; total = 0; choices = 0; covering = 0; records = 0 }
+
+-- an acceptance, in the numbers of the settlement
+abbrev pub settledAs : Settlement → Settled
+settledAs s = record {
+  number = 0;
+  price = s .price;
+  demand = s .demand;
+  total = s .total;
+  choices = s .choices;
+  covering = s .covering;
+  records = length (s .records);
+}
+
+-- Refused, on every value of the struct: every other number is 0 and the buffer stays. And for every list of calls whose ledger the auction
+-- holds: the number is the ledger's; accepted, the answer is the settlement's and the buffer holds its records, then its old bytes
+pub record Settles (a : Auction) (limit : ℕ) (old new : List ℕ) (r : Settled) : Type 0 where
+  pub same : (r .number ≡ 0 → ⊥) → (r ≡ refusedWith (r .number)) × (new ≡ old)
+  pub number : (cs : List Call) → a ≡ auctionOf (ledger cs) → r .number ≡ settlingNumber (ledger cs) limit (length old)
+  pub answer : (cs : List Call) → a ≡ auctionOf (ledger cs) → r .number ≡ 0 → r ≡ settledAs (settlement (ledger cs))
+  pub buffer : (cs : List Call) → a ≡ auctionOf (ledger cs) → r .number ≡ 0 → new ≡ laid (flatten (settlement (ledger cs) .records)) old

@@ -1,0 +1,69 @@
+// Settling a closed auction: closing price, award, counts, and the award records in the lent buffer (document 01, Closing price and award).
+ghost use Rattle.settling.specs.Settles.{Settles, refusedWith};
+ghost use mathlib.Core.Path.{_≡_};
+use auction::Auction;
+
+// The answer: 0 or a refusal's number; P, Dem(P), the award's total, the numbers of admissible and of covering choices, and of award
+// records. A refusal has 0 in every other place.
+pub struct Settled {
+    pub number: u8,
+    pub price: u32,
+    pub demand: u64,
+    pub total: u64,
+    pub choices: u64,
+    pub covering: u64,
+    pub records: usize,
+}
+
+fn refused(number: u8) -> Settled
+    ensures { λ r. ⌜ r ≡ refusedWith number ⌝ }
+{
+    Settled {
+        number: number,
+        price: 0,
+        demand: 0,
+        total: 0,
+        choices: 0,
+        covering: 0,
+        records: 0,
+    }
+}
+
+pub fn settle(auction: Auction, limit: u32, awards: &mut [u8]) -> Settled
+    ensures { λ r. ⌜ Settles auction limit (now (awards .entry)) (now (awards .exit)) r ⌝ }
+{
+    if auction.phase != Auction::CLOSED {
+        return refused(2);
+    }
+    let projects = auction.projects;
+    let declared = auction.declared;
+    let histories = auction.histories;
+    let highest = price::highest_levels(declared);
+    let p = price::closing_price(auction, highest);
+    let lows = price::lows_at(histories, highest, p);
+    let highs = price::lows_at(histories, highest, price::above(p));
+    let table = open_levels::table_of(projects, declared, lows, highs);
+    let demand = auction.demand_at(p);
+    let selected = selection::select(table, demand, limit as u64);
+    if selected.number != 0 {
+        return refused(selected.number);
+    }
+    let award = selected.award;
+    let records = awarding::count_awards(award);
+    if awards.len() < 6 * records {
+        return refused(11);
+    }
+    let studies = auction.studies;
+    let days = auction.days;
+    let winners = awarding::winners(projects, studies, days, declared, lows, highs, award);
+    awarding::write_awards(awards, award, winners);
+    Settled {
+        number: 0,
+        price: p,
+        demand: demand,
+        total: selected.total,
+        choices: selected.choices,
+        covering: selected.covering,
+        records: records,
+    }
+}

@@ -1,0 +1,4 @@
+pub mod EveryList
+pub mod Stated
+pub mod StatedLaws
+pub mod Settling

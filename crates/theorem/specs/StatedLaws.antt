@@ -1,0 +1,107 @@
+-- What settling's contract says is what is stated of it.
+use Prim.Native.Nat.{ℕ, min, _-_, _*_, _≤_, _<_}
+use mathlib.Core.Path.{_≡_, refl, sym, ap, _∙_, subst}
+use mathlib.Core.Logic.{_↔_}
+use mathlib.Core.Bool.{Bool, true, false}
+use mathlib.Core.List.{List, [], _∷_, flatten}
+use native.Mathlib.Omega.{arith}
+use lib.Dec.{leb}
+use lib.ListN.{length}
+use borrow.Author.Tests.{le-leb, leb-true}
+use Rattle.numbers.specs.Cases.{clash, not-true}
+use Rattle.numbers.specs.Least.{Least}
+use Rattle.rules.specs.Ledger.{Call, Phase, Fresh, Ready, Round, Between, Closed, Ledger}
+use Rattle.rules.specs.Clearing.{covered, closingPrice}
+use Rattle.rules.specs.Refusals.{isClosed}
+use Rattle.rules.specs.Rounds.{ledger}
+use Rattle.rules.specs.Award.{admissible}
+use Rattle.rules.specs.Settling.{records, settlingNumber, Settlement, settlementAt, settlement}
+use Rattle.sound.specs.Sound.{Sound, started}
+use Rattle.reachable.specs.Reachable.{sound}
+use Rattle.clearing.specs.ClosingPrice.{closing-price}
+use Rattle.awards.specs.AwardLaws.{award-at-closing}
+use Rattle.awards.specs.Winners.{winner-open, winner-preferred, awarded-open}
+use Rattle.auction.specs.Holds.{auctionOf}
+use Rattle.auction.specs.declared.Auction.{Auction}
+use Rattle.awarding.specs.Awarding.{laid}
+use Rattle.settling.specs.Settles.{Settles, settledAs}
+use Rattle.settling.specs.declared.Settled.{Settled}
+use Rattle.theorem.specs.Stated.{Goes, InSomeOrder, none, same, Written, Accepted, Within, Fit, Stated}
+
+closed-started : (p : Phase) → isClosed p ≡ true → started p ≡ true
+closed-started Fresh e = e
+closed-started Ready e = e
+closed-started Round e = refl
+closed-started Between e = refl
+closed-started Closed e = refl
+
+as-it-is : {A : Type 0} (xs : List A) → InSomeOrder xs xs
+as-it-is [] = none
+as-it-is (x ∷ xs) = same (as-it-is xs)
+
+module _ (l : Ledger) (s : Sound l) (c : isClosed (l .phase) ≡ true) (old new : List ℕ) where
+  began : started (l .phase) ≡ true
+  began = closed-started (l .phase) c
+
+  covers : covered l (closingPrice l) ≡ true
+  covers = closing-price l s began .passes
+
+  at-closing : (r : Settled) → r ≡ settledAs (settlementAt l (closingPrice l)) → new ≡ laid (flatten (records l (closingPrice l))) old → Accepted l old new r
+  unfolding settlementAt
+  at-closing r e w = subst (λ (x : Settled). Accepted l old new x) (sym e) (record {
+    price = closing-price l s began;
+    demand = refl;
+    best = award-at-closing l s began;
+    total-is = refl;
+    choices = refl;
+    covering = refl;
+    goes = λ k low high v.
+        let o = awarded-open l (closingPrice l) k s covers low high v in
+        let n = winner-open l (closingPrice l) k _ o in
+        record { developer = n .0; is-open = n .1; preferred = winner-preferred l (closingPrice l) k _ o };
+    count = refl;
+    written = record { order = records l (closingPrice l); each-once = as-it-is (records l (closingPrice l)); bytes = w };
+  })
+
+-- the numbers, by the two tests
+module _ (l : Ledger) (limit : ℕ) (old : List ℕ) (n : ℕ) (e : n ≡ settlingNumber l limit (length old)) where
+  open-number : isClosed (l .phase) ≡ false → n ≡ 2
+  unfolding settlingNumber
+  open-number c = e ∙ simp c
+
+  module _ (c : isClosed (l .phase) ≡ true) where
+    outnumbered : (Within l limit → ⊥) → n ≡ 10
+    unfolding settlingNumber
+    outnumbered w = e ∙ simp (c, not-true (leb (length (admissible l (closingPrice l))) (min limit 65536)) (λ t. w (leb-true _ _ t)))
+
+    too-short : Within l limit → (Fit l old → ⊥) → n ≡ 11
+    unfolding settlingNumber
+    too-short w f = e ∙ simp (c, le-leb _ _ w, not-true (leb (6 * length (records l (closingPrice l))) (length old)) (λ t. f (leb-true _ _ t)))
+
+    fitting : Within l limit → Fit l old → n ≡ 0
+    unfolding settlingNumber
+    fitting w f = e ∙ simp (c, le-leb _ _ w, le-leb _ _ f)
+
+    only-then : n ≡ 0 → Within l limit × Fit l old
+    only-then z = within (leb (length (admissible l (closingPrice l))) (min limit 65536)) refl
+      where
+        fits : Within l limit → (b : Bool) → leb (6 * length (records l (closingPrice l))) (length old) ≡ b → Within l limit × Fit l old
+        fits w true g = (w, leb-true _ _ g)
+        fits w false g = absurd (let k : n ≡ 11 = too-short w (λ f. clash (le-leb _ _ f) g) in omega arith)
+
+        within : (b : Bool) → leb (length (admissible l (closingPrice l))) (min limit 65536) ≡ b → Within l limit × Fit l old
+        within true g = fits (leb-true _ _ g) (leb (6 * length (records l (closingPrice l))) (length old)) refl
+        within false g = absurd (let k : n ≡ 10 = outnumbered (λ w. clash (le-leb _ _ w) g) in omega arith)
+
+pub stated : (cs : List Call) (a : Auction) (limit : ℕ) (old new : List ℕ) (r : Settled) → a ≡ auctionOf (ledger cs) → Settles a limit old new r → Stated (ledger cs) limit old new r
+unfolding settlement settlementAt
+stated cs a limit old new r h s =
+    let n = s .number cs h in
+    record {
+      not-closed = open-number (ledger cs) limit old (r .number) n;
+      exactly = λ c. (only-then (ledger cs) limit old (r .number) n c, (λ w. fitting (ledger cs) limit old (r .number) n c (w .0) (w .1)));
+      by-10 = outnumbered (ledger cs) limit old (r .number) n;
+      by-11 = too-short (ledger cs) limit old (r .number) n;
+      refused = s .same;
+      accepted = λ c z. at-closing (ledger cs) (sound cs) c old new r (s .answer cs h z) (s .buffer cs h z);
+    }
