@@ -7,6 +7,7 @@
 #ifndef REFERENCE_ENGINE_H
 #define REFERENCE_ENGINE_H
 
+#include <stddef.h>
 #include <stdint.h>
 
 #ifdef __cplusplus
@@ -33,6 +34,25 @@ extern "C" {
  * touches no memory of the host, so any number of threads may make it at once.
  */
 uint64_t demand(uint64_t ce, uint64_t d, uint64_t m1, uint64_t m2, uint64_t p);
+
+/*
+ * Replays a recorded auction from a fresh one: a frame a line in, a reply a line out, as
+ * docs/FORMAT.md describes them.
+ *
+ *   record   the record's bytes, record_length of them; only read
+ *   replies  the lent buffer, replies_length bytes; not overlapping the record
+ *
+ * Returns the number of bytes written, from the buffer's start; the bytes behind them stay. If
+ * the replies do not fit, the buffer stays as it was and the call returns
+ * REFERENCE_ENGINE_REFUSAL(11), which is 2^64 - 11.
+ *
+ * There are no further preconditions: any bytes in any number may be passed, and a length of 0
+ * goes with any pointer, NULL too. Refused calls and malformed lines are answered in the
+ * replies. The call keeps no state and touches no other memory of the host, so any number of
+ * threads may make it at once, each with its own buffer.
+ */
+uint64_t replay(const uint8_t *record, size_t record_length, uint8_t *replies,
+                size_t replies_length);
 
 #ifdef __cplusplus
 }

@@ -1,6 +1,8 @@
 // The calls that a C host links: plain numbers and byte slices, no preconditions.
 ghost use mathlib.Core.Path.{_≡_};
 ghost use Rattle.curve.specs.Answer.{demandAnswer};
+ghost use Rattle.replies.specs.Replies.{replies};
+ghost use Rattle.replaying.specs.Replayed.{hosted, over};
 ghost use Rattle.host.specs.Host.{hostNumber};
 use demand::Demanded;
 
@@ -15,4 +17,13 @@ pub extern "C" fn demand(ce: u64, d: u64, m1: u64, m2: u64, p: u64) -> u64
         Demanded::Quantity(q) => q,
         Demanded::OutOfBounds => REFUSAL_1,
     }
+}
+
+// Replays a record: the bytes written, or 2^64 - 11 where the replies do not fit.
+#[no_mangle]
+pub extern "C" fn replay(src: &[u8], out: &mut [u8]) -> u64
+    ensures { λ r. ⌜ r ≡ hosted (replies (now (src .entry))) (now (out .entry)) ⌝ }
+    ensures { λ _. ⌜ now (out .exit) ≡ over (replies (now (src .entry))) (now (out .entry)) ⌝ }
+{
+    replaying::replay(src, out)
 }

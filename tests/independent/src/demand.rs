@@ -20,7 +20,7 @@ pub fn demand_by_scan(ce: u64, d: u64, m1: u64, m2: u64, p: u64) -> Answer {
 const HIGHEST_CE: u64 = 500_000;
 
 /// The paper's highest M2.
-const HIGHEST_M2: u64 = 100_000_000_000;
+pub(crate) const HIGHEST_M2: u64 = 100_000_000_000;
 
 /// The curve's settings, signed and wide enough for every product below.
 struct Curve {

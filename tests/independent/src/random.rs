@@ -32,7 +32,32 @@ impl Random {
     }
 
     pub fn one_of<T: Copy>(&mut self, values: &[T]) -> T {
-        values[self.between(0, values.len() as u64 - 1) as usize]
+        values[self.index(values.len())]
+    }
+
+    /// An index below `length`.
+    pub fn index(&mut self, length: usize) -> usize {
+        self.between(0, length as u64 - 1) as usize
+    }
+
+    /// True in so many of a hundred cases.
+    pub fn chance(&mut self, percent: u64) -> bool {
+        self.between(1, 100) <= percent
+    }
+
+    pub fn shuffle<T>(&mut self, values: &mut [T]) {
+        for last in (1..values.len()).rev() {
+            values.swap(last, self.index(last + 1));
+        }
+    }
+
+    /// So many of the values, or all if they are fewer, in their order.
+    pub fn some_of<T: Copy>(&mut self, values: &[T], count: usize) -> Vec<T> {
+        let mut places: Vec<usize> = (0..values.len()).collect();
+        self.shuffle(&mut places);
+        places.truncate(count);
+        places.sort_unstable();
+        places.into_iter().map(|place| values[place]).collect()
     }
 }
 
@@ -62,5 +87,15 @@ mod tests {
         }
         random.between(0, u64::MAX);
         random.of_any_size(0, u64::MAX);
+    }
+
+    #[test]
+    fn some_keep_their_order() {
+        let mut random = Random::new(2);
+        for count in 0..=7 {
+            let some = random.some_of(&[1, 2, 3, 4, 5], count);
+            assert_eq!(some.len(), count.min(5));
+            assert!(some.is_sorted_by(|before, after| before < after));
+        }
     }
 }

@@ -1,0 +1,75 @@
+// A record replayed from a fresh auction into a lent buffer (document 01, Frames): the sizes of the replies first, then the replies, each
+// into the tail that is left. Nothing is written unless all fits.
+ghost use mathlib.Core.Path.{_≡_};
+ghost use Prim.Native.Nat.{_≤_};
+ghost use lib.Dec.{leb};
+ghost use lib.ListN.{length};
+ghost use Rattle.format.specs.Hex.{laid};
+ghost use Rattle.replies.specs.Orders.{orderIn};
+ghost use Rattle.replies.specs.Replies.{replies};
+ghost use Rattle.turns.specs.Turns.{Takes};
+ghost use Rattle.replaying.specs.Replayed.{hosted, over};
+use auction::Auction;
+use turns::Turn;
+
+// The next auction and the reply to a line.
+fn step(auction: Auction, line: &[u8]) -> Turn
+    ensures { λ r. ⌜ Takes auction (orderIn (now (line .entry))) r ⌝ }
+{
+    turns::respond(auction, frames::decode(line))
+}
+
+// Whether the replies to a record fit so many bytes.
+fn fits(bytes: &[u8], limit: usize) -> bool
+    ensures { λ r. ⌜ r ≡ leb (length (replies (now (bytes .entry)))) limit ⌝ }
+{
+    let mut auction = Auction::new();
+    let mut at: usize = 0;
+    let mut used: usize = 0;
+    while at < bytes.len() {
+        let line = frames::next_line(bytes, at);
+        let turn = step(auction, line);
+        let reply = turn.reply;
+        let n = reply_text::size(reply);
+        if limit - used < n {
+            return false;
+        }
+        let next = turn.auction;
+        auction = next;
+        used += n;
+        at = at + line.len() + 1;
+    }
+    true
+}
+
+// Writes the replies to a record, which fit, and gives their number of bytes.
+fn write(bytes: &[u8], out: &mut [u8]) -> usize
+    requires { ⌜ length (replies (now bytes)) ≤ length (now out) ⌝ }
+    ensures { λ r. ⌜ (r ≡ length (replies (now (bytes .entry)))) × (now (out .exit) ≡ laid (replies (now (bytes .entry))) (now (out .entry))) ⌝ }
+{
+    let mut auction = Auction::new();
+    let mut at: usize = 0;
+    let mut used: usize = 0;
+    while at < bytes.len() {
+        let line = frames::next_line(bytes, at);
+        let turn = step(auction, line);
+        let reply = turn.reply;
+        reply_text::put(&mut out[used..], reply);
+        let next = turn.auction;
+        auction = next;
+        used += reply_text::size(reply);
+        at = at + line.len() + 1;
+    }
+    used
+}
+
+// Replays a record: how many bytes its replies have, or 2^64 less 11 where they do not fit the buffer.
+pub fn replay(bytes: &[u8], out: &mut [u8]) -> u64
+    ensures { λ r. ⌜ r ≡ hosted (replies (now (bytes .entry))) (now (out .entry)) ⌝ }
+    ensures { λ _. ⌜ now (out .exit) ≡ over (replies (now (bytes .entry))) (now (out .entry)) ⌝ }
+{
+    if fits(bytes, out.len()) {
+        return write(bytes, out) as u64;
+    }
+    18446744073709551605
+}

@@ -1,0 +1,269 @@
+//! The ledger of document 01: what the calls of one auction leave behind, in order.
+//! Each call makes the paper's checks in the paper's order; a refused one changes nothing.
+//! Numbers come in as wide as a caller can pass them and are held as u64.
+
+mod developer;
+
+use crate::{
+    demand, require, BAD_LEVEL, BAD_NUMBER, BAD_REGISTRATION, BAD_ROUND_PRICE, BAD_STEPS,
+    BEYOND_BOUNDS, NOT_IN_THIS_PHASE, OPENING_NOT_COVERED, SECOND_OFFER,
+};
+use developer::may_be_declared;
+pub use developer::{Developer, Withdrawal};
+use std::collections::BTreeMap;
+use std::iter;
+use std::ops::RangeInclusive;
+
+/// The numbers of projects and developers (document 01, Registration).
+pub const NUMBERS: RangeInclusive<u8> = 1..=32;
+/// Kind of an existing plant (document 01, Registration).
+pub const EXISTING: u8 = 1;
+/// Kind of a new plant (document 01, Registration).
+pub const NEW: u8 = 2;
+/// Most levels of a developer (document 01, Registration).
+pub const MOST_LEVELS: usize = 8;
+/// Highest level that may be declared (document 01, Registration).
+pub const HIGHEST_LEVEL: u32 = 1_000_000_000;
+/// Most steps of an offer (document 01, Rounds).
+pub const MOST_STEPS: usize = 8;
+
+/// The ledger, document 01's term (Closing price and award).
+#[derive(Clone, Debug, Default, PartialEq, Eq)]
+pub struct Auction {
+    phase: Phase,
+    settings: Settings,
+    developers: BTreeMap<u8, Developer>,
+    last_c: Option<u64>,
+}
+
+/// Which calls are accepted (document 01, Rounds).
+#[derive(Clone, Debug, Default, PartialEq, Eq)]
+pub enum Phase {
+    /// Accepts set-up.
+    #[default]
+    Fresh,
+    /// Accepts registrations and the first opening.
+    Registering,
+    /// Accepts offers and closing.
+    RoundOpen(Round),
+    /// Accepts a further opening.
+    BetweenRounds,
+    /// Accepts settling.
+    Closed,
+}
+
+/// The settings that set-up stores; all 0 before it.
+#[derive(Clone, Copy, Debug, Default, PartialEq, Eq)]
+pub struct Settings {
+    pub ce: u64,
+    pub d: u64,
+    pub m1: u64,
+    pub m2: u64,
+    pub a: u64,
+}
+
+impl Settings {
+    pub fn floor(&self) -> u64 {
+        self.ce / 2
+    }
+
+    /// Dem(p), for a price that the clock can pass.
+    pub fn demand(&self, p: u64) -> u64 {
+        demand(self.ce, self.d, self.m1, self.m2, p).expect("settings and price within the bounds")
+    }
+}
+
+/// An open round: its prices and the offers accepted so far, by developer.
+#[derive(Clone, Debug, PartialEq, Eq)]
+pub struct Round {
+    pub opening_price: u64,
+    pub c: u64,
+    pub offers: BTreeMap<u8, Vec<Withdrawal>>,
+}
+
+impl Round {
+    /// Prices fall strictly and lie from C to the opening price less 1.
+    fn admits(&self, prices: &[u32]) -> bool {
+        let inside = |&price: &u32| (self.c..self.opening_price).contains(&price.into());
+        prices.iter().all(inside) && prices.is_sorted_by(|before, after| before > after)
+    }
+}
+
+impl Auction {
+    pub fn new() -> Auction {
+        Auction::default()
+    }
+
+    /// Checks: 2, 1.
+    pub fn set_up(&mut self, ce: u64, d: u64, m1: u64, m2: u64, a: u64) -> Result<(), u8> {
+        require(self.phase == Phase::Fresh, NOT_IN_THIS_PHASE)?;
+        // The demand call refuses each setting and price beyond the same bounds, except that A
+        // is above the floor.
+        demand(ce, d, m1, m2, a)?;
+        require(a > ce / 2, BEYOND_BOUNDS)?;
+        self.settings = Settings { ce, d, m1, m2, a };
+        self.phase = Phase::Registering;
+        Ok(())
+    }
+
+    /// Checks: 2, 3, 4.
+    pub fn register(
+        &mut self,
+        project: u8,
+        developer: u8,
+        kind: u8,
+        study_value: u32,
+        start_day: u32,
+        levels: &[u32],
+    ) -> Result<(), u8> {
+        require(self.phase == Phase::Registering, NOT_IN_THIS_PHASE)?;
+        require(
+            NUMBERS.contains(&project)
+                && NUMBERS.contains(&developer)
+                && !self.developers.contains_key(&developer),
+            BAD_NUMBER,
+        )?;
+        require(
+            [EXISTING, NEW].contains(&kind)
+                && may_be_declared(levels)
+                && self.may_join(project, kind),
+            BAD_REGISTRATION,
+        )?;
+        let levels: Vec<u64> = levels.iter().map(|&level| level.into()).collect();
+        let registered = Developer {
+            number: developer,
+            project,
+            kind,
+            study_value,
+            start_day,
+            quantity: *levels.last().expect("at least one level"),
+            levels,
+            withdrawals: Vec::new(),
+        };
+        self.developers.insert(developer, registered);
+        Ok(())
+    }
+
+    /// An existing project has one developer; a new one may have several, all of kind 2.
+    fn may_join(&self, project: u8, kind: u8) -> bool {
+        self.developers
+            .values()
+            .filter(|other| other.project == project)
+            .all(|other| kind == NEW && other.kind == NEW)
+    }
+
+    /// Checks: 2, 5, 9.
+    pub fn open(&mut self, c: u32) -> Result<(), u8> {
+        let first = self.phase == Phase::Registering;
+        require(
+            first || self.phase == Phase::BetweenRounds,
+            NOT_IN_THIS_PHASE,
+        )?;
+        let opening_price = self.opening_price();
+        let c = u64::from(c);
+        require(
+            self.settings.floor() <= c && c < opening_price,
+            BAD_ROUND_PRICE,
+        )?;
+        require(!first || self.covered(self.settings.a), OPENING_NOT_COVERED)?;
+        self.phase = Phase::RoundOpen(Round {
+            opening_price,
+            c,
+            offers: BTreeMap::new(),
+        });
+        Ok(())
+    }
+
+    /// Checks: 2, 3, 8, 6, 7. All prices are tested before any level.
+    pub fn offer(&mut self, developer: u8, prices: &[u32], levels: &[u32]) -> Result<(), u8> {
+        let Phase::RoundOpen(round) = &mut self.phase else {
+            return Err(NOT_IN_THIS_PHASE);
+        };
+        let known = self.developers.get(&developer);
+        let offering = known.filter(|d| d.kind == NEW).ok_or(BAD_NUMBER)?;
+        require(!round.offers.contains_key(&developer), SECOND_OFFER)?;
+        require(
+            prices.len() == levels.len() && prices.len() <= MOST_STEPS && round.admits(prices),
+            BAD_STEPS,
+        )?;
+        let levels: Vec<u64> = levels.iter().map(|&level| level.into()).collect();
+        require(offering.may_fall_to(&levels), BAD_LEVEL)?;
+        let steps = iter::zip(prices, levels).map(|(&price, level)| Withdrawal {
+            price: price.into(),
+            level,
+        });
+        round.offers.insert(developer, steps.collect());
+        Ok(())
+    }
+
+    /// Checks: 2. The answer is the excess at C.
+    pub fn close(&mut self) -> Result<i64, u8> {
+        let Phase::RoundOpen(round) = &self.phase else {
+            return Err(NOT_IN_THIS_PHASE);
+        };
+        let Round {
+            opening_price,
+            c,
+            offers,
+        } = round.clone();
+        for developer in self.developers.values_mut() {
+            let offered = offers.get(&developer.number).cloned();
+            let added = offered.unwrap_or_else(|| developer.without_offer(opening_price));
+            developer.withdraw(&added);
+        }
+        self.last_c = Some(c);
+        let excess = self.supply().cast_signed() - self.settings.demand(c).cast_signed();
+        self.phase = if excess <= 0 || c == self.settings.floor() {
+            Phase::Closed
+        } else {
+            Phase::BetweenRounds
+        };
+        Ok(excess)
+    }
+
+    /// The price at which the next round opens: A, or the previous C.
+    pub fn opening_price(&self) -> u64 {
+        self.last_c.unwrap_or(self.settings.a)
+    }
+
+    /// The sum over projects of the greatest quantity among each one's developers.
+    pub fn supply(&self) -> u64 {
+        self.sum_of_greatest(|developer| developer.quantity)
+    }
+
+    /// The sum over projects of the greatest amount among each one's developers (3.15.2 i).
+    pub fn sum_of_greatest(&self, amount: impl Fn(&Developer) -> u64) -> u64 {
+        let greatest = |developers: &Vec<&Developer>| {
+            let amounts = developers.iter().map(|developer| amount(developer));
+            amounts.max().expect("a project has a developer")
+        };
+        self.projects().values().map(greatest).sum()
+    }
+
+    /// The developers of each project that has one, both by rising number.
+    pub fn projects(&self) -> BTreeMap<u8, Vec<&Developer>> {
+        let mut projects: BTreeMap<u8, Vec<&Developer>> = BTreeMap::new();
+        for developer in self.developers.values() {
+            let developers = projects.entry(developer.project).or_default();
+            developers.push(developer);
+        }
+        projects
+    }
+
+    pub fn phase(&self) -> &Phase {
+        &self.phase
+    }
+
+    pub fn settings(&self) -> &Settings {
+        &self.settings
+    }
+
+    pub fn developers(&self) -> &BTreeMap<u8, Developer> {
+        &self.developers
+    }
+
+    /// The C of the last round closed.
+    pub fn last_c(&self) -> Option<u64> {
+        self.last_c
+    }
+}

@@ -1,0 +1,148 @@
+//! Runs the engine's replay call beside the second implementation.
+//! Each record is replayed into buffers that are one byte too short, exact, and longer; every
+//! byte of them, and of their surroundings, is compared.
+//! One line a group of records: their replies by kind and answer, and `ok` or the first
+//! difference. The exit status is 0 only if no group differs.
+
+#[path = "../engine.rs"]
+mod engine;
+
+use independent::random::Random;
+use independent::records::{edges, record};
+use independent::replay::{replay, write_replies};
+use independent::report::Group;
+use independent::sample;
+use std::process::ExitCode;
+
+fn main() -> ExitCode {
+    // Each group is reported when it is done, also behind one that differs.
+    let stated = STATED.map(|group| group().report());
+    let compared = COMPARED.map(|(name, records)| compared(name, records).report());
+    if stated.iter().chain(&compared).all(|&agrees| agrees) {
+        ExitCode::SUCCESS
+    } else {
+        ExitCode::FAILURE
+    }
+}
+
+const STATED: [fn() -> Group; 2] = [sample_record, twelve_numbers];
+
+type Records = fn() -> Vec<Vec<u8>>;
+
+const COMPARED: [(&str, Records); 7] = [
+    ("edges of lines", edges::lines),
+    ("damaged samples", edges::damaged_samples),
+    ("sizes of records", edges::record_sizes),
+    ("sizes of replies", edges::reply_sizes),
+    ("largest books", edges::largest_books),
+    // The seeds whose shares the tests of the second implementation look at.
+    ("generated", || (0..20_000).map(record).collect()),
+    ("few different bytes", || {
+        (0..5_000).map(few_different_bytes).collect()
+    }),
+];
+
+fn compared(name: &'static str, records: Records) -> Group {
+    let mut group = Group::new(name);
+    for record in records() {
+        compare(&mut group, &record);
+    }
+    group
+}
+
+/// Compares the engine with the second implementation's replies to the same record.
+fn compare(group: &mut Group, record: &[u8]) {
+    let independent = replay(record);
+    group.count(&independent);
+    for length in lengths_around(independent.len()) {
+        compare_lent(group, record, &independent, length);
+    }
+}
+
+/// Holds both implementations to replies that are written out, so that an error which they have
+/// in common shows.
+fn compare_stated(group: &mut Group, record: &str, stated: &str) {
+    let (record, stated) = (record.as_bytes(), stated.as_bytes());
+    let independent = replay(record);
+    if independent != stated {
+        let replies = [("independent", &independent[..]), ("stated", stated)];
+        group.differ("not as stated", record, replies);
+    }
+    compare(group, record);
+}
+
+/// Exact, one byte too short, and longer.
+fn lengths_around(replies: usize) -> Vec<usize> {
+    let short = replies.checked_sub(1);
+    let longer = [replies + 1, replies + 100];
+    [replies].into_iter().chain(short).chain(longer).collect()
+}
+
+/// Bytes on either side of the lent buffer, which no call may touch.
+const MARGIN: usize = 64;
+
+/// Compares a call with a buffer of so many bytes.
+fn compare_lent(group: &mut Group, record: &[u8], independent: &[u8], length: usize) {
+    let engine = lend(length, |buffer| engine::replay(record, buffer));
+    let expected = lend(length, |buffer| write_replies(independent, buffer));
+    if engine != expected {
+        let byte = std::iter::zip(engine.1, expected.1).position(|(got, wanted)| got != wanted);
+        let why = format!(
+            "buffer of {length} bytes: engine gives {:#X}, expected {:#X}; first byte that \
+             differs, counted from {MARGIN} before the buffer: {byte:?}",
+            engine.0, expected.0
+        );
+        let engine = engines_replies(record, 2 * independent.len() + (1 << 16));
+        let replies = [("engine", &engine[..]), ("independent", independent)];
+        group.differ(&why, record, replies);
+    }
+}
+
+/// A call with a buffer of so many bytes: its number, and the memory that the buffer is in.
+fn lend(length: usize, call: impl FnOnce(&mut [u8]) -> u64) -> (u64, Vec<u8>) {
+    let mut memory = pattern(MARGIN + length + MARGIN);
+    let number = call(&mut memory[MARGIN..MARGIN + length]);
+    (number, memory)
+}
+
+/// What the engine writes into a buffer of so many bytes.
+fn engines_replies(record: &[u8], length: usize) -> Vec<u8> {
+    let mut replies = vec![0; length];
+    let written = engine::replay(record, &mut replies);
+    replies.truncate(usize::try_from(written).unwrap_or(0));
+    replies
+}
+
+/// Bytes of which no two neighbours are alike.
+fn pattern(length: usize) -> Vec<u8> {
+    (0..length).map(|place| (place * 37 % 251) as u8).collect()
+}
+
+/// The paper's sample, with buffers of every length up to its reply's.
+fn sample_record() -> Group {
+    let mut group = Group::new("sample record");
+    compare_stated(&mut group, sample::RECORD, sample::REPLY);
+    let (record, reply) = (sample::RECORD.as_bytes(), sample::REPLY.as_bytes());
+    for length in 0..reply.len() {
+        compare_lent(&mut group, record, reply, length);
+    }
+    group
+}
+
+/// The example of each number. Number 11 is the engine's answer to a buffer that is too short.
+fn twelve_numbers() -> Group {
+    let mut group = Group::new("the twelve numbers");
+    for example in sample::EXAMPLES {
+        let (record, stated) = sample::example(example);
+        compare_stated(&mut group, &record, &stated);
+    }
+    group
+}
+
+/// A record of many blank and short lines that are frames or nearly so.
+fn few_different_bytes(seed: u64) -> Vec<u8> {
+    let mut random = Random::new(seed);
+    let some: &[u8] = random.one_of(&[b"05\n", b"0\n", b"0123456\n", b"0A\n\r", b"056F\n\x00\xFF"]);
+    let length = random.of_any_size(0, 2_000);
+    (0..length).map(|_| random.one_of(some)).collect()
+}

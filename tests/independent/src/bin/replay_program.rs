@@ -1,0 +1,97 @@
+//! Runs the program `replay`, whose path is the argument, and compares what it prints with the
+//! second implementation, byte for byte.
+//! One line a group of records: what was printed by kind and answer, and `ok` or the first
+//! difference. The exit status is 0 only if no group differs.
+
+use independent::records::{edges, record};
+use independent::replay::printed;
+use independent::report::Group;
+use independent::sample;
+use std::io::{self, Write};
+use std::process::{Command, ExitCode, Output, Stdio};
+use std::thread;
+use std::time::Duration;
+
+fn main() -> ExitCode {
+    let Some(program) = std::env::args_os().nth(1) else {
+        eprintln!("replay_program: the program's path is missing");
+        return ExitCode::FAILURE;
+    };
+    let run = |input: &[u8], piece| run(Command::new(&program), input, piece);
+    let groups = GROUPS.map(|(name, records, piece)| {
+        let mut group = Group::new(name);
+        for record in records() {
+            match run(&record, piece) {
+                Ok(output) => compare(&mut group, &record, &output),
+                Err(error) => group.differ(&error.to_string(), &record, [("", b""); 2]),
+            }
+        }
+        group.report()
+    });
+    if groups.iter().all(|&agrees| agrees) {
+        ExitCode::SUCCESS
+    } else {
+        ExitCode::FAILURE
+    }
+}
+
+type Records = fn() -> Vec<Vec<u8>>;
+
+/// Groups of records, and the bytes of standard input that arrive at once.
+const GROUPS: [(&str, Records, usize); 6] = [
+    ("sample and examples", sample_and_examples, AT_ONCE),
+    ("edges of lines", edges::lines, AT_ONCE),
+    ("sizes of records", edges::record_sizes, AT_ONCE),
+    ("sizes of replies", edges::reply_sizes, AT_ONCE),
+    ("generated", || (0..500).map(record).collect(), AT_ONCE),
+    ("sizes of records, in pieces", edges::record_sizes, 5_000),
+];
+
+const AT_ONCE: usize = usize::MAX;
+
+fn sample_and_examples() -> Vec<Vec<u8>> {
+    let sample = sample::RECORD.as_bytes().to_vec();
+    let examples = sample::EXAMPLES.map(|example| sample::example(example).0.into_bytes());
+    [sample].into_iter().chain(examples).collect()
+}
+
+fn compare(group: &mut Group, record: &[u8], output: &Output) {
+    let expected = printed(record);
+    group.count(&expected);
+    // Which exit status it has is left free; a signal is none.
+    if output.stdout != expected || output.status.code().is_none() {
+        let why = format!("the program ended with {}", output.status);
+        let replies = [("program", &output.stdout[..]), ("independent", &expected)];
+        group.differ(&why, record, replies);
+    }
+}
+
+/// Runs the program to its end, with the input given in pieces of so many bytes.
+fn run(mut program: Command, input: &[u8], piece: usize) -> io::Result<Output> {
+    let mut running = program
+        .stdin(Stdio::piped())
+        .stdout(Stdio::piped())
+        .spawn()?;
+    let mut standard_input = running.stdin.take().expect("a pipe");
+    thread::scope(|scope| {
+        // Its replies are read meanwhile, so neither side waits for ever.
+        let given = scope.spawn(move || give(&mut standard_input, input, piece));
+        let output = running.wait_with_output()?;
+        given.join().expect("no panic")?;
+        Ok(output)
+    })
+}
+
+/// A program that has read more than it takes may end before it has read all.
+fn give(standard_input: &mut impl Write, input: &[u8], piece: usize) -> io::Result<()> {
+    for part in input.chunks(piece.min(input.len()).max(1)) {
+        match standard_input.write_all(part) {
+            Err(error) if error.kind() == io::ErrorKind::BrokenPipe => return Ok(()),
+            given => given?,
+        }
+        if part.len() < input.len() {
+            thread::sleep(Duration::from_micros(200));
+        }
+    }
+    Ok(())
+}

@@ -1,0 +1,171 @@
+//! Records from a seed, to run this implementation and the engine on: the same seed gives the
+//! same record. Most are auctions that settle, with refused calls and damaged lines between
+//! their calls; each line is also made here, so that the next one can fit the auction.
+
+mod books;
+mod counted;
+mod damage;
+pub mod edges;
+mod long;
+mod offers;
+mod refused;
+
+use crate::auction::{Auction, Phase};
+use crate::random::Random;
+use crate::replay::{make, read_call, write_call, Call};
+use crate::settling::number_of_choices;
+pub use counted::{largest_book, LARGEST_BOOKS};
+pub use long::long_record;
+
+/// The record of a seed.
+pub fn record(seed: u64) -> Vec<u8> {
+    let mut writer = Writer::new(seed);
+    match writer.random.between(1, 100) {
+        1..=88 => writer.auction(),
+        89..=90 => writer.counted_auction(),
+        91..=95 => writer.any_calls(),
+        _ => {
+            writer.auction();
+            damage::record(&mut writer.random, &mut writer.record);
+        }
+    }
+    writer.finish()
+}
+
+/// A record as it grows, and the auction after its lines.
+struct Writer {
+    random: Random,
+    auction: Auction,
+    record: Vec<u8>,
+    /// How many of a hundred lines have a refused one before them.
+    disturbed: u64,
+}
+
+impl Writer {
+    fn new(seed: u64) -> Writer {
+        let mut random = Random::new(seed);
+        Writer {
+            disturbed: random.one_of(&[0, 0, 5, 20, 50]),
+            random,
+            auction: Auction::new(),
+            record: Vec::new(),
+        }
+    }
+
+    fn write(&mut self, line: &[u8]) {
+        if let Some(call) = read_call(line) {
+            // Refused or not, the auction is then as the record leaves it.
+            let _ = make(&mut self.auction, &call);
+        }
+        self.record.extend_from_slice(line);
+        self.record.push(b'\n');
+    }
+
+    /// Writes a call of a sound auction, perhaps behind lines that are refused.
+    fn make(&mut self, call: &Call) {
+        while self.random.chance(self.disturbed) {
+            self.disturb();
+        }
+        self.write(&write_call(call));
+    }
+
+    /// Writes a line that is refused, or none.
+    fn disturb(&mut self) {
+        let call = refused::call(&mut self.random, &self.auction);
+        let mut line = write_call(&call);
+        if self.random.chance(30) {
+            line = damage::line(&mut self.random, &line);
+        }
+        let mut auction = self.auction.clone();
+        let accepted = read_call(&line).is_some_and(|call| make(&mut auction, &call).is_ok());
+        if !accepted {
+            self.write(&line);
+        }
+    }
+
+    /// Any calls in any order, as they come.
+    fn any_calls(&mut self) {
+        for _ in 0..self.random.between(1, 40) {
+            let call = refused::call(&mut self.random, &self.auction);
+            self.write(&write_call(&call));
+        }
+    }
+
+    fn auction(&mut self) {
+        let book = books::book(&mut self.random);
+        self.make(&book.set_up);
+        for registration in &book.registrations {
+            self.early_opening();
+            self.make(registration);
+        }
+        let rounds = self.random.one_of(&[1, 2, 3, 3, 4, 6]);
+        for left in (0..rounds).rev() {
+            self.round(left == 0);
+        }
+        self.settlings();
+    }
+
+    /// An opening before all are registered, while A is not covered.
+    fn early_opening(&mut self) {
+        let settings = *self.auction.settings();
+        if self.random.chance(5) && !self.auction.covered(settings.a) {
+            let c = settings.floor() as u32;
+            self.make(&Call::Open { c });
+        }
+    }
+
+    /// A round, unless the auction is closed. The last one ends at the floor.
+    fn round(&mut self, last: bool) {
+        if *self.auction.phase() == Phase::Closed {
+            return;
+        }
+        let floor = self.auction.settings().floor();
+        let fall = self.auction.opening_price() - floor;
+        let c = if last {
+            floor
+        } else {
+            floor + fall - self.random.of_any_size(1, fall.div_ceil(2))
+        };
+        self.make(&Call::Open { c: c as u32 });
+        for offer in offers::offers(&mut self.random, &self.auction, last) {
+            self.make(&offer);
+        }
+        self.make(&Call::Close);
+    }
+
+    /// Settlings with limits around the number of choices and around 65,536.
+    fn settlings(&mut self) {
+        let exact = choices(&self.auction);
+        let limits = [exact, exact, exact + 1, 65_536, 65_537, u32::MAX];
+        let near = [0, exact - 1, exact + 1, 65_535];
+        for _ in 0..self.random.between(0, 2) {
+            let limit = self.random.one_of(&near);
+            self.make(&Call::Settle { limit });
+        }
+        let limit = self.random.one_of(&limits);
+        self.make(&Call::Settle { limit });
+    }
+
+    /// The record, now and then without its last 0A or with a blank line at its end.
+    fn finish(mut self) -> Vec<u8> {
+        while self.random.chance(self.disturbed) {
+            self.disturb();
+        }
+        match self.random.between(1, 10) {
+            1..=3 => drop(self.record.pop()),
+            4 => self.record.push(b'\n'),
+            _ => (),
+        }
+        self.record
+    }
+}
+
+/// The number of choices when the auction is closed, or the next but highest limit if that is
+/// less; 1 before.
+fn choices(auction: &Auction) -> u32 {
+    let choices = match auction.phase() {
+        Phase::Closed => number_of_choices(&auction.open_levels(auction.closing_price())),
+        _ => 1,
+    };
+    u32::try_from(choices).unwrap_or(u32::MAX).min(u32::MAX - 1)
+}

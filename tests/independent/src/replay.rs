@@ -1,0 +1,140 @@
+//! Replay of a recorded auction: frames in, replies out (document 01, Frames).
+
+mod frames;
+
+use crate::auction::Auction;
+use crate::settling::Settlement;
+use crate::{host_number, BUFFER_TOO_SHORT, MALFORMED_LINE};
+use frames::digits;
+pub use frames::{kind_of, lines, next_line, read_call, write_call, Call, LONGEST_LINE};
+
+/// All replies to a record, run from a fresh auction.
+pub fn replay(record: &[u8]) -> Vec<u8> {
+    let mut auction = Auction::new();
+    let lines = lines(record).into_iter();
+    lines.flat_map(|line| reply(&mut auction, line)).collect()
+}
+
+/// The C call: the number of bytes written from the buffer's start, or 2^64 - 11 with the
+/// buffer untouched.
+pub fn replay_into(record: &[u8], buffer: &mut [u8]) -> u64 {
+    write_replies(&replay(record), buffer)
+}
+
+/// What the C call does with a record's replies.
+pub fn write_replies(replies: &[u8], buffer: &mut [u8]) -> u64 {
+    let written = buffer.get_mut(..replies.len());
+    host_number(written.ok_or(BUFFER_TOO_SHORT).map(|written| {
+        written.copy_from_slice(replies);
+        replies.len() as u64
+    }))
+}
+
+/// The most bytes that the program `replay` reads, and the length of its reply buffer.
+pub const PROGRAM_BYTES: usize = 65_536;
+
+/// What the program `replay` prints for its standard input.
+pub fn printed(input: &[u8]) -> Vec<u8> {
+    let replies = replay(input);
+    if input.len() > PROGRAM_BYTES || replies.len() > PROGRAM_BYTES {
+        b"FF0B\n".to_vec()
+    } else {
+        replies
+    }
+}
+
+/// What an accepted call adds to its reply.
+#[derive(Clone, Debug, PartialEq, Eq)]
+pub enum Accepted {
+    Plain,
+    Excess(i64),
+    Settled(Settlement),
+}
+
+/// Makes a call of a record. A settling gets 192 bytes of its own for awards.
+pub fn make(auction: &mut Auction, call: &Call) -> Result<Accepted, u8> {
+    match call {
+        &Call::SetUp { ce, d, m1, m2, a } => {
+            auction.set_up(ce, d, m1, m2, a).map(|()| Accepted::Plain)
+        }
+        Call::Register {
+            project,
+            developer,
+            kind,
+            study_value,
+            start_day,
+            levels,
+        } => auction
+            .register(
+                *project,
+                *developer,
+                *kind,
+                *study_value,
+                *start_day,
+                levels,
+            )
+            .map(|()| Accepted::Plain),
+        &Call::Open { c } => auction.open(c).map(|()| Accepted::Plain),
+        Call::Offer {
+            developer,
+            prices,
+            levels,
+        } => {
+            let answer = auction.offer(*developer, prices, levels);
+            answer.map(|()| Accepted::Plain)
+        }
+        Call::Close => auction.close().map(Accepted::Excess),
+        &Call::Settle { limit } => {
+            let answer = auction.settle(limit.into(), &mut [0; AWARD_BYTES]);
+            answer.map(Accepted::Settled)
+        }
+    }
+}
+
+const AWARD_BYTES: usize = 192;
+
+/// The kind in the reply to a malformed line.
+const MALFORMED_KIND: u8 = 0xFF;
+
+/// The reply to a line, with its 0A.
+pub fn reply(auction: &mut Auction, line: &[u8]) -> Vec<u8> {
+    let (kind, answer) = match read_call(line) {
+        Some(call) => (kind_of(&call), make(auction, &call)),
+        None => (MALFORMED_KIND, Err(MALFORMED_LINE)),
+    };
+    let (number, rest) = match &answer {
+        Ok(accepted) => (0, behind_answer(accepted)),
+        Err(refusal) => (*refusal, String::new()),
+    };
+    let start = digits(kind.into(), 2) + &digits(number.into(), 2);
+    (start + &rest + "\n").into_bytes()
+}
+
+fn behind_answer(accepted: &Accepted) -> String {
+    match accepted {
+        Accepted::Plain => String::new(),
+        Accepted::Excess(excess) => digits(excess.cast_unsigned(), 16),
+        Accepted::Settled(settlement) => settled(settlement),
+    }
+}
+
+/// P 8, Dem 10, total 10, choices 8, covering 8, awards 2, then project 2, developer 2,
+/// quantity 8, by rising project.
+fn settled(settlement: &Settlement) -> String {
+    let mut rest = [
+        (settlement.closing_price, 8),
+        (settlement.demand, 10),
+        (settlement.total, 10),
+        (settlement.choices, 8),
+        (settlement.covering, 8),
+        (settlement.awards.len() as u64, 2),
+    ]
+    .map(|(number, width)| digits(number, width))
+    .concat();
+    for award in &settlement.awards {
+        rest += &digits(award.project.into(), 2);
+        rest += &digits(award.developer.into(), 2);
+        rest += &digits(award.quantity, 8);
+    }
+    rest
+}

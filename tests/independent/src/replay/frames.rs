@@ -1,0 +1,267 @@
+//! The lines of a record and the calls they hold (document 01, Frames).
+//! Fields, their order and widths stand in one table; reading and writing go by it.
+
+/// A call of the auction, each number as wide as its field.
+#[derive(Clone, Debug, PartialEq, Eq)]
+pub enum Call {
+    SetUp {
+        ce: u64,
+        d: u64,
+        m1: u64,
+        m2: u64,
+        a: u64,
+    },
+    Register {
+        project: u8,
+        developer: u8,
+        kind: u8,
+        study_value: u32,
+        start_day: u32,
+        levels: Vec<u32>,
+    },
+    Open {
+        c: u32,
+    },
+    Offer {
+        developer: u8,
+        prices: Vec<u32>,
+        levels: Vec<u32>,
+    },
+    Close,
+    Settle {
+        limit: u32,
+    },
+}
+
+const SET_UP: u8 = 1;
+const REGISTRATION: u8 = 2;
+const OPEN: u8 = 3;
+const OFFER: u8 = 4;
+const CLOSE: u8 = 5;
+const SETTLE: u8 = 6;
+
+/// The fields of one kind of frame. Those of an item stand as often as the count says, which
+/// is then the last field before them.
+struct Frame {
+    kind: u8,
+    fields: &'static [Field],
+    item: &'static [Field],
+}
+
+/// A field's name and its width in hexadecimal digits.
+type Field = (&'static str, usize);
+
+const FRAMES: [Frame; 6] = [
+    Frame {
+        kind: SET_UP,
+        fields: &[("CE", 8), ("D", 10), ("M1", 10), ("M2", 10), ("A", 8)],
+        item: &[],
+    },
+    Frame {
+        kind: REGISTRATION,
+        fields: &[
+            ("project", 2),
+            ("developer", 2),
+            ("kind", 2),
+            ("study", 8),
+            ("day", 8),
+            ("count", 2),
+        ],
+        item: &[("level", 8)],
+    },
+    Frame {
+        kind: OPEN,
+        fields: &[("C", 8)],
+        item: &[],
+    },
+    Frame {
+        kind: OFFER,
+        fields: &[("developer", 2), ("count", 2)],
+        item: &[("price", 8), ("level", 8)],
+    },
+    Frame {
+        kind: CLOSE,
+        fields: &[],
+        item: &[],
+    },
+    Frame {
+        kind: SETTLE,
+        fields: &[("limit", 8)],
+        item: &[],
+    },
+];
+
+const KIND_WIDTH: usize = 2;
+
+/// The most characters of a line.
+pub const LONGEST_LINE: usize = 160;
+
+fn frame(kind: u8) -> Option<&'static Frame> {
+    FRAMES.iter().find(|frame| frame.kind == kind)
+}
+
+/// The part of the record from the position to the next 0A or the end, without the 0A.
+pub fn next_line(record: &[u8], position: usize) -> &[u8] {
+    let rest = &record[position.min(record.len())..];
+    let end = rest.iter().position(|&byte| byte == b'\n');
+    &rest[..end.unwrap_or(rest.len())]
+}
+
+/// All lines; an empty rest behind the last 0A is none.
+pub fn lines(record: &[u8]) -> Vec<&[u8]> {
+    let mut lines = Vec::new();
+    let mut position = 0;
+    while position < record.len() {
+        let line = next_line(record, position);
+        lines.push(line);
+        position += line.len() + 1;
+    }
+    lines
+}
+
+/// The call in a line; none in a malformed one.
+pub fn read_call(line: &[u8]) -> Option<Call> {
+    if line.len() > LONGEST_LINE {
+        return None;
+    }
+    let mut rest = line;
+    let kind = narrow(take_number(&mut rest, KIND_WIDTH)?);
+    let frame = frame(kind)?;
+    let mut numbers = take_fields(&mut rest, frame.fields)?;
+    if !frame.item.is_empty() {
+        let count = *numbers.last().expect("the count");
+        for _ in 0..count {
+            numbers.extend(take_fields(&mut rest, frame.item)?);
+        }
+    }
+    rest.is_empty().then(|| call(kind, &numbers))
+}
+
+fn take_fields(rest: &mut &[u8], fields: &[Field]) -> Option<Vec<u64>> {
+    fields
+        .iter()
+        .map(|&(_, width)| take_number(rest, width))
+        .collect()
+}
+
+/// Takes as many digits as the width says from the front.
+fn take_number(rest: &mut &[u8], width: usize) -> Option<u64> {
+    let (digits, behind) = rest.split_at_checked(width)?;
+    *rest = behind;
+    digits.iter().try_fold(0, |number, &digit| {
+        Some(number * 16 + u64::from(digit_value(digit)?))
+    })
+}
+
+fn digit_value(digit: u8) -> Option<u8> {
+    match digit {
+        b'0'..=b'9' => Some(digit - b'0'),
+        b'A'..=b'F' => Some(digit - b'A' + 10),
+        _ => None,
+    }
+}
+
+/// A number in a type at least as wide as its field.
+fn narrow<T: TryFrom<u64>>(number: u64) -> T {
+    let narrowed = T::try_from(number).ok();
+    narrowed.expect("a number no wider than its field")
+}
+
+/// The call of a frame's numbers, which stand in the order of the table.
+fn call(kind: u8, numbers: &[u64]) -> Call {
+    match (kind, numbers) {
+        (SET_UP, &[ce, d, m1, m2, a]) => Call::SetUp { ce, d, m1, m2, a },
+        (REGISTRATION, [project, developer, kind, study, day, _count, levels @ ..]) => {
+            Call::Register {
+                project: narrow(*project),
+                developer: narrow(*developer),
+                kind: narrow(*kind),
+                study_value: narrow(*study),
+                start_day: narrow(*day),
+                levels: levels.iter().map(|&level| narrow(level)).collect(),
+            }
+        }
+        (OPEN, &[c]) => Call::Open { c: narrow(c) },
+        (OFFER, [developer, _count, steps @ ..]) => Call::Offer {
+            developer: narrow(*developer),
+            prices: steps.iter().step_by(2).map(|&n| narrow(n)).collect(),
+            levels: steps
+                .iter()
+                .skip(1)
+                .step_by(2)
+                .map(|&n| narrow(n))
+                .collect(),
+        },
+        (CLOSE, []) => Call::Close,
+        (SETTLE, &[limit]) => Call::Settle {
+            limit: narrow(limit),
+        },
+        _ => unreachable!("the numbers are those of the table"),
+    }
+}
+
+/// The line of a call, without its 0A; it may be longer than a reader takes.
+pub fn write_call(call: &Call) -> Vec<u8> {
+    let (kind, numbers) = kind_and_numbers(call);
+    let frame = frame(kind).expect("a kind of the table");
+    let fields = frame.fields.iter().chain(frame.item.iter().cycle());
+    let mut line = digits(kind.into(), KIND_WIDTH);
+    for (number, &(_, width)) in numbers.into_iter().zip(fields) {
+        line += &digits(number, width);
+    }
+    line.into_bytes()
+}
+
+pub fn kind_of(call: &Call) -> u8 {
+    kind_and_numbers(call).0
+}
+
+fn kind_and_numbers(call: &Call) -> (u8, Vec<u64>) {
+    match call {
+        &Call::SetUp { ce, d, m1, m2, a } => (SET_UP, vec![ce, d, m1, m2, a]),
+        Call::Register {
+            project,
+            developer,
+            kind,
+            study_value,
+            start_day,
+            levels,
+        } => {
+            let bytes = [project, developer, kind].map(|&byte| u64::from(byte));
+            let words = [study_value, start_day].map(|&word| u64::from(word));
+            let levels_and_count = counted(levels.iter().map(|&level| vec![level.into()]));
+            (
+                REGISTRATION,
+                [&bytes[..], &words, &levels_and_count].concat(),
+            )
+        }
+        &Call::Open { c } => (OPEN, vec![c.into()]),
+        Call::Offer {
+            developer,
+            prices,
+            levels,
+        } => {
+            let steps = prices.iter().zip(levels);
+            let steps = steps.map(|(&price, &level)| vec![price.into(), level.into()]);
+            (
+                OFFER,
+                [&[(*developer).into()], &counted(steps)[..]].concat(),
+            )
+        }
+        Call::Close => (CLOSE, Vec::new()),
+        &Call::Settle { limit } => (SETTLE, vec![limit.into()]),
+    }
+}
+
+/// The count of the items, then their numbers.
+fn counted(items: impl ExactSizeIterator<Item = Vec<u64>>) -> Vec<u64> {
+    let count = items.len() as u64;
+    std::iter::once(count).chain(items.flatten()).collect()
+}
+
+/// The number in hexadecimal digits, as many as the width says.
+pub fn digits(number: u64, width: usize) -> String {
+    let digits = format!("{number:0width$X}");
+    assert_eq!(digits.len(), width, "{number} is wider than its field");
+    digits
+}

@@ -1,0 +1,113 @@
+//! What a program that compares replies prints: one line a group of records with what their
+//! replies were, and the first difference.
+
+use crate::replay::lines;
+use std::collections::BTreeMap;
+use std::fmt::Write;
+
+/// Records compared under one name.
+pub struct Group {
+    name: &'static str,
+    records: u64,
+    /// Records with an accepted settling.
+    settled: u64,
+    /// Replies by kind and answer, the first four digits.
+    replies: BTreeMap<String, u64>,
+    difference: Option<String>,
+}
+
+impl Group {
+    pub fn new(name: &'static str) -> Group {
+        Group {
+            name,
+            records: 0,
+            settled: 0,
+            replies: BTreeMap::new(),
+            difference: None,
+        }
+    }
+
+    /// Counts a record by the replies to it.
+    pub fn count(&mut self, replies: &[u8]) {
+        let replies = lines(replies);
+        let settled = replies.iter().any(|reply| reply.starts_with(b"0600"));
+        self.records += 1;
+        self.settled += u64::from(settled);
+        for reply in replies {
+            let kind_and_answer = shown(&reply[..reply.len().min(4)]);
+            *self.replies.entry(kind_and_answer).or_default() += 1;
+        }
+    }
+
+    /// Keeps the first difference: the record, and two replies to it with whose they are.
+    pub fn differ(&mut self, why: &str, record: &[u8], replies: [(&str, &[u8]); 2]) {
+        self.difference.get_or_insert_with(|| {
+            let mut text = format!("differs: {why}\n{}", first_differing(record, replies));
+            for (name, bytes) in [("record", record)].into_iter().chain(replies) {
+                let _ = write!(text, "{name}, {} bytes:\n{}", bytes.len(), listed(bytes));
+            }
+            text
+        });
+    }
+
+    /// Prints the group's line and its first difference; true if nothing differed.
+    pub fn report(&self) -> bool {
+        let Group {
+            name,
+            records,
+            settled,
+            ..
+        } = self;
+        let percent = 100.0 * *settled as f64 / (*records).max(1) as f64;
+        let replies: u64 = self.replies.values().sum();
+        let counts = self.replies.iter();
+        let counts: Vec<String> = counts.map(|(reply, n)| format!("{reply} {n}")).collect();
+        let verdict = self.difference.as_deref().unwrap_or("ok");
+        println!(
+            "{name}: {records} records, {percent:.1}% settle, {replies} replies ({}): {verdict}",
+            counts.join(", ")
+        );
+        self.difference.is_none()
+    }
+}
+
+/// The first line that got two replies, if any did, with both.
+fn first_differing(record: &[u8], [(one, replies), (other, others)]: [(&str, &[u8]); 2]) -> String {
+    let (replies, others) = (lines(replies), lines(others));
+    let count = replies.len().max(others.len());
+    let Some(place) = (0..count).find(|&place| replies.get(place) != others.get(place)) else {
+        return String::new();
+    };
+    let at = |lines: &[&[u8]]| lines.get(place).map_or("none".into(), |line| shown(line));
+    format!(
+        "line {}: {}\n  {one}: {}\n  {other}: {}\n",
+        place + 1,
+        at(&lines(record)),
+        at(&replies),
+        at(&others)
+    )
+}
+
+/// A line's bytes; those that are no printable characters as escapes, and not too many.
+fn shown(line: &[u8]) -> String {
+    const MOST: usize = 200;
+    if line.len() > MOST {
+        format!("{}..", line[..MOST].escape_ascii())
+    } else {
+        line.escape_ascii().to_string()
+    }
+}
+
+/// The lines, each on its own, and not too many.
+fn listed(bytes: &[u8]) -> String {
+    const MOST: usize = 100;
+    let lines = lines(bytes);
+    let mut text = String::new();
+    for line in lines.iter().take(MOST) {
+        let _ = writeln!(text, "  {}", shown(line));
+    }
+    if lines.len() > MOST {
+        let _ = writeln!(text, "  .. and {} lines more", lines.len() - MOST);
+    }
+    text
+}

@@ -1,0 +1,76 @@
+//! Document 01's sample record and its whole reply as the paper prints them, and the examples
+//! of the twelve numbers as lines behind the sample's.
+
+pub const RECORD: &str = "\
+0100004E2000000003E8000000038400000004B000009C40
+0201010100000000000000000100000334
+02020202000001900000000A0200000064000000C8
+02020302000001F40000001401000000C8
+0203040200000000000000000100000096
+03000061A8
+0402010000659000000064
+0403010000659000000000
+0404010000659000000000
+05
+0600000064
+";
+
+pub const REPLY: &str = "\
+0100
+0200
+0200
+0200
+0200
+0300
+0400
+0400
+0400
+0500FFFFFFFFFFFFFFC9
+06000000659000000003CA00000003FC0000000400000003020101000003340203000000C8
+";
+
+/// Lines of the sample up to its set-up, last registration, opening, first offer and closing.
+const SET_UP: usize = 1;
+const REGISTERED: usize = 5;
+const OPENED: usize = 6;
+const OFFERED: usize = 7;
+const CLOSED: usize = 10;
+
+/// The example of each of the twelve numbers: so many lines of the sample, the example's line,
+/// its reply. Number 11 is about the lent buffer, so no line gets it.
+pub const EXAMPLES: [(usize, &str, &str); 11] = [
+    // CE 3.
+    (
+        0,
+        "010000000300000003E8000000038400000004B000000006",
+        "0101",
+    ),
+    // Offer before a round.
+    (REGISTERED, "0402010000659000000064", "0402"),
+    // Developer 33.
+    (SET_UP, "0201210100000000000000000100000334", "0203"),
+    // Levels 5, 5.
+    (SET_UP, "020101020000000000000000020000000500000005", "0204"),
+    // C 40,000 at A 40,000.
+    (REGISTERED, "0300009C40", "0305"),
+    // Step at C - 1.
+    (OPENED, "040201000061A700000064", "0406"),
+    // 100 after 100.
+    (OPENED, "04020200007530000000640000714800000064", "0407"),
+    // Developer 2 twice.
+    (OFFERED, "0402010000659000000064", "0408"),
+    // No plants.
+    (SET_UP, "03000061A8", "0309"),
+    // Limit 0.
+    (CLOSED, "0600000000", "060A"),
+    (0, "0g", "FF0C"),
+];
+
+/// An example's record and its whole reply.
+pub fn example((count, line, reply): (usize, &str, &str)) -> (String, String) {
+    let behind = |text: &str, last: &str| {
+        let lines: Vec<&str> = text.lines().take(count).chain([last]).collect();
+        lines.join("\n") + "\n"
+    };
+    (behind(RECORD, line), behind(REPLY, reply))
+}

@@ -1,0 +1,188 @@
+//! What document 01's rules imply for settlings, on those of generated records.
+
+use super::{choices, each_step, Step, RECORDS};
+use crate::auction::{Auction, Developer};
+use crate::replay::Accepted;
+use crate::settling::{Award, Settlement};
+use std::cmp::Reverse;
+use std::sync::LazyLock;
+
+/// The accepted settlings of some records, each with its auction.
+static SETTLINGS: LazyLock<Vec<(Auction, Settlement)>> = LazyLock::new(|| {
+    let mut settlings = Vec::new();
+    let mut keep = |step: Step| {
+        if let Ok(Accepted::Settled(settlement)) = step.answer {
+            settlings.push((step.after.clone(), settlement.clone()));
+        }
+    };
+    for record in &RECORDS[..3_000] {
+        each_step(record, &mut keep);
+    }
+    assert!(settlings.len() > 3_000, "{} settlings", settlings.len());
+    settlings
+});
+
+fn each_settling(mut visit: impl FnMut(&Auction, &Settlement)) {
+    for (auction, settlement) in &*SETTLINGS {
+        visit(auction, settlement);
+    }
+}
+
+/// The same, up to so many choices that all can be listed at once.
+fn each_short_settling(mut visit: impl FnMut(&Auction, &Settlement)) {
+    each_settling(|auction, settlement| {
+        if settlement.choices <= 4_096 {
+            visit(auction, settlement);
+        }
+    });
+}
+
+/// High at p is low at p + 1: prices are whole.
+#[test]
+fn highs_are_lows_above() {
+    each_settling(|auction, settlement| {
+        let p = settlement.closing_price;
+        for developer in auction.developers().values() {
+            for p in [p.saturating_sub(1), p, p + 1] {
+                assert_eq!(developer.high(p), developer.low(p + 1));
+                assert!(developer.low(p) <= developer.high(p));
+            }
+        }
+    });
+}
+
+/// The longest range of prices that is walked.
+const LONGEST_WALK: u64 = 3_000;
+
+/// Bisection finds what the walk over all prices finds, and the covered prices are those from
+/// there on: all where the range is small, else at and around each withdrawal.
+#[test]
+fn closing_price_is_the_walk() {
+    let mut walked = 0;
+    each_settling(|auction, settlement| {
+        let p = settlement.closing_price;
+        let last_c = auction.last_c().expect("a closed round");
+        let passed = last_c..=auction.settings().a;
+        let covered_from_p = |price: u64| auction.covered(price) == (price >= p);
+        assert!(auction.covered(p) && (p == last_c || !auction.covered(p - 1)));
+        if passed.end() - last_c <= LONGEST_WALK {
+            walked += 1;
+            assert_eq!(auction.closing_price_by_walk(), p);
+            assert!(passed.clone().all(covered_from_p));
+        }
+        let developers = auction.developers().values();
+        developers
+            .flat_map(|developer| &developer.withdrawals)
+            .flat_map(|withdrawal| [withdrawal.price - 1, withdrawal.price, withdrawal.price + 1])
+            .filter(|price| passed.contains(price))
+            .for_each(|price| assert!(covered_from_p(price), "{price}"));
+    });
+    assert!(walked > 1_000, "{walked} walks");
+}
+
+/// The award as a list of levels by rising project.
+fn awarded_levels(auction: &Auction, settlement: &Settlement) -> Vec<u64> {
+    let level = |project: &u8| {
+        let award = settlement.awards.iter().find(|a| a.project == *project);
+        award.map_or(0, |award| award.quantity)
+    };
+    auction.projects().keys().map(level).collect()
+}
+
+/// Against a list of all choices: both counts, and the award is among them, covers, is least,
+/// and stands first among those of its total.
+#[test]
+fn award_among_all_choices() {
+    each_short_settling(|auction, settlement| {
+        let choices = choices(auction, settlement.closing_price);
+        let total = |choice: &Vec<u64>| choice.iter().sum::<u64>();
+        let covers = |choice: &&Vec<u64>| total(choice) >= settlement.demand;
+        let covering: Vec<&Vec<u64>> = choices.iter().filter(covers).collect();
+        assert_eq!(settlement.choices, choices.len() as u64);
+        assert_eq!(settlement.covering, covering.len() as u64);
+        let award = awarded_levels(auction, settlement);
+        assert!(covering.contains(&&award));
+        assert_eq!(settlement.total, total(&award));
+        assert_eq!(
+            settlement.demand,
+            auction.settings().demand(settlement.closing_price)
+        );
+        for other in covering {
+            assert!(total(other) >= settlement.total);
+            if total(other) == settlement.total && *other != award {
+                let place = (0..award.len()).find(|&place| other[place] != award[place]);
+                let place = place.expect("they differ");
+                assert!(award[place] > other[place]);
+            }
+        }
+    });
+}
+
+/// Each level that a developer of the project knows is open or not by the definition; the
+/// project's low is the least open one, its high the greatest.
+#[test]
+fn open_levels_by_definition() {
+    each_settling(|auction, settlement| {
+        let p = settlement.closing_price;
+        let open = auction.open_levels(p);
+        for (project, developers) in auction.projects() {
+            let open = &open[&project];
+            let low = developers.iter().map(|d| d.low(p)).max();
+            let high = developers.iter().map(|d| d.high(p)).max();
+            assert_eq!((open.first(), open.last()), (low.as_ref(), high.as_ref()));
+            for level in developers.iter().flat_map(|d| d.levels_and_0()) {
+                let to_some = developers.iter().any(|d| {
+                    let known = level == 0 || d.levels.contains(&level);
+                    known && d.low(p) <= level && level <= d.high(p)
+                });
+                assert_eq!(open.contains(&level), to_some && Some(level) >= low);
+            }
+        }
+    });
+}
+
+/// Awards by rising project, each to the first of the developers to whom the level is open.
+#[test]
+fn awarded_developers() {
+    each_settling(|auction, settlement| {
+        let p = settlement.closing_price;
+        let awards = &settlement.awards;
+        assert!(awards.is_sorted_by(|before, after| before.project < after.project));
+        for &Award {
+            project,
+            developer,
+            quantity,
+        } in awards
+        {
+            let awarded = &auction.developers()[&developer];
+            let rank = |d: &Developer| (Reverse(d.study_value), d.start_day, d.number);
+            assert!(quantity > 0 && awarded.project == project);
+            assert!(awarded.levels.contains(&quantity));
+            assert!((awarded.low(p)..=awarded.high(p)).contains(&quantity));
+            for other in &auction.projects()[&project] {
+                let range = other.low(p)..=other.high(p);
+                let open = other.levels.contains(&quantity) && range.contains(&quantity);
+                assert!(!open || rank(awarded) <= rank(other));
+            }
+        }
+    });
+}
+
+/// The limit decides acceptance and nothing else; the buffer needs 6 bytes an award.
+#[test]
+fn limits_and_buffers() {
+    each_short_settling(|auction, settlement| {
+        let mut buffer = [0xEE; 200];
+        let exact = 6 * settlement.awards.len();
+        let settled = auction.settle(settlement.choices, &mut buffer[..exact]);
+        assert_eq!(settled.as_ref(), Ok(settlement));
+        let records: Vec<u8> = settlement.awards.iter().flat_map(Award::record).collect();
+        assert_eq!(buffer[..exact], records);
+        let mut untouched = [0xEE; 192];
+        let below = auction.settle(settlement.choices - 1, &mut untouched);
+        assert_eq!(below, Err(10));
+        let short = auction.settle(u64::MAX, &mut untouched[..exact - 1]);
+        assert_eq!(short, Err(11));
+        assert_eq!(untouched, [0xEE; 192]);
+    });
+}

@@ -1,0 +1,169 @@
+//! The order of the checks on generated records: each check is made alone here, whatever the
+//! others say, and the answer has to be the first in the paper's order that fails.
+
+use super::{each_step, Step, RECORDS};
+use crate::auction::{Auction, Phase, EXISTING, NEW};
+use crate::demand;
+use crate::replay::{kind_of, Call};
+use crate::settling::number_of_choices;
+use std::collections::BTreeMap;
+
+/// The checks of each call in order, with whether each one fails.
+fn failing(auction: &Auction, call: &Call) -> Vec<(u8, bool)> {
+    let phase = auction.phase();
+    let out_of_phase = match call {
+        Call::SetUp { .. } => *phase != Phase::Fresh,
+        Call::Register { .. } => *phase != Phase::Registering,
+        Call::Open { .. } => !matches!(phase, Phase::Registering | Phase::BetweenRounds),
+        Call::Offer { .. } | Call::Close => !matches!(phase, Phase::RoundOpen(_)),
+        Call::Settle { .. } => *phase != Phase::Closed,
+    };
+    let mut checks = vec![(2, out_of_phase)];
+    checks.extend(match call {
+        &Call::SetUp { ce, d, m1, m2, a } => {
+            vec![(1, demand(ce, d, m1, m2, a).is_err() || 2 * a <= ce)]
+        }
+        Call::Register { .. } => registration(auction, call),
+        &Call::Open { c } => opening(auction, c.into()),
+        Call::Offer { .. } => offer(auction, call),
+        Call::Close => Vec::new(),
+        &Call::Settle { limit } => vec![(10, choices(auction) > u64::from(limit.min(65_536)))],
+    });
+    checks
+}
+
+fn registration(auction: &Auction, call: &Call) -> Vec<(u8, bool)> {
+    let Call::Register {
+        project,
+        developer,
+        kind,
+        levels,
+        ..
+    } = call
+    else {
+        return Vec::new();
+    };
+    let outside = |number: &u8| *number < 1 || *number > 32;
+    let used = auction.developers().contains_key(developer);
+    let mut on_project = auction
+        .developers()
+        .values()
+        .filter(|d| d.project == *project);
+    let rising = levels.windows(2).all(|pair| pair[0] < pair[1]);
+    let bounded = levels
+        .iter()
+        .all(|level| (1..=1_000_000_000).contains(level));
+    let bad_levels = levels.is_empty() || levels.len() > 8 || !rising || !bounded;
+    let bad_project = match *kind {
+        EXISTING => on_project.next().is_some(),
+        NEW => on_project.any(|d| d.kind == EXISTING),
+        _ => true,
+    };
+    vec![
+        (3, outside(project) || outside(developer) || used),
+        (4, bad_levels || bad_project),
+    ]
+}
+
+fn opening(auction: &Auction, c: u64) -> Vec<(u8, bool)> {
+    let settings = auction.settings();
+    let first = *auction.phase() == Phase::Registering;
+    vec![
+        (5, c < settings.floor() || c >= auction.opening_price()),
+        (9, first && auction.supply() < settings.demand(settings.a)),
+    ]
+}
+
+fn offer(auction: &Auction, call: &Call) -> Vec<(u8, bool)> {
+    let Call::Offer {
+        developer,
+        prices,
+        levels,
+    } = call
+    else {
+        return Vec::new();
+    };
+    let known = auction.developers().get(developer);
+    let (c, opening_price, second) = match auction.phase() {
+        Phase::RoundOpen(round) => (
+            round.c,
+            round.opening_price,
+            round.offers.contains_key(developer),
+        ),
+        _ => (0, u64::MAX, false),
+    };
+    let outside = |price: &u32| u64::from(*price) < c || u64::from(*price) >= opening_price;
+    let falling = |numbers: &[u32]| numbers.windows(2).all(|pair| pair[0] > pair[1]);
+    let declared = |level: u32| known.is_some_and(|d| d.levels.contains(&level.into()));
+    let too_high = |level: &u32| known.is_some_and(|d| u64::from(*level) >= d.quantity);
+    let unknown = levels.iter().any(|&level| level != 0 && !declared(level));
+    vec![
+        (3, known.is_none_or(|d| d.kind == EXISTING)),
+        (8, second),
+        (
+            6,
+            prices.len() > 8 || prices.iter().any(outside) || !falling(prices),
+        ),
+        (
+            7,
+            unknown || !falling(levels) || levels.first().is_some_and(too_high),
+        ),
+    ]
+}
+
+/// Before the auction is closed, at least one.
+fn choices(auction: &Auction) -> u64 {
+    match auction.phase() {
+        Phase::Closed => number_of_choices(&auction.open_levels(auction.closing_price())),
+        _ => 1,
+    }
+}
+
+/// Two causes that meet in one call, by kind and in the order of the checks. Of the others no
+/// two can meet: an unknown developer has no offer, and none is made outside a round.
+const MEETING: &[(u8, u8, u8)] = &[
+    (1, 2, 1),
+    (2, 2, 3),
+    (2, 2, 4),
+    (2, 3, 4),
+    (3, 2, 5),
+    (3, 5, 9),
+    (4, 2, 3),
+    (4, 2, 6),
+    (4, 2, 7),
+    (4, 3, 6),
+    (4, 3, 7),
+    (4, 6, 7),
+    (4, 8, 6),
+    (4, 8, 7),
+    (6, 2, 10),
+];
+
+#[test]
+fn first_failing_check_answers() {
+    let mut meeting: BTreeMap<(u8, u8, u8), u64> = BTreeMap::new();
+    let mut visit = |step: Step| {
+        let Some(call) = step.call else {
+            return;
+        };
+        let checks = failing(step.before, call);
+        let causes: Vec<u8> = checks
+            .iter()
+            .filter(|check| check.1)
+            .map(|check| check.0)
+            .collect();
+        assert_eq!(step.answer.as_ref().err(), causes.first(), "{call:?}");
+        let kind = kind_of(call);
+        for (place, &first) in causes.iter().enumerate() {
+            for &second in &causes[place + 1..] {
+                *meeting.entry((kind, first, second)).or_default() += 1;
+            }
+        }
+    };
+    for record in &RECORDS[..5_000] {
+        each_step(record, &mut visit);
+    }
+    println!("kind, first cause, second cause, calls: {meeting:?}");
+    let met: Vec<(u8, u8, u8)> = meeting.into_keys().collect();
+    assert_eq!(met, MEETING);
+}

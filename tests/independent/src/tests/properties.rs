@@ -1,0 +1,129 @@
+//! What document 01's rules imply for the ledger and the replies, on generated records.
+
+use super::{each_step, Step, RECORDS};
+use crate::auction::{Phase, NEW};
+use crate::records::record;
+use crate::replay::{lines, replay, replay_into, Accepted, Call};
+use crate::{host_number, BUFFER_TOO_SHORT};
+
+/// How many of the records are looked at.
+const LOOKED_AT: usize = 3_000;
+
+/// Calls `visit` for each line of each record.
+fn each_line(mut visit: impl FnMut(Step)) {
+    for record in &RECORDS[..LOOKED_AT] {
+        each_step(record, &mut visit);
+    }
+}
+
+#[test]
+fn refused_calls_and_settlings_change_nothing() {
+    each_line(|step| {
+        let settling = matches!(step.call, Some(Call::Settle { .. }));
+        if settling || step.answer.is_err() {
+            assert_eq!(step.before, step.after);
+        } else {
+            assert_ne!(step.before, step.after);
+        }
+    });
+}
+
+/// Once a round opened, A is covered, whatever is withdrawn afterwards.
+#[test]
+fn a_stays_covered() {
+    each_line(|step| {
+        if !matches!(step.after.phase(), Phase::Fresh | Phase::Registering) {
+            assert!(step.after.covered(step.after.settings().a));
+        }
+    });
+}
+
+/// The excess is supply less Dem at C, supply there is the sum of the lows, and the phase goes
+/// by the excess and the floor.
+#[test]
+fn excess_and_phase_agree() {
+    each_line(|Step { answer, after, .. }| {
+        let Ok(Accepted::Excess(excess)) = answer else {
+            return;
+        };
+        let settings = after.settings();
+        let c = after.last_c().expect("a closed round");
+        let lows = after.sum_of_greatest(|developer| developer.low(c));
+        assert_eq!(lows, after.supply());
+        assert_eq!(
+            i128::from(*excess),
+            i128::from(lows) - i128::from(settings.demand(c))
+        );
+        let closed = *excess <= 0 || c == settings.floor();
+        let phase = if closed {
+            Phase::Closed
+        } else {
+            Phase::BetweenRounds
+        };
+        assert_eq!(*after.phase(), phase);
+    });
+}
+
+/// At most eight withdrawals; prices that the clock passed and do not rise, levels that fall
+/// from the highest and are declared or 0; the quantity is the last.
+#[test]
+fn histories() {
+    each_line(|step| {
+        for developer in step.after.developers().values() {
+            let withdrawals = &developer.withdrawals;
+            let lowest = step.after.last_c().unwrap_or(u64::MAX);
+            let passed = lowest..=step.after.settings().a;
+            assert!(withdrawals.len() <= 8);
+            assert!(withdrawals.is_empty() || developer.kind == NEW);
+            assert!(withdrawals.iter().all(|w| passed.contains(&w.price)));
+            assert!(withdrawals.is_sorted_by(|before, after| before.price >= after.price));
+            let mut quantities = developer.levels[developer.levels.len() - 1..].to_vec();
+            quantities.extend(withdrawals.iter().map(|w| w.level));
+            assert!(quantities.is_sorted_by(|before, after| before > after));
+            assert!(quantities
+                .iter()
+                .all(|q| *q == 0 || developer.levels.contains(q)));
+            assert_eq!(quantities.last(), Some(&developer.quantity));
+        }
+    });
+}
+
+/// One reply a line, of the line's kind or malformed, and the same whatever follows.
+#[test]
+fn replies_line_by_line() {
+    for record in &RECORDS[..LOOKED_AT] {
+        let replies = replay(record);
+        let (lines, replied) = (lines(record), lines(&replies));
+        assert_eq!(lines.len(), replied.len());
+        for (line, reply) in lines.iter().zip(&replied) {
+            assert!(*reply == b"FF0C" || line[..2] == reply[..2]);
+        }
+        let half: Vec<u8> = lines[..lines.len() / 2].join(&b'\n');
+        assert!(replies.starts_with(&replay(&half)));
+    }
+}
+
+#[test]
+fn replies_in_buffers() {
+    for record in &RECORDS[..LOOKED_AT / 10] {
+        let replies = replay(record);
+        let mut buffer = vec![0xEE; replies.len() + 3];
+        assert_eq!(replay_into(record, &mut buffer), replies.len() as u64);
+        assert_eq!(buffer, [&replies[..], &[0xEE; 3]].concat());
+        let mut short = vec![0xEE; replies.len().saturating_sub(1)];
+        let refused = replay_into(record, &mut short);
+        assert!(replies.is_empty() || refused == host_number(Err(BUFFER_TOO_SHORT)));
+        assert!(short.iter().all(|&byte| byte == 0xEE));
+    }
+}
+
+/// Seeds give records of their own, none longer than the program `replay` takes.
+#[test]
+fn records_go_by_their_seed() {
+    assert_eq!(RECORDS[7], record(7));
+    let mut records = RECORDS.clone();
+    records.sort_unstable();
+    records.dedup();
+    assert!(records.len() > RECORDS.len() * 9 / 10);
+    assert!(records.iter().all(|record| record.len() <= 65_536));
+}
