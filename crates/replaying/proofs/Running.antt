@@ -1,9 +1,8 @@
 -- One turn of the replay: the replies that are left, from the ledger of the calls so far.
-use Prim.Native.Nat.{ℕ, _+_, _-_, _≤_, _<_, _^_}
+use Prim.Native.Nat.{ℕ, _+_, _-_, _≤_, _<_}
 use mathlib.Core.Path.{_≡_, refl, sym, ap, ap₂, _∙_}
-use mathlib.Core.Bool.{Bool, true, false, cond}
+use mathlib.Core.Bool.{Bool, true, false}
 use mathlib.Core.List.{List, [], _∷_, _++_, append-nil}
-use mathlib.Core.Option.{Option, some}
 use native.Mathlib.Omega.{arith}
 use borrow.Author.Tests.{le-leb, lt-leb}
 use borrow.Rule.Slice.PartMut.{putMid, midOf}
@@ -13,11 +12,11 @@ use Rattle.format.specs.Hex.{laid}
 use Rattle.format.specs.Lines.{lines, part, lineStart, lineEnd}
 use Rattle.format.specs.LineLaws.{line-inside, next-line, no-line}
 use Rattle.format.specs.Tails.{length-laid, tail-is, wrote, wrote-all}
-use Rattle.rules.specs.Ledger.{Call, Ledger, start}
+use Rattle.rules.specs.Ledger.{Call, Ledger}
 use Rattle.rules.specs.Rounds.{stepAll, ledger}
 use Rattle.reachable.specs.Steps.{ledger-snoc}
 use Rattle.replies.specs.Orders.{Order, Malformed, Asks, Settle, orderIn}
-use Rattle.replies.specs.Replies.{replyTo, after, repliesFrom, replies}
+use Rattle.replies.specs.Replies.{after, repliesFrom, replies}
 use Rattle.auction.specs.Holds.{auctionOf}
 use Rattle.auction.specs.declared.Auction.{Auction}
 use Rattle.reply_text.specs.Texts.{textOf}

@@ -48,19 +48,19 @@ fn write(bytes: &[u8], out: &mut [u8]) -> usize
     ensures { λ r. ⌜ (r ≡ length (replies (now (bytes .entry)))) × (now (out .exit) ≡ laid (replies (now (bytes .entry))) (now (out .entry))) ⌝ }
 {
     let mut auction = Auction::new();
-    let mut at: usize = 0;
-    let mut used: usize = 0;
-    while at < bytes.len() {
-        let line = frames::next_line(bytes, at);
+    let mut read: usize = 0;
+    let mut written: usize = 0;
+    while read < bytes.len() {
+        let line = frames::next_line(bytes, read);
         let turn = step(auction, line);
         let reply = turn.reply;
-        reply_text::put(&mut out[used..], reply);
+        reply_text::put(&mut out[written..], reply);
         let next = turn.auction;
         auction = next;
-        used += reply_text::size(reply);
-        at = at + line.len() + 1;
+        written += reply_text::size(reply);
+        read = read + line.len() + 1;
     }
-    used
+    written
 }
 
 // Replays a record: how many bytes its replies have, or 2^64 less 11 where they do not fit the buffer.

@@ -1,10 +1,10 @@
 -- From a call's contract to the turn's: its reply's text is the ledger's, and the next auction holds the next ledger.
 use Prim.Native.Nat.{ℕ, suc, min, _*_, _≤_}
-use mathlib.Core.Path.{_≡_, refl, sym, ap, ap₂, _∙_, subst}
+use mathlib.Core.Path.{_≡_, refl, sym, ap, ap₂, _∙_}
 use mathlib.Core.Bool.{Bool, true, false, cond}
 use mathlib.Core.Logic.{⊎-elim}
-use mathlib.Core.List.{List, [], _∷_, _++_, flatten, append-nil, List·Memᴰ, List·Memᴰ·cases-cons, List·Memᴰ·not-nil}
-use mathlib.Core.Option.{Option, none, some}
+use mathlib.Core.List.{List, [], _∷_, flatten, append-nil, List·Memᴰ, List·Memᴰ·cases-cons, List·Memᴰ·not-nil}
+use mathlib.Core.Option.{none}
 use native.Mathlib.Omega.{arith}
 use lib.Dec.{eqb, leb}
 use lib.IntN.{ℤ, pos}
@@ -18,7 +18,7 @@ use Rattle.rules.specs.Refusals.{check, isClosed}
 use Rattle.rules.specs.Rounds.{ledger}
 use Rattle.rules.specs.Award.{admissible, award, winner}
 use Rattle.rules.specs.Settling.{recordOf, recordsFrom, records, settlingNumber, settlementAt, settlement}
-use Rattle.replies.specs.Orders.{Order, Malformed, Asks, Settle, firsts, seconds, setUpOf, registrationOf, offerOf, orderOf, ordered}
+use Rattle.replies.specs.Orders.{Malformed, Asks, Settle, firsts, seconds, setUpOf, registrationOf, offerOf, orderOf, ordered}
 use Rattle.replies.specs.Replies.{kindOf, extra, twosComplement, settledDigits, answerLine, replyTo}
 use Rattle.auction.specs.Called.{Called, setsUp, registers}
 use Rattle.auction.specs.Holds.{auctionOf}
@@ -31,7 +31,7 @@ use Rattle.frames.specs.declared.Frame.{Frame}
 use Rattle.reply_text.specs.Texts.{settledText, addedText, textOf}
 use Rattle.reply_text.specs.TextLaws.{settled-text}
 use Rattle.reply_text.specs.declared.Reply.{Reply}
-use Rattle.turns.specs.Turns.{fieldsOf, Framed, Reads, Answers, asked, Takes}
+use Rattle.turns.specs.Turns.{fieldsOf, Framed, Reads, Answers, Takes}
 use Rattle.turns.specs.declared.Turn.{Turn}
 
 -- ---- texts

@@ -1,7 +1,6 @@
 -- The sizes of the replies are added as long as they are within the limit.
 use Prim.Native.Nat.{_-_}
 use native.Mathlib.Omega.{arith}
-use borrow.Author.Needs.{needs}
 use lib.ListN.{length}
 use Rattle.replaying.proofs.Running.{Steps, steps, Sized, sized-first, sized-over, sized-again, sized-end}
 use Rattle.replaying.proofs.fits.Statement.{statement}

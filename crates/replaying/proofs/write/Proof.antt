@@ -1,20 +1,19 @@
 -- Each reply is written into the tail that is left, which has room for it since all fit.
 use Prim.Native.Nat.{_-_}
 use native.Mathlib.Omega.{arith}
-use borrow.Author.Needs.{needs}
 use lib.ListN.{length}
 use Rattle.replaying.proofs.Running.{Steps, steps, Written, written-first, room, tail-room, written-again, written-end}
 use Rattle.replaying.proofs.write.Statement.{statement}
 use Rattle.replaying.proofs.write.Tie as tie
 
 abbrev Inv-loop : tie.InvT-loop
-Inv-loop bytes out₀ auction₀ at₀ used₀ out auction at used = Written bytes out₀ out auction at used
+Inv-loop bytes out₀ auction₀ read₀ written₀ out auction read written = Written bytes out₀ out auction read written
 
 abbrev μ-loop : tie.MeasureT-loop
-μ-loop bytes out₀ auction₀ at₀ used₀ out auction at used = length bytes - at
+μ-loop bytes out₀ auction₀ read₀ written₀ out auction read written = length bytes - read
 
 -- the turn of the line
-stepped : (c : tie.After-step Inv-loop μ-loop) → Steps (c .before .before .before .before .before .before .before .args .bytes .now) (c .before .next-line .result .now) (c .before .before .before .loop .at) (c .before .before .before .loop .inv .calls) (c .step .result)
+stepped : (c : tie.After-step Inv-loop μ-loop) → Steps (c .before .before .before .before .before .before .before .args .bytes .now) (c .before .next-line .result .now) (c .before .before .before .loop .read) (c .before .before .before .loop .inv .calls) (c .step .result)
 stepped c = steps _ _ _ _ _ _ (c .before .before .loop-test .taken) (c .before .next-line .ensures) (c .before .before .before .loop .inv .holds) (c .step .ensures)
 
 new-requires : tie.Need-new-requires Inv-loop μ-loop
@@ -44,16 +43,16 @@ put-requires c κs = tail-room _ _ _ _ _ _ _ _ (c .before .before .before .befor
 size-requires : tie.Need-size-requires Inv-loop μ-loop
 size-requires c κs = tt
 
-add-used : tie.Need-add-used Inv-loop μ-loop
-add-used c =
+add-written : tie.Need-add-written Inv-loop μ-loop
+add-written c =
     let r = room _ _ _ _ _ _ _ _ (c .before .before .before .before .before .before .before .before .before .before .before .before .before .before .pre) (c .before .before .before .before .before .before .before .before .before .before .loop .inv) (stepped (c .before .before .before .before .before .before .before)) in
     omega (arith, r, c .size .ensures .0, c .before .before .before .before .before .before .before .before .before .before .loop .inv .same, c .before .before .before .before .before .before .before .before .before .before .before .before .before .before .good)
 
-add-at : tie.Need-add-at Inv-loop μ-loop
-add-at c = omega (arith, stepped (c .before .before .before .before .before .before .before) .inside, c .before .before .before .before .before .before .before .before .before .before .before .before .before .before .good)
+add-read : tie.Need-add-read Inv-loop μ-loop
+add-read c = omega (arith, stepped (c .before .before .before .before .before .before .before) .inside, c .before .before .before .before .before .before .before .before .before .before .before .before .before .before .good)
 
-add-at-2 : tie.Need-add-at-2 Inv-loop μ-loop
-add-at-2 c = omega (arith, stepped (c .before .before .before .before .before .before .before) .inside, c .before .before .before .before .before .before .before .before .before .before .before .before .before .before .good)
+add-read-2 : tie.Need-add-read-2 Inv-loop μ-loop
+add-read-2 c = omega (arith, stepped (c .before .before .before .before .before .before .before) .inside, c .before .before .before .before .before .before .before .before .before .before .before .before .before .before .good)
 
 loop-less : tie.Need-loop-less Inv-loop μ-loop
 loop-less c = omega (arith, stepped (c .before .before .before .before .before .before .before) .inside, c .before .before .before .before .before .before .before .before .before .loop-test .taken)
@@ -82,9 +81,9 @@ write-spec =
     part-put-end
     put-requires
     size-requires
-    add-used
-    add-at
-    add-at-2
+    add-written
+    add-read
+    add-read-2
     loop-less
     loop-again
     same-length

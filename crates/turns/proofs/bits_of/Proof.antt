@@ -3,7 +3,7 @@ use Rattle.turns.proofs.Minus.{turned, is-cast, upright}
 use lib.IntN.{natAbs}
 use Prim.Native.Nat.{ℕ, _-_}
 use native.Mathlib.Omega.{arith}
-use mathlib.Core.Path.{_≡_, refl, ap, sym, _∙_}
+use mathlib.Core.Path.{ap, _∙_}
 use Rattle.turns.proofs.bits_of.Statement.{statement}
 use Rattle.turns.proofs.bits_of.Tie as tie
 

@@ -4,7 +4,6 @@ use mathlib.Core.Path.{refl}
 use native.Mathlib.Nat.{mul-le-mul}
 use native.Mathlib.Omega.{arith}
 use borrow.Author.Needs.{needs}
-use lib.ListN.{length}
 use Rattle.turns.specs.Turns.{fieldsOf}
 use Rattle.turns.proofs.Columns.{Filling, filling-first, filling-again, filling-end}
 use Rattle.turns.proofs.column.Statement.{statement}
