@@ -11,6 +11,7 @@ pub fn all() {
     level_below_the_projects_low();
     level_of_one_developer_only();
     same_levels_in_two_projects();
+    greatest_high();
 }
 
 // Developers 2 and 3 of project 2 share levels 100 and 200, and leave together.
@@ -116,5 +117,19 @@ fn same_levels_in_two_projects() {
     let a = offer_one(a, 3, 26_000, 90);
     let a = offer_one(a, 4, 26_000, 90);
     let a = offer_one(a, 5, 26_000, 0);
+    settle(close(a), 100, 20);
+}
+
+// The two highs of project 2 do not add, or P would be lower.
+fn greatest_high() {
+    book(b"two developers of a project stay, another project leaves");
+    let a = register_existing(sample::set_up(), 1, 1, 820);
+    let a = register_one(a, 2, 2, 0, 0, 100);
+    let a = register_one(a, 2, 3, 0, 0, 100);
+    let a = register_one(a, 3, 4, 0, 0, 60);
+    let a = open(a, 25_000);
+    let a = offer_none(a, 2);
+    let a = offer_none(a, 3);
+    let a = offer_one(a, 4, 26_000, 0);
     settle(close(a), 100, 20);
 }
