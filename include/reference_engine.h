@@ -1,6 +1,6 @@
 /*
  * The Reference Engine of the firm-energy clock auction, for hosts in C.
- * Link with libhost.a.
+ * Link with target/staticlib/libhost.a, made by: rt staticlib host
  *
  * Quantities are whole kWh per day; prices are whole thousandths of US$ per MWh.
  */
@@ -40,16 +40,16 @@ uint64_t demand(uint64_t ce, uint64_t d, uint64_t m1, uint64_t m2, uint64_t p);
  * docs/FORMAT.md describes them.
  *
  *   record   the record's bytes, record_length of them; only read
- *   replies  the lent buffer, replies_length bytes; not overlapping the record
+ *   replies  the lent buffer, replies_length bytes; it must not overlap the record
  *
  * Returns the number of bytes written, from the buffer's start; the bytes behind them stay. If
  * the replies do not fit, the buffer stays as it was and the call returns
  * REFERENCE_ENGINE_REFUSAL(11), which is 2^64 - 11.
  *
- * There are no further preconditions: any bytes in any number may be passed, and a length of 0
- * goes with any pointer, NULL too. Refused calls and malformed lines are answered in the
- * replies. The call keeps no state and touches no other memory of the host, so any number of
- * threads may make it at once, each with its own buffer.
+ * The record may hold any bytes in any number, and a length of 0 goes with any pointer, NULL
+ * too. Refused calls and malformed lines are answered in the replies. The call keeps no state and
+ * touches no other memory of the host, so any number of threads may make it at once, each with
+ * its own buffer.
  */
 uint64_t replay(const uint8_t *record, size_t record_length, uint8_t *replies,
                 size_t replies_length);

@@ -2,11 +2,10 @@
 use Prim.Native.Nat.{ℕ, zero, suc, _+_, _≤_, _<_}
 use mathlib.Core.Path.{_≡_, refl, sym, ap, _∙_, fun-ext}
 use mathlib.Core.Logic.{⊎-elim}
-use mathlib.Core.Bool.{Bool, _&&_}
+use mathlib.Core.Bool.{Bool}
 use mathlib.Core.List.{List, [], _∷_, _++_}
 use native.Mathlib.Omega.{arith}
 use native.Mathlib.Numerals.{add-one}
-use lib.Dec.{eqb, ltb}
 use lib.ListN.{length, getD, set, length-append}
 use borrow.Author.Tests.{eq-eqb, ne-eqb}
 use Rattle.numbers.specs.Cases.{le-or-lt}
@@ -22,9 +21,9 @@ use Rattle.levels.specs.Held.{heldLevels}
 use Rattle.history.specs.Held.{held, additions, Applied, LastLevel}
 use Rattle.history.specs.declared.History.{History}
 use Rattle.auction.specs.declared.Auction.{Auction}
-use Rattle.auction.specs.Holds.{ofEach, auctionOf}
+use Rattle.auction.specs.Holds.{ofEach, auctionOf, Holding}
 use Rattle.auction.specs.Called.{OffersApplied}
-use Rattle.auction.proofs.Calls.{Holding}
+use Rattle.auction.specs.Tests.{withdrawsAll}
 use Rattle.auction.specs.Places.{numbered-at, put-stores, put-keeps}
 
 -- ---- one developer
@@ -51,10 +50,6 @@ applicable l s n = ⊎-elim
       few = falls-few d (x .withdrawals ++ added (l .opening) x (x .offer)) (lowering-append _ _ (x .withdrawals) _ (d .falls) (rw (← d .quantity) (added-lowers l x (x .offer) (r .offer))));
       last = rw (d .quantity) (last-level-again (highest x) (x .withdrawals));
     }
-
--- without an offer, one of this kind and quantity withdraws all
-abbrev pub withdrawsAll : ℕ → ℕ → Bool
-withdrawsAll kind q = eqb kind 2 && ltb 0 q
 
 additions-are : (o : ℕ) (x : Developer) (s : Standing) → additions (withdrawsAll (x .declared .kind) (x .quantity)) o s ≡ added o x s
 unfolding added

@@ -1,23 +1,21 @@
 -- A call that is refused and a call that is accepted, over the ledger that the auction holds.
 use Prim.Native.Nat.{ℕ}
 use mathlib.Core.Path.{_≡_, refl, sym, ap, _∙_}
-use mathlib.Core.Bool.{Bool, true, false, cond}
-use mathlib.Core.List.{List, [], _∷_, _++_}
-use native.Mathlib.Omega.{arith}
+use mathlib.Core.Bool.{Bool, true, false, cond, _&&_}
 use lib.IntN.{ℤ, pos}
 use Rattle.rules.specs.Ledger.{Call, SetUp, Register, Open, Offer, Close, Ledger, Phase, Fresh, Ready, Round, Between, Closed}
 use Rattle.rules.specs.Refusals.{number, inRound}
 use Rattle.rules.specs.Rounds.{accepted, ledger, excess}
-use Rattle.sound.specs.Sound.{Sound}
 use Rattle.reachable.specs.Steps.{ledger-snoc, step-refused, step-accepted}
 use Rattle.reachable.specs.Reachable.{sound}
 use Rattle.auction.specs.declared.Auction.{Auction}
-use Rattle.auction.specs.Holds.{auctionOf}
+use Rattle.auction.specs.Holds.{auctionOf, Holding}
 use Rattle.auction.specs.Called.{Called}
 
--- of every sound ledger that the auction holds
-abbrev pub Holding : Auction → (Ledger → Type 0) → Type 0
-Holding a P = (l : Ledger) → Sound l → a ≡ auctionOf l → P l
+-- a place of the arrays is read only under a developer's number
+pub where-true : (b : Bool) {x y : Bool} → (b ≡ true → x ≡ y) → b && x ≡ b && y
+where-true true h = h refl
+where-true false h = refl
 
 no-excess : (l : Ledger) (c : Call) → (number l c ≡ 0 → ⊥) → pos 0 ≡ excess l c
 unfolding number excess

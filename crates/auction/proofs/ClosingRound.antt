@@ -12,12 +12,14 @@ use Rattle.rules.specs.Refusals.{isFresh, inRound, floor, number}
 use Rattle.rules.specs.Rounds.{applied, supplyAfter, phaseAfter, accepted, excess}
 use Rattle.sound.specs.Sound.{started, Sound}
 use Rattle.reachable.specs.Held.{in-round}
-use Rattle.reachable.specs.Bounds.{settings-facts, closing-in-range}
+use Rattle.rules.specs.CheckLaws.{in-settings}
+use Rattle.reachable.specs.Bounds.{closing-in-range}
 use Rattle.supply.specs.ByProject.{supplyOf}
 use Rattle.supply.specs.ByProjectLaws.{supply-of}
 use Rattle.auction.specs.declared.Auction.{Auction}
 use Rattle.auction.specs.Holds.{phaseNumber, auctionOf}
-use Rattle.auction.specs.Called.{Called, demandBy, OffersApplied}
+use Rattle.auction.specs.Called.{Called, OffersApplied}
+use Rattle.auction.specs.Tests.{demandBy, phaseNumberAfter}
 use Rattle.auction.proofs.Calls.{refused, Taken, taken}
 use Rattle.auction.proofs.Phases.{round-is}
 use Rattle.auction.specs.Demands.{demand-is}
@@ -32,7 +34,7 @@ pub record Computed (a b : Auction) (supply demand phase : ℕ) (excess : ℤ) :
   pub applied : OffersApplied a b
   pub supply-is : supply ≡ supplyOf (b .projects) (b .quantities)
   pub demand-is : demand ≡ demandBy (a .settings) (a .closing)
-  pub phase-is : phase ≡ cond (leb supply demand || eqb (a .closing) (a .settings .ce / 2)) 4 3
+  pub phase-is : phase ≡ phaseNumberAfter supply demand (a .closing) (a .settings .ce / 2)
   pub excess-is : excess ≡ pos supply -ℤ pos demand
 
 module _ (a b : Auction) (q d n : ℕ) (e : ℤ) (k : Computed a b q d n e) where
@@ -65,11 +67,11 @@ module _ (a b : Auction) (q d n : ℕ) (e : ℤ) (k : Computed a b q d n e) wher
 
     demand-held : d ≡ demandAt l (l .closing)
     unfolding auctionOf demandBy
-    demand-held = k .demand-is ∙ ap (λ (x : Auction). demandBy (x .settings) (x .closing)) h ∙ demand-is _ _ _ _ _ (settings-facts (l .settings) (s .settings (ap isFresh round)) .0) (closing-in-range s (ap started round))
+    demand-held = k .demand-is ∙ ap (λ (x : Auction). demandBy (x .settings) (x .closing)) h ∙ demand-is _ _ _ _ _ (in-settings (l .settings) (s .settings (ap isFresh round)) .bounds) (closing-in-range s (ap started round))
 
     phase-held : n ≡ phaseNumber (phaseAfter l)
     unfolding auctionOf phaseAfter
-    phase-held = k .phase-is ∙ ap (λ (x : Auction). cond (leb q d || eqb (x .closing) (x .settings .ce / 2)) 4 3) h ∙ rw (supply-held, demand-held) (by-test (leb (supplyAfter l) (demandAt l (l .closing)) || eqb (l .closing) (floor l)))
+    phase-held = k .phase-is ∙ ap (λ (x : Auction). phaseNumberAfter q d (x .closing) (x .settings .ce / 2)) h ∙ rw (supply-held, demand-held) (by-test (leb (supplyAfter l) (demandAt l (l .closing)) || eqb (l .closing) (floor l)))
       where
         by-test : (t : Bool) → cond t 4 3 ≡ phaseNumber (cond t Closed Between)
         by-test true = refl

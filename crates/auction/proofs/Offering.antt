@@ -1,5 +1,5 @@
 -- Offers: each check in its order, and the steps held behind the withdrawals.
-use Prim.Native.Nat.{ℕ, suc, _+_, _-_, _≤_, _<_}
+use Prim.Native.Nat.{ℕ, _+_, _-_, _≤_, _<_}
 use mathlib.Core.Path.{_≡_, refl, sym, ap, _∙_, subst}
 use mathlib.Core.Bool.{Bool, true, false, cond, _&&_}
 use mathlib.Core.List.{List, map}
@@ -7,12 +7,14 @@ use mathlib.Core.Logic.{⊎-elim}
 use native.Mathlib.Omega.{arith}
 use lib.Dec.{eqb, leb}
 use lib.IntN.{pos}
-use lib.ListN.{length, getD, set, take}
+use lib.ListN.{length, getD, set}
 use lib.Seq.{take-append-seam}
-use borrow.Author.Tests.{eq-eqb, ne-eqb, le-leb, lt-leb}
-use Rattle.numbers.specs.Lists.{oneTo, padded}
-use Rattle.rules.specs.Ledger.{Standing, none, made, Developer, Offer, Ledger, nobody}
+use borrow.Author.Tests.{eq-eqb, ne-eqb}
+use Rattle.numbers.specs.Cases.{and-true}
+use Rattle.numbers.specs.Lists.{oneTo}
+use Rattle.rules.specs.Ledger.{none, made, Developer, Offer, Ledger, nobody}
 use Rattle.rules.specs.Refusals.{inRound, isNumber, mayOffer, isNone, pricesOk, falling, lowering, number}
+use Rattle.rules.specs.CheckLaws.{is-number, prices-facts}
 use Rattle.rules.specs.Rounds.{steps, put, accepted, excess}
 use Rattle.sound.specs.Sound.{Sound, Registered}
 use Rattle.reachable.specs.Bounds.{offer-fits}
@@ -26,7 +28,8 @@ use Rattle.history.specs.declared.History.{History}
 use Rattle.auction.specs.declared.Auction.{Auction}
 use Rattle.auction.specs.Holds.{ofEach, auctionOf}
 use Rattle.auction.specs.Called.{Called}
-use Rattle.auction.proofs.Calls.{Holding, refused, Taken, taken}
+use Rattle.auction.specs.Tests.{mayOfferBy, pricedBy}
+use Rattle.auction.proofs.Calls.{where-true, refused, taken}
 use Rattle.auction.specs.Places.{each-at, put-at, put-keeps}
 use Rattle.auction.proofs.Phases.{round-is}
 
@@ -34,12 +37,9 @@ use Rattle.auction.proofs.Phases.{round-is}
 pub levels-in : (ls : List ℕ) → levelsIn (heldLevels ls) ≡ ls
 levels-in ls = take-append-seam ls _
 
--- the tests on the way: a round is open, the number is 1 to 32, the developer is of kind 2, no offer stands
-pub record Allowed (a : Auction) (n : ℕ) : Type 0 where
-  pub phase : a .phase ≡ 2
-  pub low : 1 ≤ n
-  pub high : n ≤ 32
-  pub kind : getD (a .kinds) (n - 1) 0 ≡ 2
+pub offerer-number : (a : Auction) (n : ℕ) → mayOfferBy a n ≡ true → (1 ≤ n) × (n ≤ 32)
+unfolding mayOfferBy
+offerer-number a n e = is-number n (and-true (isNumber n) _ e .0)
 
 module _ (n : ℕ) (ps qs : List ℕ) (a : Auction) where
   -- what the auction holds of developer n
@@ -63,34 +63,31 @@ module _ (n : ℕ) (ps qs : List ℕ) (a : Auction) where
   in-round : a .phase ≡ 2 → (l : Ledger) → a ≡ auctionOf l → inRound (l .phase) ≡ true
   in-round z l h = round-is a l h ∙ eq-eqb _ 2 z
 
-  may-offer : Allowed a n → (l : Ledger) → a ≡ auctionOf l → mayOffer l n ≡ true
-  may-offer w l h = simp (le-leb 1 n (w .low), le-leb n 32 (w .high), eq-eqb _ 2 (sym (kind-at l h (w .low) (w .high)) ∙ w .kind))
+  may-offer-at : (l : Ledger) → a ≡ auctionOf l → mayOffer l n ≡ mayOfferBy a n
+  unfolding mayOfferBy
+  may-offer-at l h = where-true (isNumber n) (λ e. let b = is-number n e in ap (λ (k : ℕ). eqb k 2) (sym (kind-at l h (b .0) (b .1))))
 
   pub offer-phase : (a .phase ≡ 2 → ⊥) → Called (Offer n ps qs) a a 2 (pos 0)
   unfolding number
   offer-phase z = refused _ a 2 (omega arith) (λ l s h. simp (round-is a l h ∙ ne-eqb _ 2 z))
 
-  -- the developer may not offer
-  barred : a .phase ≡ 2 → Holding a (λ l. mayOffer l n ≡ false) → Called (Offer n ps qs) a a 3 (pos 0)
+  pub offer-barred : a .phase ≡ 2 → mayOfferBy a n ≡ false → Called (Offer n ps qs) a a 3 (pos 0)
   unfolding number
-  barred z f = refused _ a 3 (omega arith) (λ l s h. simp (in-round z l h, f l s h))
+  offer-barred z f = refused _ a 3 (omega arith) (λ l s h. simp (in-round z l h, may-offer-at l h ∙ f))
 
-  pub offer-number-low : a .phase ≡ 2 → n < 1 → Called (Offer n ps qs) a a 3 (pos 0)
-  offer-number-low z w = barred z (λ l s h. simp (lt-leb 1 n w))
+  module _ (z : a .phase ≡ 2) (w : mayOfferBy a n ≡ true) (d : History) where
+    low : 1 ≤ n
+    low = offerer-number a n w .0
 
-  pub offer-number-high : a .phase ≡ 2 → 1 ≤ n → 32 < n → Called (Offer n ps qs) a a 3 (pos 0)
-  offer-number-high z w v = barred z (λ l s h. simp (le-leb 1 n w, lt-leb n 32 v))
+    high : n ≤ 32
+    high = offerer-number a n w .1
 
-  pub offer-kind : a .phase ≡ 2 → 1 ≤ n → n ≤ 32 → (getD (a .kinds) (n - 1) 0 ≡ 2 → ⊥) → Called (Offer n ps qs) a a 3 (pos 0)
-  offer-kind z low high k = barred z (λ l s h. simp (le-leb 1 n low, le-leb n 32 high, ne-eqb _ 2 (λ e. k (kind-at l h low high ∙ e))))
-
-  module _ (w : Allowed a n) (d : History) where
     offered-at : (l : Ledger) → a ≡ auctionOf l → offeredNumber (l .developers n .offer) ≡ getD (a .histories) (n - 1) d .offered
-    offered-at l h = ap (λ (x : History). x .offered) (sym (history-at l h (w .low) (w .high) d))
+    offered-at l h = ap (λ (x : History). x .offered) (sym (history-at l h low high d))
 
     pub offer-second : 0 < getD (a .histories) (n - 1) d .offered → Called (Offer n ps qs) a a 8 (pos 0)
     unfolding number
-    offer-second v = refused _ a 8 (omega arith) (λ l s h. simp (in-round (w .phase) l h, may-offer w l h, is-none-by-number (l .developers n .offer) ∙ ne-eqb (offeredNumber (l .developers n .offer)) 0 (λ e. let k = offered-at l h in omega arith)))
+    offer-second v = refused _ a 8 (omega arith) (λ l s h. simp (in-round z l h, may-offer-at l h ∙ w, is-none-by-number (l .developers n .offer) ∙ ne-eqb (offeredNumber (l .developers n .offer)) 0 (λ e. let k = offered-at l h in omega arith)))
 
     module _ (none-yet : getD (a .histories) (n - 1) d .offered ≤ 0) where
       first : getD (a .histories) (n - 1) d .offered ≡ 0
@@ -99,42 +96,26 @@ module _ (n : ℕ) (ps qs : List ℕ) (a : Auction) where
       first-is : (l : Ledger) → a ≡ auctionOf l → isNone (l .developers n .offer) ≡ true
       first-is l h = is-none-by-number (l .developers n .offer) ∙ eq-eqb _ 0 (offered-at l h ∙ first)
 
-      ill-priced : Holding a (λ l. pricesOk l ps qs ≡ false) → Called (Offer n ps qs) a a 6 (pos 0)
+      prices-at : (l : Ledger) → a ≡ auctionOf l → pricesOk l ps qs ≡ pricedBy a ps qs
+      unfolding pricesOk pricedBy auctionOf
+      prices-at l h = ap (λ (x : Auction). eqb (length ps) (length qs) && leb (length ps) 8 && falling (x .closing) (x .opening) ps) (sym h)
+
+      pub offer-prices : pricedBy a ps qs ≡ false → Called (Offer n ps qs) a a 6 (pos 0)
       unfolding number
-      ill-priced f = refused _ a 6 (omega arith) (λ l s h. simp (in-round (w .phase) l h, may-offer w l h, first-is l h, f l s h))
+      offer-prices f = refused _ a 6 (omega arith) (λ l s h. simp (in-round z l h, may-offer-at l h ∙ w, first-is l h, prices-at l h ∙ f))
 
-      pub offer-lengths : (length ps ≡ length qs → ⊥) → Called (Offer n ps qs) a a 6 (pos 0)
-      unfolding pricesOk
-      offer-lengths z = ill-priced (λ l s h. simp (ne-eqb (length ps) (length qs) z))
-
-      pub offer-long : length ps ≡ length qs → 8 < length ps → Called (Offer n ps qs) a a 6 (pos 0)
-      unfolding pricesOk
-      offer-long e v = ill-priced (λ l s h. simp (eq-eqb (length ps) (length qs) e, lt-leb (length ps) 8 v))
-
-      falls-at : (l : Ledger) → a ≡ auctionOf l → falling (l .closing) (l .opening) ps ≡ falling (a .closing) (a .opening) ps
-      unfolding auctionOf
-      falls-at l h = ap (λ (x : Auction). falling (x .closing) (x .opening) ps) (sym h)
-
-      pub offer-prices : length ps ≡ length qs → length ps ≤ 8 → falling (a .closing) (a .opening) ps ≡ false → Called (Offer n ps qs) a a 6 (pos 0)
-      unfolding pricesOk
-      offer-prices e v f = ill-priced (λ l s h. simp (eq-eqb (length ps) (length qs) e, le-leb (length ps) 8 v, falls-at l h ∙ f))
-
-      module _ (e : length ps ≡ length qs) (v : length ps ≤ 8) (f : falling (a .closing) (a .opening) ps ≡ true) (k : Levels) where
-        prices-are : (l : Ledger) → a ≡ auctionOf l → pricesOk l ps qs ≡ true
-        unfolding pricesOk
-        prices-are l h = simp (eq-eqb (length ps) (length qs) e, le-leb (length ps) 8 v, falls-at l h ∙ f)
-
+      module _ (f : pricedBy a ps qs ≡ true) (k : Levels) where
         lowering-at : (l : Ledger) → a ≡ auctionOf l → lowering (l .developers n .declared .levels) (l .developers n .quantity) qs ≡ lowering (levelsIn (getD (a .declared) (n - 1) k)) (getD (a .quantities) (n - 1) 0) qs
-        lowering-at l h = rw (declared-at l h (w .low) (w .high) k, quantity-at l h (w .low) (w .high), levels-in)
+        lowering-at l h = rw (declared-at l h low high k, quantity-at l h low high, levels-in)
 
         pub offer-levels : lowering (levelsIn (getD (a .declared) (n - 1) k)) (getD (a .quantities) (n - 1) 0) qs ≡ false → Called (Offer n ps qs) a a 7 (pos 0)
         unfolding number
-        offer-levels g = refused _ a 7 (omega arith) (λ l s h. simp (in-round (w .phase) l h, may-offer w l h, first-is l h, prices-are l h, lowering-at l h ∙ g))
+        offer-levels g = refused _ a 7 (omega arith) (λ l s h. simp (in-round z l h, may-offer-at l h ∙ w, first-is l h, prices-at l h ∙ f, lowering-at l h ∙ g))
 
         module _ (g : lowering (levelsIn (getD (a .declared) (n - 1) k)) (getD (a .quantities) (n - 1) 0) qs ≡ true) (r : History) (o : Offered (getD (a .histories) (n - 1) d) ps qs r) where
           passes : (l : Ledger) → a ≡ auctionOf l → number l (Offer n ps qs) ≡ 0
           unfolding number
-          passes l h = simp (in-round (w .phase) l h, may-offer w l h, first-is l h, prices-are l h, lowering-at l h ∙ g)
+          passes l h = simp (in-round z l h, may-offer-at l h ∙ w, first-is l h, prices-at l h ∙ f, lowering-at l h ∙ g)
 
           -- the developer with the offer
           abbrev entry : Ledger → Developer
@@ -145,10 +126,13 @@ module _ (n : ℕ) (ps qs : List ℕ) (a : Auction) where
             offer = made (steps ps qs);
           }
 
+          as-long : (l : Ledger) → a ≡ auctionOf l → length ps ≡ length qs
+          as-long l h = prices-facts l ps qs (prices-at l h ∙ f) .same
+
           -- the ledger with the offer is sound, so there is room for its steps
           room : (l : Ledger) → Sound l → a ≡ auctionOf l → length (l .developers n .withdrawals) + length ps ≤ 8
           unfolding accepted
-          room l s h = ⊎-elim (λ z. absurd (nobody-offers z)) (λ q. omega (arith, fits q, steps-length ps qs e)) (after .each n)
+          room l s h = ⊎-elim (λ z. absurd (nobody-offers z)) (λ q. omega (arith, fits q, steps-length ps qs (as-long l h))) (after .each n)
             where
               after : Sound (accepted l (Offer n ps qs))
               after = rw (step-accepted l (Offer n ps qs) (passes l h)) at (sound-step l (Offer n ps qs) s)
@@ -157,7 +141,7 @@ module _ (n : ℕ) (ps qs : List ℕ) (a : Auction) where
               here = ap (λ (b : Bool). cond b (entry l) (l .developers n)) (eq-eqb n n refl)
 
               nobody-offers : accepted l (Offer n ps qs) .developers n ≡ nobody → ⊥
-              nobody-offers z = let y : made (steps ps qs) ≡ none = ap (λ (x : Developer). x .offer) (sym here ∙ z) in let q : _≡_ {A = ℕ} 0 1 = cc in omega arith
+              nobody-offers q = let y : made (steps ps qs) ≡ none = ap (λ (x : Developer). x .offer) (sym here ∙ q) in let q : _≡_ {A = ℕ} 0 1 = cc in omega arith
 
               fits : Registered (accepted l (Offer n ps qs)) n → length (l .developers n .withdrawals) + length (steps ps qs) ≤ 8
               fits q = subst (λ (x : Developer). length (x .withdrawals) + length (steps ps qs) ≤ 8) here (offer-fits q (ap (λ (x : Developer). x .offer) here))
@@ -165,8 +149,8 @@ module _ (n : ℕ) (ps qs : List ℕ) (a : Auction) where
           history-next : (l : Ledger) → Sound l → a ≡ auctionOf l → r ≡ held (l .developers n .withdrawals) (made (steps ps qs))
           history-next l s h =
               o .right (l .developers n .withdrawals)
-              (history-at l h (w .low) (w .high) d ∙ ap (held (l .developers n .withdrawals)) (offered-none (l .developers n .offer) (offered-at l h ∙ first)))
-              e
+              (history-at l h low high d ∙ ap (held (l .developers n .withdrawals)) (offered-none (l .developers n .offer) (offered-at l h ∙ first)))
+              (as-long l h)
               (room l s h)
 
           -- the auction with the offer standing
@@ -187,7 +171,7 @@ module _ (n : ℕ) (ps qs : List ℕ) (a : Auction) where
 
           -- what the offer leaves as it was
           keeps : {A : Type 0} (f : Developer → A) (l : Ledger) → f (entry l) ≡ f (l .developers n) → ofEach f l ≡ map (λ m. f (put n (entry l) (l .developers) m)) (oneTo 32)
-          keeps f l z = sym (put-keeps f l n (entry l) z)
+          keeps f l q = sym (put-keeps f l n (entry l) q)
 
           pub offer-taken : Called (Offer n ps qs) a offering 0 (pos 0)
           unfolding excess accepted auctionOf
@@ -205,6 +189,6 @@ module _ (n : ℕ) (ps qs : List ℕ) (a : Auction) where
               days = (ap (λ (x : Auction). x .days) h ∙ keeps (λ x. x .declared .day) l refl) i;
               quantities = (ap (λ (x : Auction). x .quantities) h ∙ keeps (λ x. x .quantity) l refl) i;
               declared = (ap (λ (x : Auction). x .declared) h ∙ keeps (λ x. heldLevels (x .declared .levels)) l refl) i;
-              histories = (ap (λ (x : Auction). set (x .histories) (n - 1) r) h ∙ put-at (λ x. held (x .withdrawals) (x .offer)) l n (entry l) r (w .low) (w .high) (history-next l s h)) i;
+              histories = (ap (λ (x : Auction). set (x .histories) (n - 1) r) h ∙ put-at (λ x. held (x .withdrawals) (x .offer)) l n (entry l) r low high (history-next l s h)) i;
             };
           })

@@ -1,27 +1,27 @@
 -- Opening a round: the checks in their order, the first round's test that A is covered, and the round's prices held.
 use Prim.Native.Nat.{ℕ, _/_, _≤_, _<_}
 use mathlib.Core.Path.{_≡_, refl, sym, ap, _∙_}
-use mathlib.Core.Bool.{Bool, true, false, cond, not, _&&_, _||_}
-use mathlib.Core.Logic.{⊎-elim}
+use mathlib.Core.Bool.{Bool, true, false, cond, not, _||_}
 use native.Mathlib.Omega.{arith}
 use lib.Dec.{eqb, leb}
 use lib.IntN.{pos}
-use borrow.Author.Tests.{eq-eqb, ne-eqb, le-leb, lt-leb, lt-ltb, le-ltb, eqb-true}
-use Rattle.curve.specs.Demand.{dem}
-use Rattle.rules.specs.Ledger.{Open, Developer, Phase, Fresh, Ready, Round, Between, Closed, Ledger, nobody}
-use Rattle.rules.specs.Clearing.{after, high, highest, supply, demandAt, covered}
-use Rattle.rules.specs.Refusals.{isFresh, isReady, mayOpen, floor, openingPrice, closingOk, startCovered, number}
+use borrow.Author.Tests.{le-leb, lt-leb, lt-ltb, le-ltb}
+use Rattle.rules.specs.Ledger.{Open, Phase, Fresh, Ready, Round, Between, Closed, Ledger}
+use Rattle.rules.specs.Clearing.{after, high, supply, demandAt, covered}
+use Rattle.rules.specs.Refusals.{isFresh, isReady, floor, openingPrice, closingOk, startCovered, number}
 use Rattle.rules.specs.Rounds.{lastLevel, accepted, excess}
-use Rattle.sound.specs.Sound.{Sound, started, Registered}
-use Rattle.reachable.specs.Bounds.{settings-facts, a-in-range}
+use Rattle.sound.specs.Sound.{Sound, started}
+use Rattle.rules.specs.CheckLaws.{in-settings}
+use Rattle.reachable.specs.Bounds.{a-in-range}
 use Rattle.reachable.specs.Supplies.{supply-same}
 use Rattle.clearing.specs.Course.{courses}
 use Rattle.supply.specs.ByProject.{supplyOf}
 use Rattle.supply.specs.ByProjectLaws.{supply-of}
 use Rattle.auction.specs.declared.Auction.{Auction}
-use Rattle.auction.specs.Holds.{auctionOf}
-use Rattle.auction.specs.Called.{Called, demandBy}
-use Rattle.auction.proofs.Calls.{Holding, refused, Taken, taken}
+use Rattle.auction.specs.Holds.{auctionOf, Holding}
+use Rattle.auction.specs.Called.{Called}
+use Rattle.auction.specs.Tests.{demandBy, mayOpenBy, openingBy, coveredBy}
+use Rattle.auction.proofs.Calls.{refused, taken}
 use Rattle.auction.proofs.Phases.{ready-is, may-open-is}
 use Rattle.auction.specs.Demands.{demand-is}
 
@@ -50,11 +50,11 @@ ready-not-fresh Between e = refl
 ready-not-fresh Closed e = refl
 
 module _ (c : ℕ) (a : Auction) where
-  pub open-phase : eqb (a .phase) 1 || eqb (a .phase) 3 ≡ false → Called (Open c) a a 2 (pos 0)
+  pub open-phase : mayOpenBy (a .phase) ≡ false → Called (Open c) a a 2 (pos 0)
   unfolding number
   open-phase z = refused _ a 2 (omega arith) (λ l s h. simp (may-open-is a l h ∙ z))
 
-  module _ (z : eqb (a .phase) 1 || eqb (a .phase) 3 ≡ true) where
+  module _ (z : mayOpenBy (a .phase) ≡ true) where
     bad-price : Holding a (λ l. closingOk l c ≡ false) → Called (Open c) a a 5 (pos 0)
     unfolding number
     bad-price f = refused _ a 5 (omega arith) (λ l s h. simp (may-open-is a l h ∙ z, f l s h))
@@ -67,7 +67,7 @@ module _ (c : ℕ) (a : Auction) where
     unfolding closingOk
     open-below-floor v = bad-price (λ l s h. simp (lt-leb (floor l) c (let e = floor-at l h in omega arith)))
 
-    module _ (v : a .settings .ce / 2 ≤ c) (o : ℕ) (e : o ≡ cond (eqb (a .phase) 1) (a .settings .a) (a .closing)) where
+    module _ (v : a .settings .ce / 2 ≤ c) (o : ℕ) (e : o ≡ openingBy a) where
       opening-at : (l : Ledger) → a ≡ auctionOf l → openingPrice l ≡ o
       unfolding openingPrice auctionOf
       opening-at l h = ap (λ (b : Bool). cond b (l .settings .a) (l .closing)) (ready-is a l h) ∙ ap (λ (x : Auction). cond (eqb (a .phase) 1) (x .settings .a) (x .closing)) (sym h) ∙ sym e
@@ -81,18 +81,15 @@ module _ (c : ℕ) (a : Auction) where
         unfolding closingOk
         price-at l h = simp (le-leb (floor l) c (let f = floor-at l h in omega arith), lt-ltb c (openingPrice l) (let f = opening-at l h in omega arith))
 
-        abbrev tested : Bool
-        tested = not (eqb (a .phase) 1) || leb (demandBy (a .settings) (a .settings .a)) (supplyOf (a .projects) (a .quantities))
-
         covered-at : (l : Ledger) → Sound l → a ≡ auctionOf l → isReady (l .phase) ≡ true → covered l (l .settings .a) ≡ leb (demandBy (a .settings) (a .settings .a)) (supplyOf (a .projects) (a .quantities))
         unfolding covered auctionOf demandBy
         covered-at l s h r =
-            let f = settings-facts (l .settings) (s .settings (ready-not-fresh (l .phase) r)) in
+            let f = in-settings (l .settings) (s .settings (ready-not-fresh (l .phase) r)) in
             ap (λ (n : ℕ). leb (demandAt l (l .settings .a)) n) (ready-supply l s r ∙ sym (supply-of (λ x. x .quantity) l))
-            ∙ ap (λ (n : ℕ). leb n (supplyOf (auctionOf l .projects) (auctionOf l .quantities))) (sym (demand-is _ _ _ _ _ (f .0) (a-in-range s (ready-not-fresh (l .phase) r))))
+            ∙ ap (λ (n : ℕ). leb n (supplyOf (auctionOf l .projects) (auctionOf l .quantities))) (sym (demand-is _ _ _ _ _ (f .bounds) (a-in-range s (ready-not-fresh (l .phase) r))))
             ∙ ap (λ (x : Auction). leb (demandBy (x .settings) (x .settings .a)) (supplyOf (x .projects) (x .quantities))) (sym h)
 
-        start-at : (l : Ledger) → Sound l → a ≡ auctionOf l → startCovered l ≡ tested
+        start-at : (l : Ledger) → Sound l → a ≡ auctionOf l → startCovered l ≡ coveredBy a
         unfolding startCovered
         start-at l s h = go (isReady (l .phase)) refl (eqb (a .phase) 1) (ready-is a l h)
           where
@@ -100,7 +97,7 @@ module _ (c : ℕ) (a : Auction) where
             go true e b′ f = rw (← f, e) (covered-at l s h e)
             go false e b′ f = rw (← f, e)
 
-        pub open-uncovered : tested ≡ false → Called (Open c) a a 9 (pos 0)
+        pub open-uncovered : coveredBy a ≡ false → Called (Open c) a a 9 (pos 0)
         unfolding number
         open-uncovered g = refused _ a 9 (omega arith) (λ l s h. simp (may-open-is a l h ∙ z, price-at l h, start-at l s h ∙ g))
 
@@ -120,7 +117,7 @@ module _ (c : ℕ) (a : Auction) where
           histories = a .histories;
         }
 
-        pub open-taken : tested ≡ true → Called (Open c) a opened 0 (pos 0)
+        pub open-taken : coveredBy a ≡ true → Called (Open c) a opened 0 (pos 0)
         unfolding number excess accepted auctionOf
         open-taken g = taken _ a opened (pos 0) (λ l s h. record {
           number = simp (may-open-is a l h ∙ z, price-at l h, start-at l s h ∙ g);

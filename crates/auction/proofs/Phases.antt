@@ -1,13 +1,12 @@
 -- The phase by its number.
 use mathlib.Core.Path.{_≡_, refl, sym, ap, _∙_}
-use mathlib.Core.Bool.{Bool, true, false, _||_}
 use Prim.Native.Nat.{ℕ}
 use lib.Dec.{eqb}
-use borrow.Author.Tests.{eq-eqb, ne-eqb}
 use Rattle.rules.specs.Ledger.{Phase, Fresh, Ready, Round, Between, Closed, Ledger}
 use Rattle.rules.specs.Refusals.{isFresh, isReady, mayOpen, inRound}
 use Rattle.auction.specs.declared.Auction.{Auction}
 use Rattle.auction.specs.Holds.{phaseNumber, auctionOf}
+use Rattle.auction.specs.Tests.{mayOpenBy}
 
 fresh-number : (p : Phase) → isFresh p ≡ eqb (phaseNumber p) 0
 fresh-number Fresh = refl
@@ -30,7 +29,7 @@ round-number Round = refl
 round-number Between = refl
 round-number Closed = refl
 
-may-open-number : (p : Phase) → mayOpen p ≡ eqb (phaseNumber p) 1 || eqb (phaseNumber p) 3
+may-open-number : (p : Phase) → mayOpen p ≡ mayOpenBy (phaseNumber p)
 may-open-number Fresh = refl
 may-open-number Ready = refl
 may-open-number Round = refl
@@ -51,5 +50,5 @@ module _ (a : Auction) (l : Ledger) (h : a ≡ auctionOf l) where
   pub round-is : inRound (l .phase) ≡ eqb (a .phase) 2
   round-is = round-number (l .phase) ∙ ap (λ (n : ℕ). eqb n 2) (sym phase-is)
 
-  pub may-open-is : mayOpen (l .phase) ≡ eqb (a .phase) 1 || eqb (a .phase) 3
-  may-open-is = may-open-number (l .phase) ∙ ap (λ (n : ℕ). eqb n 1 || eqb n 3) (sym phase-is)
+  pub may-open-is : mayOpen (l .phase) ≡ mayOpenBy (a .phase)
+  may-open-is = may-open-number (l .phase) ∙ ap mayOpenBy (sym phase-is)

@@ -1,18 +1,19 @@
 -- Registration: the tests over the arrays are the ledger's, and a newcomer is stored to one place of each array.
-use Prim.Native.Nat.{ℕ, zero, suc, _-_, _≤_}
+use Prim.Native.Nat.{ℕ, _-_, _≤_}
 use mathlib.Core.Path.{_≡_, refl, sym, ap, _∙_}
 use mathlib.Core.Logic.{⊎-elim}
-use mathlib.Core.Bool.{Bool, true, false, _&&_, _||_}
+use mathlib.Core.Bool.{true, false, _&&_}
 use mathlib.Core.List.{List, [], map}
 use native.Mathlib.Omega.{arith}
-use lib.Dec.{eqb, leb}
+use lib.Dec.{eqb}
 use lib.IntN.{pos}
 use lib.ListN.{length, set}
-use borrow.Author.Tests.{eq-eqb, ne-eqb, le-leb, lt-leb, leb-true}
+use borrow.Author.Tests.{eq-eqb, ne-eqb}
 use Rattle.numbers.specs.Cases.{and-true}
 use Rattle.numbers.specs.Lists.{oneTo, lastOr}
 use Rattle.rules.specs.Ledger.{Declaration, Call, none, Developer, Ledger, nobody}
 use Rattle.rules.specs.Refusals.{isNumber, numbersOk, declarationOk, check, number}
+use Rattle.rules.specs.CheckLaws.{is-number}
 use Rattle.rules.specs.Rounds.{put, accepted, excess}
 use Rattle.sound.specs.Sound.{Sound}
 use Rattle.reachable.specs.Checks.{RegisterPassed, register-passed, Numbers, numbers-facts, declaration-facts, levels-facts}
@@ -21,40 +22,25 @@ use Rattle.levels.specs.Held.{heldLevels, Copied, Highest}
 use Rattle.history.specs.Held.{held}
 use Rattle.supply.specs.ByProjectLaws.{joins-of}
 use Rattle.auction.specs.declared.Auction.{Auction}
-use Rattle.auction.specs.Holds.{ofEach, auctionOf}
-use Rattle.auction.specs.Called.{Called, registers, numbersFree, declarable}
+use Rattle.auction.specs.Holds.{ofEach, auctionOf, Holding}
+use Rattle.auction.specs.Called.{Called, registers}
+use Rattle.auction.specs.Tests.{numbersFree, declarable}
 use Rattle.auction.specs.Places.{each-at, put-at, put-keeps}
-use Rattle.auction.proofs.Calls.{Holding, refused, taken}
+use Rattle.auction.proofs.Calls.{where-true, refused, taken}
 use Rattle.auction.proofs.Phases.{ready-is}
 
 -- ---- the tests
-
--- the two kinds are the numbers from 1 to 2
-pub kind-by-bounds : (n : ℕ) → eqb n 1 || eqb n 2 ≡ leb 1 n && leb n 2
-kind-by-bounds zero = refl
-kind-by-bounds (suc zero) = refl
-kind-by-bounds (suc (suc zero)) = refl
-kind-by-bounds (suc (suc (suc n))) = simp (ne-eqb (suc (suc (suc n))) 1 (λ e. omega arith), ne-eqb (suc (suc (suc n))) 2 (λ e. omega arith), le-leb 1 (suc (suc (suc n))) (omega arith), lt-leb (suc (suc (suc n))) 2 (omega arith))
-
-number-bounds : (n : ℕ) → isNumber n ≡ true → (1 ≤ n) × (n ≤ 32)
-number-bounds n e = let t = and-true (leb 1 n) (leb n 32) e in (leb-true 1 n (t .0), leb-true n 32 (t .1))
-
--- a place is read only under a developer's number
-if-numbers : (a b : Bool) {x y : Bool} → (b ≡ true → x ≡ y) → a && b && x ≡ a && b && y
-if-numbers true true h = h refl
-if-numbers true false h = refl
-if-numbers false b h = refl
 
 pub free-number : (projects : List ℕ) (k n : ℕ) → numbersFree projects k n ≡ true → (1 ≤ n) × (n ≤ 32)
 unfolding numbersFree
 free-number projects k n e =
     let t = and-true (isNumber k && isNumber n) _ e in
-    number-bounds n (and-true (isNumber k) (isNumber n) (t .0) .1)
+    is-number n (and-true (isNumber k) (isNumber n) (t .0) .1)
 
 numbers-held : (l : Ledger) (k n : ℕ) → numbersFree (ofEach (λ x. x .declared .project) l) k n ≡ numbersOk l k n
 unfolding numbersFree numbersOk
-numbers-held l k n = if-numbers (isNumber k) (isNumber n) (λ e.
-    let b = number-bounds n e in
+numbers-held l k n = where-true (isNumber k && isNumber n) (λ e.
+    let b = is-number n (and-true (isNumber k) (isNumber n) e .1) in
     ap (λ (m : ℕ). eqb m 0) (each-at (λ x. x .declared .project) l n 0 (b .0) (b .1)))
 
 -- under an unused number stands nobody

@@ -1,6 +1,6 @@
 -- Set-up, and demand by the settings that the auction holds.
-use Prim.Native.Nat.{ℕ, _≤_, _<_}
-use mathlib.Core.Path.{_≡_, refl, sym, ap, _∙_}
+use Prim.Native.Nat.{ℕ, _≤_}
+use mathlib.Core.Path.{_≡_, refl, _∙_}
 use mathlib.Core.Bool.{Bool, true, false, cond, _&&_}
 use native.Mathlib.Omega.{arith}
 use lib.IntN.{pos}
@@ -9,14 +9,12 @@ use Rattle.numbers.specs.Cases.{and-true}
 use Rattle.curve.specs.Demand.{dem, inBounds, inRange}
 use Rattle.curve.specs.Range.{in-bounds, in-range, dem-range}
 use Rattle.curve.specs.Answer.{Answer, demandAnswer}
-use Rattle.rules.specs.Ledger.{Settings, Ledger}
 use Rattle.rules.specs.Refusals.{settingsOk, number}
 use Rattle.rules.specs.Rounds.{accepted, excess}
-use Rattle.sound.specs.Sound.{Sound}
 use Rattle.auction.specs.declared.Auction.{Auction}
 use Rattle.auction.specs.Holds.{auctionOf}
 use Rattle.auction.specs.Called.{Called, settingsOf, setsUp}
-use Rattle.auction.proofs.Calls.{refused, Taken, taken}
+use Rattle.auction.proofs.Calls.{refused, taken}
 use Rattle.auction.proofs.Phases.{fresh-is}
 
 -- ---- demand

@@ -1,6 +1,6 @@
 -- The signed difference of two numbers fits 64 bits.
-use Prim.Native.Nat.{ℕ, zero, suc, _+_, _-_, _<_, _^_}
-use mathlib.Core.Path.{_≡_, refl, ap}
+use Prim.Native.Nat.{ℕ, suc, _-_, _<_, _^_}
+use mathlib.Core.Path.{_≡_}
 use mathlib.Core.Bool.{Bool, true, false, cond}
 use native.Mathlib.Omega.{arith}
 use lib.Dec.{ltb}
@@ -9,11 +9,7 @@ use lib.Signed.{mag}
 use mir.Syntax.{w64}
 use mir.Val.{toZ, ofZ, SFits}
 use mir.Facts.{toZ-pos, toZ-ofZ}
-use borrow.Author.Tests.{le-ltb}
-
-pos-minus : (x y : ℕ) → pos x -ℤ pos y ≡ subℕ x y
-pos-minus x zero = simp (le-ltb x 0 (omega arith)) (ap pos (omega arith))
-pos-minus x (suc y) = refl
+use Rattle.curve.specs.Signs.{minus}
 
 module _ (x y : ℕ) (v : x < 2 ^ 62) (w : y < 2 ^ 62) where
   small : mag (subℕ x y) < 2 ^ 63
@@ -27,7 +23,7 @@ module _ (x y : ℕ) (v : x < 2 ^ 62) (w : y < 2 ^ 62) where
   difference = rw (toZ-pos w64 {n = x} (omega arith), toZ-pos w64 {n = y} (omega arith))
 
   pub difference-fits : SFits w64 (pos x -ℤ pos y)
-  difference-fits = rw pos-minus (record { sfits = small })
+  difference-fits = rw minus (record { sfits = small })
 
   -- read back from its 64 bits
   pub difference-back : (z : ℤ) → z ≡ pos x -ℤ pos y → toZ w64 (ofZ w64 z) ≡ pos x -ℤ pos y

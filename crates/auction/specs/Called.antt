@@ -1,18 +1,12 @@
 -- What each call of the auction ensures. `a` is the auction before, `b` the auction after, `n` and `e` the answer's number and excess.
-use Prim.Native.Nat.{ℕ, _-_}
+use Prim.Native.Nat.{ℕ}
 use mathlib.Core.Path.{_≡_}
-use mathlib.Core.Bool.{Bool, _&&_, _||_}
 use mathlib.Core.List.{List, [], _∷_, _++_}
-use lib.Dec.{eqb}
 use lib.IntN.{ℤ, pos}
-use lib.ListN.{getD}
-use Rattle.curve.specs.Answer.{demandAnswer}
 use Rattle.rules.specs.Ledger.{Settings, Call, SetUp, Register, Close, Ledger}
-use Rattle.rules.specs.Refusals.{number, isNumber, levelsOk}
+use Rattle.rules.specs.Refusals.{number}
 use Rattle.rules.specs.Rounds.{ledger, excess, applied}
 use Rattle.sound.specs.Sound.{Sound}
-use Rattle.supply.specs.ByProject.{joins}
-use Rattle.auction.specs.declared.Settings.{Settings as Held}
 use Rattle.auction.specs.declared.Auction.{Auction}
 use Rattle.auction.specs.declared.Answer.{Answer}
 use Rattle.auction.specs.declared.Closing.{Closing}
@@ -43,18 +37,9 @@ registers k n kind study day ls = Register n (record { project = k; kind = kind;
 abbrev pub Closes : Auction → Closing → Type 0
 Closes a r = Called Close a (r .auction) (r .number) (r .excess)
 
--- ---- what the inner functions ensure
-
--- the tests of a registration, over the arrays
-unfoldable pub numbersFree : List ℕ → ℕ → ℕ → Bool
-numbersFree projects k n = isNumber k && isNumber n && eqb (getD projects (n - 1) 0) 0
-
-unfoldable pub declarable : List ℕ → List ℕ → ℕ → ℕ → List ℕ → Bool
-declarable projects kinds k kind ls = (eqb kind 1 || eqb kind 2) && levelsOk ls && joins projects kinds k kind
-
--- Dem(p) by the settings that the auction holds, 0 beyond the bounds
-unfoldable pub demandBy : Held → ℕ → ℕ
-demandBy s p = demandAnswer (s .ce) (s .d) (s .m1) (s .m2) p .value
+-- a refusal, with the auction as it was
+abbrev pub refusedBy : Auction → ℕ → Answer
+refusedBy a n = record { number = n; auction = a }
 
 -- the ledger with every offer applied
 abbrev pub appliedLedger : Ledger → Ledger

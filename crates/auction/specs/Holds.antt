@@ -1,11 +1,12 @@
 -- The one auction that holds a ledger: developer n stands at place n - 1 of each array, what is not used is zero.
 use Prim.Native.Nat.{ℕ}
-use mathlib.Core.List.{List, [], map}
+use mathlib.Core.Path.{_≡_}
+use mathlib.Core.List.{List, map}
 use Rattle.numbers.specs.Lists.{oneTo}
 use Rattle.rules.specs.Ledger.{Developer, Phase, Fresh, Ready, Round, Between, Closed, Ledger}
+use Rattle.sound.specs.Sound.{Sound}
 use Rattle.levels.specs.Held.{heldLevels}
 use Rattle.history.specs.Held.{held}
-use Rattle.auction.specs.declared.Settings.{Settings}
 use Rattle.auction.specs.declared.Auction.{Auction}
 
 abbrev pub phaseNumber : Phase → ℕ
@@ -39,3 +40,7 @@ auctionOf l = record {
   declared = ofEach (λ x. heldLevels (x .declared .levels)) l;
   histories = ofEach (λ x. held (x .withdrawals) (x .offer)) l;
 }
+
+-- P of every sound ledger that the auction holds
+abbrev pub Holding : Auction → (Ledger → Type 0) → Type 0
+Holding a P = (l : Ledger) → Sound l → a ≡ auctionOf l → P l

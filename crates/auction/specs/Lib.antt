@@ -1,4 +1,5 @@
 pub mod Holds
 pub mod Called
+pub mod Tests
 pub mod Places
 pub mod Demands

@@ -6,9 +6,9 @@ use mathlib.Core.Bool.{Bool, true, false, cond}
 use mathlib.Core.List.{List, [], _∷_, map}
 use native.Mathlib.Omega.{arith}
 use lib.Dec.{eqb}
-use lib.ListN.{length, getD, set, replicate, length-map, length-set, length-replicate, getD-replicate, List·getD-map}
+use lib.ListN.{length, getD, set, replicate, length-map, length-set, length-replicate, getD-replicate}
 use lib.Seq.{ext-getD, getD-set-same, getD-set-other}
-use borrow.Author.Tests.{eq-eqb, ne-eqb, eqb-true, eqb-false}
+use borrow.Author.Tests.{eqb-true, eqb-false}
 use Rattle.numbers.specs.Cases.{le-or-lt}
 use Rattle.numbers.specs.Lists.{oneTo}
 use Rattle.numbers.specs.ListLaws.{length-one-to, one-to-nth}

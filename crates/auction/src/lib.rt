@@ -2,20 +2,19 @@
 // document 01, for every list of calls (specs/Called.antt).
 ghost use mathlib.Core.Path.{_≡_};
 ghost use mathlib.Core.List.{[]};
-ghost use mathlib.Core.Bool.{cond, not, _&&_, _||_};
-ghost use Prim.Native.Nat.{_≤_, _<_, _^_};
-ghost use lib.Dec.{eqb, leb, ltb};
+ghost use Prim.Native.Nat.{min, _≤_, _<_, _^_};
 ghost use lib.IntN.{pos, _-ℤ_};
 ghost use Rattle.rules.specs.Ledger.{Open, Offer};
-ghost use Rattle.rules.specs.Refusals.{settingsOk};
+ghost use Rattle.rules.specs.Refusals.{settingsOk, isNumber};
 ghost use Rattle.rules.specs.Rounds.{ledger};
-ghost use Rattle.supply.specs.ByProject.{supplyOf};
 ghost use Rattle.auction.specs.Holds.{auctionOf};
-ghost use Rattle.auction.specs.Called.{Answered, Closes, settingsOf, setsUp, registers, numbersFree, declarable, demandBy, OffersApplied};
+ghost use Rattle.auction.specs.Called.{Answered, Closes, settingsOf, setsUp, registers, refusedBy, OffersApplied};
+ghost use Rattle.auction.specs.Tests.{isKind, numbersFree, declarable, demandBy, mayOpenBy, openingBy, coveredBy, mayOfferBy, pricedBy, withdrawsAll, phaseNumberAfter};
 use demand::Demanded;
 use history::History;
 use levels::Levels;
 
+// The settings that set-up stores: CE, D, M1, M2 and A (document 01, Demand).
 pub struct Settings {
     pub ce: u32,
     pub d: u64,
@@ -62,33 +61,48 @@ fn settings_ok(ce: u64, d: u64, m1: u64, m2: u64, a: u64) -> bool
     if a <= ce / 2 {
         return false;
     }
+    // no price is above it, so A fits 32 bits
+    if a > Auction::TOP_PRICE as u64 {
+        return false;
+    }
     if 2 * ce < a {
         return false;
     }
     true
 }
 
+// Whether n is the number of a project or a developer.
+fn is_number(n: u8) -> bool
+    ensures { λ r. ⌜ r ≡ isNumber n ⌝ }
+{
+    if n < 1 {
+        return false;
+    }
+    n <= Auction::MOST_DEVELOPERS
+}
+
 // Whether project and developer have numbers 1 to 32 and the developer's is not used.
 fn numbers_ok(projects: [u8; 32], project: u8, developer: u8) -> bool
     ensures { λ r. ⌜ r ≡ numbersFree projects project developer ⌝ }
 {
-    if project < 1 {
+    if !is_number(project) {
         return false;
     }
-    if Auction::MOST < project {
-        return false;
-    }
-    if developer < 1 {
-        return false;
-    }
-    if Auction::MOST < developer {
+    if !is_number(developer) {
         return false;
     }
     let i = (developer - 1) as usize;
-    if projects[i] != 0 {
-        return false;
+    projects[i] == 0
+}
+
+// Whether a kind is one of the two.
+fn is_kind(kind: u8) -> bool
+    ensures { λ r. ⌜ r ≡ isKind kind ⌝ }
+{
+    if kind == Auction::EXISTING_PLANT {
+        return true;
     }
-    true
+    kind == Auction::NEW_PLANT
 }
 
 // Whether the kind and the levels are sound, and a developer of this kind may join the project.
@@ -101,10 +115,7 @@ fn declaration_ok(
 ) -> bool
     ensures { λ r. ⌜ r ≡ declarable projects kinds project kind (now (levels .entry)) ⌝ }
 {
-    if kind < 1 {
-        return false;
-    }
-    if 2 < kind {
+    if !is_kind(kind) {
         return false;
     }
     if !levels::levels_ok(levels) {
@@ -115,7 +126,7 @@ fn declaration_ok(
 
 // Whether an opening is accepted in this phase.
 fn may_open(phase: u8) -> bool
-    ensures { λ r. ⌜ r ≡ (eqb phase 1 || eqb phase 3) ⌝ }
+    ensures { λ r. ⌜ r ≡ mayOpenBy phase ⌝ }
 {
     if phase == Auction::READY {
         return true;
@@ -125,7 +136,7 @@ fn may_open(phase: u8) -> bool
 
 // The phase once a round is closed: closed if there is no excess or C is the floor.
 fn phase_after(supply: u64, demand: u64, closing: u32, floor: u32) -> u8
-    ensures { λ r. ⌜ r ≡ cond (leb supply demand || eqb closing floor) 4 3 ⌝ }
+    ensures { λ r. ⌜ r ≡ phaseNumberAfter supply demand closing floor ⌝ }
 {
     if supply <= demand {
         return Auction::CLOSED;
@@ -138,29 +149,34 @@ fn phase_after(supply: u64, demand: u64, closing: u32, floor: u32) -> u8
 
 // Whether a developer without an offer withdraws: one of kind 2 that is above 0.
 fn withdraws(kind: u8, quantity: u32) -> bool
-    ensures { λ r. ⌜ r ≡ (eqb kind 2 && ltb 0 quantity) ⌝ }
+    ensures { λ r. ⌜ r ≡ withdrawsAll kind quantity ⌝ }
 {
-    if kind != 2 {
+    if kind != Auction::NEW_PLANT {
         return false;
     }
     0 < quantity
 }
 
-// The signed difference.
-fn less(x: u64, y: u64) -> i64
-    requires { ⌜ (x < 2 ^ 62) × (y < 2 ^ 62) ⌝ }
-    ensures { λ r. ⌜ r ≡ pos x -ℤ pos y ⌝ }
+// The excess: supply less demand, signed.
+fn excess_of(supply: u64, demand: u64) -> i64
+    requires { ⌜ (supply < 2 ^ 62) × (demand < 2 ^ 62) ⌝ }
+    ensures { λ r. ⌜ r ≡ pos supply -ℤ pos demand ⌝ }
 {
-    x as i64 - y as i64
+    supply as i64 - demand as i64
 }
 
 impl Auction {
     // Projects and developers have numbers 1 to 32 (document 01, Registration).
-    pub const MOST: u8 = 32;
+    pub const MOST_DEVELOPERS: u8 = 32;
     // The highest price that an auction can have: 2 CE at the largest CE (document 01, Demand).
     pub const TOP_PRICE: u32 = 1_000_000;
     // The most choices that a settling counts (document 01, Closing price and award).
     pub const CHOICE_LIMIT: u32 = 65_536;
+
+    // The kinds: an existing plant, a new one (document 01, Registration).
+    pub const EXISTING_PLANT: u8 = 1;
+
+    pub const NEW_PLANT: u8 = 2;
 
     // The phases (document 01, Rounds).
     pub const FRESH: u8 = 0;
@@ -173,6 +189,7 @@ impl Auction {
 
     pub const CLOSED: u8 = 4;
 
+    // A fresh auction.
     pub fn new() -> Auction
         ensures { λ r. ⌜ r ≡ auctionOf (ledger []) ⌝ }
     {
@@ -202,20 +219,25 @@ impl Auction {
         }
     }
 
+    // The same auction, and a refusal's number.
+    fn refused(self, number: u8) -> Answer
+        ensures { λ r. ⌜ r ≡ refusedBy self number ⌝ }
+    {
+        Answer {
+            number: number,
+            auction: self,
+        }
+    }
+
+    // Set-up. Checks: 2, 1.
     pub fn set_up(self, ce: u64, d: u64, m1: u64, m2: u64, a: u64) -> Answer
         ensures { λ r. ⌜ Answered (setsUp ce d m1 m2 a) self r ⌝ }
     {
         if self.phase != Auction::FRESH {
-            return Answer {
-                number: 2,
-                auction: self,
-            };
+            return self.refused(2);
         }
         if !settings_ok(ce, d, m1, m2, a) {
-            return Answer {
-                number: 1,
-                auction: self,
-            };
+            return self.refused(1);
         }
         let settings = Settings {
             ce: ce as u32,
@@ -233,6 +255,7 @@ impl Auction {
         }
     }
 
+    // Checks: 2, 3, 4.
     pub fn register(
         self,
         project: u8,
@@ -245,24 +268,15 @@ impl Auction {
         ensures { λ r. ⌜ Answered (registers project developer kind study day (now (levels .entry))) self r ⌝ }
     {
         if self.phase != Auction::READY {
-            return Answer {
-                number: 2,
-                auction: self,
-            };
+            return self.refused(2);
         }
         let projects = self.projects;
         let kinds = self.kinds;
         if !numbers_ok(projects, project, developer) {
-            return Answer {
-                number: 3,
-                auction: self,
-            };
+            return self.refused(3);
         }
         if !declaration_ok(projects, kinds, project, kind, levels) {
-            return Answer {
-                number: 4,
-                auction: self,
-            };
+            return self.refused(4);
         }
         let i = (developer - 1) as usize;
         let declared = Levels::copied(levels);
@@ -292,7 +306,7 @@ impl Auction {
 
     // The opening price of the next round: A, or the last C.
     fn opening_price(self) -> u32
-        ensures { λ r. ⌜ r ≡ cond (eqb (self .phase) 1) (self .settings .a) (self .closing) ⌝ }
+        ensures { λ r. ⌜ r ≡ openingBy self ⌝ }
     {
         if self.phase == Auction::READY {
             return self.settings.a;
@@ -302,7 +316,7 @@ impl Auction {
 
     // Whether A is covered, if this is the first opening.
     fn start_covered(self) -> bool
-        ensures { λ r. ⌜ r ≡ (not (eqb (self .phase) 1) || leb (demandBy (self .settings) (self .settings .a)) (supplyOf (self .projects) (self .quantities))) ⌝ }
+        ensures { λ r. ⌜ r ≡ coveredBy self ⌝ }
     {
         if self.phase != Auction::READY {
             return true;
@@ -313,33 +327,22 @@ impl Auction {
         self.demand_at(a) <= supply::supply(projects, quantities)
     }
 
+    // Checks: 2, 5, 9.
     pub fn open(self, c: u32) -> Answer
         ensures { λ r. ⌜ Answered (Open c) self r ⌝ }
     {
         if !may_open(self.phase) {
-            return Answer {
-                number: 2,
-                auction: self,
-            };
+            return self.refused(2);
         }
         if c < self.settings.ce / 2 {
-            return Answer {
-                number: 5,
-                auction: self,
-            };
+            return self.refused(5);
         }
         let opening = self.opening_price();
         if opening <= c {
-            return Answer {
-                number: 5,
-                auction: self,
-            };
+            return self.refused(5);
         }
         if !self.start_covered() {
-            return Answer {
-                number: 9,
-                auction: self,
-            };
+            return self.refused(9);
         }
         let mut next = self;
         next.phase = Auction::ROUND;
@@ -351,65 +354,51 @@ impl Auction {
         }
     }
 
+    // Whether a developer may offer: it has a number and is of kind 2.
+    fn may_offer(self, developer: u8) -> bool
+        ensures { λ r. ⌜ r ≡ mayOfferBy self developer ⌝ }
+    {
+        if !is_number(developer) {
+            return false;
+        }
+        let i = (developer - 1) as usize;
+        self.kinds[i] == Auction::NEW_PLANT
+    }
+
+    // Whether an offer has as many prices as levels, at most 8, and the prices fall from the opening price to C.
+    fn prices_ok(self, prices: &[u32], levels: &[u32]) -> bool
+        ensures { λ r. ⌜ r ≡ pricedBy self (now (prices .entry)) (now (levels .entry)) ⌝ }
+    {
+        if prices.len() != levels.len() {
+            return false;
+        }
+        if History::MOST < prices.len() {
+            return false;
+        }
+        history::prices_fall(self.closing, self.opening, prices)
+    }
+
+    // Checks: 2, 3, 8, 6, 7; all prices before any level.
     pub fn offer(self, developer: u8, prices: &[u32], levels: &[u32]) -> Answer
         ensures { λ r. ⌜ Answered (Offer developer (now (prices .entry)) (now (levels .entry))) self r ⌝ }
     {
         if self.phase != Auction::ROUND {
-            return Answer {
-                number: 2,
-                auction: self,
-            };
+            return self.refused(2);
         }
-        if developer < 1 {
-            return Answer {
-                number: 3,
-                auction: self,
-            };
-        }
-        if Auction::MOST < developer {
-            return Answer {
-                number: 3,
-                auction: self,
-            };
+        if !self.may_offer(developer) {
+            return self.refused(3);
         }
         let i = (developer - 1) as usize;
-        if self.kinds[i] != 2 {
-            return Answer {
-                number: 3,
-                auction: self,
-            };
-        }
         let history = self.histories[i];
         if 0 < history.offered {
-            return Answer {
-                number: 8,
-                auction: self,
-            };
+            return self.refused(8);
         }
-        if prices.len() != levels.len() {
-            return Answer {
-                number: 6,
-                auction: self,
-            };
-        }
-        if History::MOST < prices.len() {
-            return Answer {
-                number: 6,
-                auction: self,
-            };
-        }
-        if !history::prices_fall(self.closing, self.opening, prices) {
-            return Answer {
-                number: 6,
-                auction: self,
-            };
+        if !self.prices_ok(prices, levels) {
+            return self.refused(6);
         }
         let declared = self.declared[i];
         if !declared.lowers(self.quantities[i], levels) {
-            return Answer {
-                number: 7,
-                auction: self,
-            };
+            return self.refused(7);
         }
         let mut next = self;
         next.histories[i] = history.offer(prices, levels);
@@ -436,6 +425,7 @@ impl Auction {
         next
     }
 
+    // Checks: 2. The answer is the excess at C.
     pub fn close(self) -> Closing
         ensures { λ r. ⌜ Closes self r ⌝ }
     {
@@ -452,12 +442,22 @@ impl Auction {
         let closing = self.closing;
         let supply = supply::supply(projects, quantities);
         let demand = self.demand_at(closing);
-        let excess = less(supply, demand);
+        let excess = excess_of(supply, demand);
         next.phase = phase_after(supply, demand, closing, self.settings.ce / 2);
         Closing {
             number: 0,
             excess: excess,
             auction: next,
         }
+    }
+
+    // The limit of a settling: above 65,536 it means 65,536 (document 01, Closing price and award).
+    pub fn capped_limit(limit: u32) -> u64
+        ensures { λ r. ⌜ r ≡ min limit 65536 ⌝ }
+    {
+        if limit <= Auction::CHOICE_LIMIT {
+            return limit as u64;
+        }
+        Auction::CHOICE_LIMIT as u64
     }
 }

@@ -1,5 +1,4 @@
 mod Counting
-mod Tails
 mod Writing
 mod Preferring
 mod Candidates

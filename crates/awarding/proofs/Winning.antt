@@ -3,7 +3,7 @@
 use Prim.Native.Nat.{ℕ, zero, suc, _+_, _-_, _≤_, _<_}
 use mathlib.Core.Path.{_≡_, refl, sym, ap, _∙_}
 use mathlib.Core.Bool.{Bool, true, false, cond, _&&_, and-false}
-use mathlib.Core.List.{List, [], _∷_, map}
+use mathlib.Core.List.{List, [], _∷_}
 use mathlib.Core.Logic.{⊎-elim}
 use native.Mathlib.Omega.{arith}
 use native.Mathlib.Nat.{add-zero}
@@ -14,12 +14,11 @@ use lib.ListN.{length, getD, set, replicate, getD-replicate, length-set}
 use lib.Seq.{ext-getD, getD-set-same, getD-set-other, take-append-seam}
 use borrow.Author.Tests.{eq-eqb, ne-eqb}
 use Rattle.numbers.specs.Cases.{le-or-lt, clash}
-use Rattle.numbers.specs.Lists.{oneTo}
-use Rattle.numbers.specs.ListLaws.{length-one-to, one-to-nth}
+use Rattle.numbers.specs.ListLaws.{numbered-nth}
 use Rattle.rules.specs.Ledger.{Ledger}
 use Rattle.rules.specs.Clearing.{high, low}
 use Rattle.rules.specs.Award.{preferred}
-use Rattle.levels.specs.Held.{heldLevels, levelsIn}
+use Rattle.levels.specs.Held.{noLevels, heldLevels, levelsIn}
 use Rattle.levels.specs.declared.Levels.{Levels}
 use Rattle.awarding.specs.Awarding.{winnersFrom, Arrays, Winners}
 use Rattle.awarding.specs.AwardingLaws.{winners-length}
@@ -29,34 +28,22 @@ use Rattle.awarding.proofs.Candidates.{better, chosen, chosen-first, ge
 
 -- ---- the arrays' places
 
-map-nth : {A B : Type 0} (f : A → B) (xs : List A) (i : ℕ) (a : A) (b : B) → i < length xs → getD (map f xs) i b ≡ f (getD xs i a)
-map-nth f [] i a b h = absurd (omega arith)
-map-nth f (x ∷ xs) zero a b h = refl
-map-nth f (x ∷ xs) (suc i) a b h = map-nth f xs i a b (omega arith)
-
-at-place : {B : Type 0} (f : ℕ → B) (xs : List B) (b : B) (i : ℕ) → xs ≡ map f (oneTo 32) → i < 32 → getD xs i b ≡ f (suc i)
-at-place {B} f xs b i e h = ap (λ (ys : List B). getD ys i b) e ∙ map-nth f (oneTo 32) i 0 b (omega (arith, length-one-to 32)) ∙ ap f (one-to-nth 32 i h)
-
--- what an array of levels has behind its end
-abbrev pub noLevels : Levels
-noLevels = record { values = []; count = 0 }
-
 module _ (l : Ledger) (p : ℕ) (ps ss ds : List ℕ) (xs : List Levels) (ls hs : List ℕ) (a : Arrays l p ps ss ds xs ls hs) (i : ℕ) (h : i < 32) where
   project-is : getD ps i 0 ≡ l .developers (suc i) .declared .project
-  project-is = at-place (λ n. l .developers n .declared .project) ps 0 i (a .projects) h
+  project-is = numbered-nth (λ n. l .developers n .declared .project) 32 ps i 0 (a .projects) h
 
   levels-are : levelsIn (getD xs i noLevels) ≡ l .developers (suc i) .declared .levels
-  levels-are = ap levelsIn (at-place (λ n. heldLevels (l .developers n .declared .levels)) xs noLevels i (a .declared) h) ∙ take-append-seam (l .developers (suc i) .declared .levels) _
+  levels-are = ap levelsIn (numbered-nth (λ n. heldLevels (l .developers n .declared .levels)) 32 xs i noLevels (a .declared) h) ∙ take-append-seam (l .developers (suc i) .declared .levels) _
 
   gets-is : (v : ℕ) → mayGet (levelsIn (getD xs i noLevels)) (getD ls i 0) (getD hs i 0) v ≡ getsIt l p v (suc i)
-  gets-is v = rw (levels-are, at-place (λ n. low p (l .developers n)) ls 0 i (a .lows) h, at-place (λ n. high p (l .developers n)) hs 0 i (a .highs) h)
+  gets-is v = rw (levels-are, numbered-nth (λ n. low p (l .developers n)) 32 ls i 0 (a .lows) h, numbered-nth (λ n. high p (l .developers n)) 32 hs i 0 (a .highs) h)
 
   preferred-is : (j : ℕ) → j < 32 → preferredAt ss ds i j ≡ preferred (l .developers (suc i)) (l .developers (suc j))
   unfolding preferredAt preferred
   preferred-is j g =
       let study : ℕ → ℕ = λ n. l .developers n .declared .study in
       let day : ℕ → ℕ = λ n. l .developers n .declared .day in
-      rw (at-place study ss 0 i (a .studies) h, at-place study ss 0 j (a .studies) g, at-place day ds 0 i (a .days) h, at-place day ds 0 j (a .days) g)
+      rw (numbered-nth study 32 ss i 0 (a .studies) h, numbered-nth study 32 ss j 0 (a .studies) g, numbered-nth day 32 ds i 0 (a .days) h, numbered-nth day 32 ds j 0 (a .days) g)
 
   foremost-is : (m : ℕ) → m ≤ 32 → foremost ss ds m i ≡ better l m (suc i)
   unfolding foremost better

@@ -11,9 +11,9 @@ use lib.Seq.{drop-cons}
 use borrow.Author.Tests.{eq-eqb, ne-eqb}
 use borrow.Rule.Slice.PartMut.{putMid, midOf, same-len-mid}
 use Rattle.rules.specs.Settling.{recordOf}
-use Rattle.awarding.specs.Awarding.{awardCount, recordsOf, laid}
+use Rattle.awarding.specs.Awarding.{awardCount, recordsOf}
 use Rattle.awarding.specs.AwardingLaws.{records-count, flat-length}
-use Rattle.awarding.proofs.Tails.{Filled, filled-more, filled-all}
+use Rattle.numbers.specs.Tails.{laid, Filled, filled-more, filled-all}
 
 -- what is left at place i: the record of its level, if that is above 0, and what is left behind it
 records-turn :
@@ -51,6 +51,7 @@ pub record Writing (award winners o out : List ℕ) (used i : ℕ) : Type 0 wher
   pub filled : Filled (text award winners) o out (left award winners i) used
 
 pub writing-first : (award winners o : List ℕ) → length award ≡ 32 → length winners ≡ 32 → 6 * awardCount award ≤ length o → Writing award winners o o 0 0
+unfolding laid
 writing-first award winners o l d h = record {
   levels = l;
   developers = d;
@@ -103,4 +104,4 @@ module _ (award winners o out : List ℕ) (used i : ℕ) (w : Writing award winn
 
   pub writing-end : 32 ≤ i → out ≡ laid (flatten (recordsOf 1 award winners)) o
   unfolding recordsOf flatten
-  writing-end h = filled-all _ _ _ _ _ (w .filled) (ap (λ (xs : List ℕ). flatten (recordsOf (i + 1) xs (drop i winners))) (drop-of-length-le award {i = i} (omega arith)))
+  writing-end h = filled-all _ _ _ _ _ (w .filled) (ap (λ (xs : List ℕ). flatten (recordsOf (i + 1) xs (drop i winners))) (drop-of-length-le award {i = i} (omega arith))) .1

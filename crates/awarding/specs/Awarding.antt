@@ -2,12 +2,12 @@
 use Prim.Native.Nat.{ℕ, suc}
 use mathlib.Core.Path.{_≡_}
 use mathlib.Core.Bool.{cond}
-use mathlib.Core.List.{List, [], _∷_, _++_, map}
+use mathlib.Core.List.{List, [], _∷_}
 use lib.Dec.{ltb, eqb}
-use lib.ListN.{length, drop}
-use Rattle.numbers.specs.Lists.{oneTo, keep}
+use lib.ListN.{length}
+use Rattle.numbers.specs.Lists.{keep}
 use Rattle.rules.specs.Ledger.{Ledger}
-use Rattle.rules.specs.Clearing.{high, low}
+use Rattle.rules.specs.Clearing.{ofEach, high, low}
 use Rattle.rules.specs.Award.{winner}
 use Rattle.rules.specs.Settling.{recordOf}
 use Rattle.sound.specs.Sound.{Sound}
@@ -23,12 +23,12 @@ winnersFrom l p k (v ∷ vs) = cond (eqb v 0) 0 (winner l p k v) ∷ winnersFrom
 
 -- the arrays of a ledger's developers 1 to 32: projects, study values, start days, levels, and lows and highs at p
 pub record Arrays (l : Ledger) (p : ℕ) (ps ss ds : List ℕ) (xs : List Levels) (ls hs : List ℕ) : Type 0 where
-  pub projects : ps ≡ map (λ n. l .developers n .declared .project) (oneTo 32)
-  pub studies : ss ≡ map (λ n. l .developers n .declared .study) (oneTo 32)
-  pub days : ds ≡ map (λ n. l .developers n .declared .day) (oneTo 32)
-  pub declared : xs ≡ map (λ n. heldLevels (l .developers n .declared .levels)) (oneTo 32)
-  pub lows : ls ≡ map (λ n. low p (l .developers n)) (oneTo 32)
-  pub highs : hs ≡ map (λ n. high p (l .developers n)) (oneTo 32)
+  pub projects : ps ≡ ofEach (λ x. x .declared .project) l
+  pub studies : ss ≡ ofEach (λ x. x .declared .study) l
+  pub days : ds ≡ ofEach (λ x. x .declared .day) l
+  pub declared : xs ≡ ofEach (λ x. heldLevels (x .declared .levels)) l
+  pub lows : ls ≡ ofEach (low p) l
+  pub highs : hs ≡ ofEach (high p) l
 
 -- r has the developers of the awarded levels, where the arrays are those of a sound ledger's developers at price p
 pub record Winners (projects studies days : List ℕ) (declared : List Levels) (lows highs award r : List ℕ) : Type 0 where
@@ -45,7 +45,3 @@ unfoldable pub recordsOf : ℕ → List ℕ → List ℕ → List (List ℕ)
 recordsOf k [] ns = []
 recordsOf k (v ∷ vs) [] = []
 recordsOf k (v ∷ vs) (n ∷ ns) = cond (eqb v 0) (recordsOf (suc k) vs ns) (recordOf k n v ∷ recordsOf (suc k) vs ns)
-
--- bytes over a buffer's start, the rest as it was
-abbrev pub laid : List ℕ → List ℕ → List ℕ
-laid bytes old = bytes ++ drop (length bytes) old

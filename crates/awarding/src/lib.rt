@@ -5,7 +5,8 @@ ghost use Prim.Native.Nat.{_*_, _<_, _≤_};
 ghost use lib.ListN.{length};
 ghost use Rattle.rules.specs.Settling.{recordOf};
 ghost use Rattle.levels.specs.Held.{levelsIn};
-ghost use Rattle.awarding.specs.Awarding.{Winners, awardCount, recordsOf, laid};
+ghost use Rattle.awarding.specs.Awarding.{Winners, awardCount, recordsOf};
+ghost use Rattle.numbers.specs.Tails.{laid};
 ghost use Rattle.awarding.specs.Choosing.{levelOf, mayGet, foremost};
 use levels::Levels;
 

@@ -38,9 +38,13 @@ module _ (l : Ledger) (p : ℕ) (s : Sound l) where
   highs-admissible = in-choices (rows l p) _ .1 (one-of-each-map (row l p) (greatestOf (high p) l) (oneTo 32) (λ k m. high-in-row l p k s))
 
   module _ (e : covered l p ≡ true) where
-    pub some-cover : coveringChoices l p ≡ [] → ⊥
+    -- and where p is covered, it covers
+    pub highs-cover : List·Memᴰ (map (greatestOf (high p) l) (oneTo 32)) (coveringChoices l p)
     unfolding coveringChoices covering covered supply
-    some-cover none = List·Memᴰ·not-nil (rw none at (in-keep (λ c. leb (demandAt l p) (total c)) _ (admissible l p) .1 (highs-admissible, e)))
+    highs-cover = in-keep (λ c. leb (demandAt l p) (total c)) _ (admissible l p) .1 (highs-admissible, e)
+
+    pub some-cover : coveringChoices l p ≡ [] → ⊥
+    some-cover none = List·Memᴰ·not-nil (rw none at highs-cover)
 
     pub award-is : IsBest (demandAt l p) (admissible l p) (award l p)
     unfolding award coveringChoices admissible

@@ -6,23 +6,23 @@ use mathlib.Core.Bool.{true, cond}
 use mathlib.Core.List.{List, [], _∷_, List·Memᴰ, List·Memᴰ·head, List·Memᴰ·not-nil, List·Memᴰ·eq-of-singleton}
 use native.Mathlib.Omega.{arith}
 use native.Mathlib.Nat.{le-refl}
-use lib.Dec.{leb, eqb}
+use lib.Dec.{leb}
 use lib.ListN.{getD}
-use borrow.Author.Tests.{leb-true, le-leb, eqb-true}
+use borrow.Author.Tests.{leb-true, le-leb}
 use Rattle.numbers.specs.Cases.{and-true}
 use Rattle.numbers.specs.Lists.{oneTo, lastOr}
-use Rattle.numbers.specs.ListLaws.{Each, Passing, or-true, in-keep, any-true, in-map, member-true}
-use Rattle.rules.specs.Ledger.{Developer, Ledger}
+use Rattle.numbers.specs.ListLaws.{Each, Passing, in-keep, any-true, in-map}
+use Rattle.rules.specs.Ledger.{declaredOrZero, Developer, Ledger}
 use Rattle.rules.specs.Clearing.{high, low, developersOf, greatestOf}
 use Rattle.rules.specs.Award.{openToDeveloper, openTo, declaredBy, openLevels, isEmpty, row, rows}
+use Rattle.rules.specs.CheckLaws.{declared-or-zero}
 use Rattle.rules.specs.Projects.{greatest-of-none, greatest-of-upper, greatest-of-attained}
 use Rattle.sound.specs.Sound.{Sound}
 use Rattle.clearing.specs.Course.{courses}
-use Rattle.clearing.specs.HighLow.{declaredOrZero, low-le-high, low-declared, high-declared}
+use Rattle.clearing.specs.HighLow.{low-le-high, low-declared, high-declared}
 use Rattle.clearing.specs.Supply.{greatest-of-le}
 use Rattle.awards.specs.Declared.{in-declared-by, declared-by-rises}
-use Rattle.choices.specs.Pairwise.{pairwise-keep, rising-last, rising-first}
-pub use Rattle.choices.specs.Pairwise.{StrictlyRising}
+use Rattle.choices.specs.Pairwise.{StrictlyRising, pairwise-keep, rising-last, rising-first}
 
 -- ---- what the tests say
 
@@ -57,7 +57,7 @@ open-levels l p k v = ((λ m. kept .0 m .1), (λ e. kept .1 (declared (open-to l
     kept = in-keep (openTo l p k) v (declaredBy l (developersOf l k))
 
     declared : Passing (λ n. openToDeveloper p (l .developers n) v) (developersOf l k) → List·Memᴰ v (declaredBy l (developersOf l k))
-    declared (n, m, t) = in-declared-by l (developersOf l k) v .1 (⊎-map (eqb-true v 0) (λ e. (n, m, member-true v _ .0 e)) (or-true (eqb v 0) _ (open-to-developer p _ v .0 t .declared)))
+    declared (n, m, t) = in-declared-by l (developersOf l k) v .1 (⊎-map (λ e. e) (λ i. (n, m, i)) (declared-or-zero _ v .0 (open-to-developer p _ v .0 t .declared)))
 
 pub open-levels-rise : (l : Ledger) (p k : ℕ) → StrictlyRising (openLevels l p k)
 unfolding openLevels

@@ -1,4 +1,4 @@
--- Choices of one level from each row of levels, their totals, and the best of them.
+-- Choices of one level from each row of levels, their totals, and the best of them (document 01, Closing price and award).
 use Prim.Native.Nat.{ℕ, _≤_, _<_}
 use mathlib.Core.Path.{_≡_}
 use mathlib.Core.Logic.{_⊎_}
@@ -18,17 +18,17 @@ unfoldable pub choices : List (List ℕ) → List (List ℕ)
 choices [] = [] ∷ []
 choices (row ∷ rows) = spread row (choices rows)
 
--- a choice covers the demand d if its total is at least d
+-- covers, a term of document 01: the choice's total, the sum of its levels, is at least the demand d
 unfoldable pub covering : ℕ → List (List ℕ) → List (List ℕ)
 covering d cs = keep (λ c. leb d (total c)) cs
 
--- c has the larger level at the first place where c and e differ
+-- the tie rule of document 01: c has the larger level at the first place where c and e differ
 unfoldable pub larger : List ℕ → List ℕ → Bool
 larger [] e = false
 larger (x ∷ c) [] = false
 larger (x ∷ c) (y ∷ e) = cond (eqb x y) (larger c e) (ltb y x)
 
--- c goes before e: a smaller total, or an equal one and the larger level where they first differ
+-- c goes before e: a smaller total, or an equal one and the tie rule
 unfoldable pub before : List ℕ → List ℕ → Bool
 before c e = cond (eqb (total c) (total e)) (larger c e) (ltb (total c) (total e))
 

@@ -3,7 +3,7 @@ use Prim.Native.Nat.{ℕ, zero, suc, _≤_, _<_}
 use mathlib.Core.Path.{_≡_, refl, sym, subst}
 use mathlib.Core.Logic.{⊎-elim}
 use mathlib.Core.Bool.{Bool, true, false, cond}
-use mathlib.Core.List.{List, [], _∷_, _++_, map, List·Memᴰ, List·Memᴰ·head, List·Memᴰ·tail, List·Memᴰ·not-nil, List·Memᴰ·cases-cons, List·Memᴰ·eq-of-singleton, List·Memᴰ·append-cases, Memᴰ·append-right}
+use mathlib.Core.List.{List, [], _∷_, _++_, map, List·Memᴰ, List·Memᴰ·head, List·Memᴰ·tail, List·Memᴰ·not-nil, List·Memᴰ·cases-cons, List·Memᴰ·eq-of-singleton, List·Memᴰ·append-cases}
 use native.Mathlib.Omega.{arith}
 use lib.ListN.{getD}
 use Rattle.numbers.specs.Lists.{oneTo, keep, lastOr}
@@ -27,10 +27,6 @@ module _ {A : Type 0} (R : A → A → Type 0) where
     (λ y m. ⊎-elim (λ k. p .0 y k) (λ k. h x (List·Memᴰ·head refl) y k) (List·Memᴰ·append-cases s m)),
     pairwise-append s t (p .1) q (λ z m. h z (List·Memᴰ·tail m)),
   )
-
-  pub pairwise-across : (s t : List A) → Pairwise R (s ++ t) → Each (λ x. Each (R x) t) s
-  pairwise-across [] t p x m y k = absurd (List·Memᴰ·not-nil m)
-  pairwise-across (z ∷ s) t p x m y k = ⊎-elim (λ d. subst (λ a. R a y) (sym d) (p .0 y (Memᴰ·append-right s k))) (λ j. pairwise-across s t (p .1) x j y k) (List·Memᴰ·cases-cons m)
 
   pub pairwise-map : {B : Type 0} (S : B → B → Type 0) (f : A → B) → ((x y : A) → R x y → S (f x) (f y)) → (xs : List A) → Pairwise R xs → Pairwise S (map f xs)
   pairwise-map S f h [] p = tt

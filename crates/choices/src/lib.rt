@@ -1,1 +1,1 @@
-// Laws of the choices of one level from each row: how many, which, their order, and the best. Specifications only: see specs/.
+// Choices of one level from each row, and the best one: definitions and laws. Specifications only: see specs/.

@@ -10,10 +10,10 @@ use Rattle.curve.specs.Demand.{InRange}
 use Rattle.curve.specs.Order.{dem-falls}
 use Rattle.rules.specs.Ledger.{Phase, Fresh, Ready, Round, Between, Closed, Ledger}
 use Rattle.rules.specs.Clearing.{high, supply, demandAt, covered, closingPrice}
-use Rattle.rules.specs.Refusals.{isFresh}
+use Rattle.rules.specs.Refusals.{isFresh, isClosed}
+use Rattle.rules.specs.CheckLaws.{InSettings, in-settings}
 use Rattle.sound.specs.Sound.{started, Sound}
 use Rattle.clearing.specs.Supply.{supply-rises}
-pub use Rattle.rules.specs.CheckLaws.{InSettings, in-settings}
 
 pub started-not-fresh : (h : Phase) → started h ≡ true → isFresh h ≡ false
 started-not-fresh Fresh e = absurd (false≢true e)
@@ -21,6 +21,13 @@ started-not-fresh Ready e = refl
 started-not-fresh Round e = refl
 started-not-fresh Between e = refl
 started-not-fresh Closed e = refl
+
+pub closed-started : (h : Phase) → isClosed h ≡ true → started h ≡ true
+closed-started Fresh e = e
+closed-started Ready e = e
+closed-started Round e = refl
+closed-started Between e = refl
+closed-started Closed e = refl
 
 module _ (l : Ledger) (s : Sound l) (e : started (l .phase) ≡ true) where
   pub settings-facts : InSettings (l .settings)

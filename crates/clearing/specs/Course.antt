@@ -10,7 +10,7 @@ use Rattle.rules.specs.Clearing.{highest}
 use Rattle.rules.specs.Refusals.{lowering}
 use Rattle.rules.specs.Rounds.{lastLevel}
 use Rattle.rules.specs.CheckLaws.{highest-in-bounds}
-use Rattle.sound.specs.Sound.{appliedTo, levelsOf, Descends, SoundDeveloper, SoundOffer, Sound}
+use Rattle.sound.specs.Sound.{appliedTo, levelsOf, Descends, SoundDeveloper, Sound}
 
 -- levels fall strictly, from below the highest declared
 abbrev pub Falls : Developer → Type 0
@@ -34,7 +34,3 @@ course-of-nobody c a = record { falls = refl; prices = tt; quantity = refl; smal
 
 pub courses : (l : Ledger) → Sound l → (n : ℕ) → Course (appliedTo (l .phase) l) (l .settings .a) (l .developers n)
 courses l s n = ⊎-elim (λ e. subst (λ (x : Developer). Course (appliedTo (l .phase) l) (l .settings .a) x) (sym e) (course-of-nobody _ _)) (λ r. course _ _ _ (r .developer)) (s .each n)
-
-pub offers : (l : Ledger) → Sound l → (n : ℕ) → SoundOffer l (l .developers n) (l .developers n .offer)
-unfolding SoundOffer
-offers l s n = ⊎-elim (λ e. subst (λ (x : Developer). SoundOffer l x (x .offer)) (sym e) tt) (λ r. r .offer) (s .each n)

@@ -1,33 +1,19 @@
 -- A developer's high and low: they rise with the price, low is at most high, both at most its highest level, and declared or 0.
 -- High at p is low at p + 1, by computation.
 use Prim.Native.Nat.{ℕ, suc, _≤_, _<_}
-use mathlib.Core.Path.{_≡_, refl, sym, _∙_}
-use mathlib.Core.Logic.{⊎-elim}
-use mathlib.Core.Bool.{Bool, true, false, cond, _||_}
+use mathlib.Core.Path.{_≡_, refl}
+use mathlib.Core.Bool.{Bool, true, false, cond}
 use mathlib.Core.List.{List, [], _∷_, List·Memᴰ·cases-cons}
 use native.Mathlib.Omega.{arith}
-use lib.Dec.{leb, eqb}
-use borrow.Author.Tests.{leb-true, leb-false, le-leb, lt-leb, eq-eqb}
-use Rattle.numbers.specs.Lists.{lastOr, member}
-use Rattle.numbers.specs.ListLaws.{or-left, or-right, last-in, member-true}
-use Rattle.rules.specs.Ledger.{Step, Developer, nobody}
+use lib.Dec.{leb}
+use borrow.Author.Tests.{leb-true, leb-false, lt-leb}
+use Rattle.numbers.specs.ListLaws.{last-in}
+use Rattle.rules.specs.Ledger.{declaredOrZero, Step, Developer}
 use Rattle.rules.specs.Clearing.{highest, after, high, low}
 use Rattle.rules.specs.Refusals.{lowering}
-use Rattle.rules.specs.Rounds.{lastLevel}
-use Rattle.rules.specs.CheckLaws.{lowering-first}
+use Rattle.rules.specs.CheckLaws.{declared-or-zero, lowering-first}
 use Rattle.sound.specs.Sound.{levelsOf, Descends}
 use Rattle.clearing.specs.Course.{Falls}
-
--- a level is declared, or 0
-abbrev pub declaredOrZero : List ℕ → ℕ → Bool
-declaredOrZero ls v = eqb v 0 || member v ls
-
--- ---- levels that fall from cur
-
-pub last-level-le : (ls : List ℕ) (cur : ℕ) (ws : List Step) → lowering ls cur (levelsOf ws) ≡ true → lastLevel cur ws ≤ cur
-unfolding lastLevel
-last-level-le ls cur [] e = omega arith
-last-level-le ls cur (w ∷ ws) e = let k = lowering-first ls cur (w .level) (levelsOf ws) e in omega (arith, last-level-le ls (w .level) ws (k .2))
 
 -- ---- the quantity after those withdrawals that pass a test
 
@@ -61,21 +47,16 @@ after-rises p r ls cur q s (w ∷ ws) i e h g = let k = lowering-first ls cur (w
     order false true x y m = absurd (omega (arith, leb-false p (w .price) x, leb-true r (w .price) y))
     order false false x y m = g
 
--- at a price above all withdrawals none passes; at one not above any all do
+-- at a price above all withdrawals none passes
 after-none : (p c a q : ℕ) (ws : List Step) → a < p → Descends c a ws → after (leb p) q ws ≡ q
 unfolding after Descends
 after-none p c a q [] h d = refl
 after-none p c a q (w ∷ ws) h d = rw (lt-leb p (w .price) (omega arith)) (after-none p c (w .price) q ws (omega arith) (d .2))
 
-after-all : (p c a q : ℕ) (ws : List Step) → p ≤ c → Descends c a ws → after (leb p) q ws ≡ lastLevel q ws
-unfolding after Descends lastLevel
-after-all p c a q [] h d = refl
-after-all p c a q (w ∷ ws) h d = rw (le-leb p (w .price) (omega arith)) (after-all p c (w .price) (w .level) ws h (d .2))
-
 -- ---- high and low
 
 pub highest-declared : (x : Developer) → declaredOrZero (x .declared .levels) (highest x) ≡ true
-highest-declared x = ⊎-elim (λ e. or-left _ _ (eq-eqb (highest x) 0 e)) (λ m. or-right (eqb (highest x) 0) _ (member-true (highest x) _ .1 m)) (List·Memᴰ·cases-cons (last-in 0 (x .declared .levels)))
+highest-declared x = declared-or-zero (x .declared .levels) (highest x) .1 (List·Memᴰ·cases-cons (last-in 0 (x .declared .levels)))
 
 module _ (x : Developer) (f : Falls x) where
   pub low-rises : (p r : ℕ) → p ≤ r → low p x ≤ low r x
@@ -98,11 +79,11 @@ module _ (x : Developer) (f : Falls x) where
   unfolding high low
   high-le-highest p = low-le-highest (suc p)
 
-  pub low-declared : (p : ℕ) → (eqb (low p x) 0 || member (low p x) (x .declared .levels)) ≡ true
+  pub low-declared : (p : ℕ) → declaredOrZero (x .declared .levels) (low p x) ≡ true
   unfolding low
   low-declared p = after-declared (leb p) (x .declared .levels) (highest x) (highest x) (x .withdrawals) f (highest-declared x)
 
-  pub high-declared : (p : ℕ) → (eqb (high p x) 0 || member (high p x) (x .declared .levels)) ≡ true
+  pub high-declared : (p : ℕ) → declaredOrZero (x .declared .levels) (high p x) ≡ true
   unfolding high low
   high-declared p = low-declared (suc p)
 
@@ -111,16 +92,3 @@ module _ (c a : ℕ) (x : Developer) (d : Descends c a (x .withdrawals)) where
   pub high-at-top : (p : ℕ) → a ≤ p → high p x ≡ highest x
   unfolding high
   high-at-top p h = after-none (suc p) c a (highest x) (x .withdrawals) (omega arith) d
-
-  -- at the last C and below all has
-  pub low-at-end : x .quantity ≡ lastLevel (highest x) (x .withdrawals) → (p : ℕ) → p ≤ c → low p x ≡ x .quantity
-  unfolding low
-  low-at-end e p h = after-all p c a (highest x) (x .withdrawals) h d ∙ sym e
-
-pub low-of-nobody : (p : ℕ) → low p nobody ≡ 0
-unfolding low after lastOr
-low-of-nobody p = refl
-
-pub high-of-nobody : (p : ℕ) → high p nobody ≡ 0
-unfolding high after lastOr
-high-of-nobody p = refl

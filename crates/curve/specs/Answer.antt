@@ -1,6 +1,6 @@
 -- The demand call's answer (document 01, Demand and The twelve numbers): Dem(p), or refusal 1 outside the bounds.
 use Prim.Native.Nat.{ℕ}
-use mathlib.Core.Bool.{Bool, cond, _&&_}
+use mathlib.Core.Bool.{cond, _&&_}
 use Rattle.curve.specs.Demand.{dem, inBounds, inRange}
 
 -- number 0 is an acceptance, every other one a refusal, whose value is 0
@@ -8,6 +8,7 @@ pub record Answer : Type 0 where
   pub number : ℕ
   pub value : ℕ
 
+-- Dem(p); refusal 1 for settings beyond their bounds, or a price out of range
 unfoldable pub demandAnswer : ℕ → ℕ → ℕ → ℕ → ℕ → Answer
 demandAnswer ce d m1 m2 p =
     cond (inBounds ce d m1 m2 && inRange ce p)

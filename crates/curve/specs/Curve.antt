@@ -11,14 +11,14 @@ pub record Fraction : Type 0 where
   pub num : ℤ
   pub den : ℤ
 
--- p(q) for M1 <= q <= D: CE (q + M1 - 2 D) / (M1 - D)
+-- numeral 3.8, p(q) for M1 <= q <= D: CE (q + M1 - 2 D) / (M1 - D)
 abbrev pub upper : ℕ → ℕ → ℕ → ℕ → Fraction
 upper ce d m1 q = record {
   num = pos ce *ℤ (pos q +ℤ pos m1 -ℤ pos 2 *ℤ pos d);
   den = pos m1 -ℤ pos d;
 }
 
--- p(q) for D < q <= M2: CE (q + D - 2 M2) / (2 (D - M2))
+-- numeral 3.8, p(q) for D < q <= M2: CE (q + D - 2 M2) / (2 (D - M2))
 abbrev pub lower : ℕ → ℕ → ℕ → ℕ → Fraction
 lower ce d m2 q = record {
   num = pos ce *ℤ (pos q +ℤ pos d -ℤ pos 2 *ℤ pos m2);
@@ -31,7 +31,7 @@ whole n = record { num = pos n; den = pos 1 }
 abbrev pub half : ℕ → Fraction
 half n = record { num = pos n; den = pos 2 }
 
--- p(q): 2 CE below M1, the two sloping parts, CE / 2 above M2
+-- numeral 3.8, p(q): 2 CE below M1, the two sloping parts, CE / 2 above M2
 unfoldable pub curve : ℕ → ℕ → ℕ → ℕ → ℕ → Fraction
 curve ce d m1 m2 q =
     cond (ltb q m1) (whole (2 * ce))

@@ -1,4 +1,4 @@
--- Dem(p), by document 01's words and by its formulas, and the bounds within which it is asked (document 01, Demand).
+-- Dem(p), by document 01's words and by its formulas, and the bounds within which it is asked. All of it is document 01, Demand.
 use Prim.Native.Nat.{ℕ, _+_, _-_, _*_, _/_, _%_, _≤_, _<_}
 use mathlib.Core.Bool.{Bool, cond, _&&_}
 use mathlib.Core.Path.{_≡_}

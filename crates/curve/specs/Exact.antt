@@ -8,7 +8,7 @@ use native.Mathlib.Nat.{mul-le-mul, mul-lt-mul-of-pos-right, le-div-iff-mul-le}
 use lib.Dec.{leb}
 use borrow.Author.Tests.{le-leb, lt-leb}
 use Rattle.numbers.specs.Cases.{le-or-lt}
-use Rattle.curve.specs.Demand.{dem, dividedUp, InBounds, InRange}
+use Rattle.curve.specs.Demand.{dem, dividedUp}
 use Rattle.curve.specs.Range.{dem-from-ce, dem-below-ce, divided-up-le}
 
 -- D CE - (D - M1)(p - CE) for p >= CE; D CE + 2 (M2 - D)(CE - p) below CE

@@ -1,8 +1,8 @@
 -- Where Dem lies: from M1 to D at CE and above, above D and up to M2 below CE. And the tests of the bounds decide the bounds.
 use Prim.Native.Nat.{ℕ, suc, _+_, _-_, _*_, _/_, _%_, _≤_, _<_}
-use mathlib.Core.Path.{_≡_, refl}
+use mathlib.Core.Path.{_≡_}
 use mathlib.Core.Logic.{⊎-elim, _↔_}
-use mathlib.Core.Bool.{Bool, true, false, _&&_}
+use mathlib.Core.Bool.{true, false}
 use native.Mathlib.Omega.{arith}
 use native.Mathlib.Nat.{mul-comm, mul-assoc, mul-pos, suc-mul, mul-le-mul-left, le-trans, le-of-eq, div-lt-iff-lt-mul, div-le-of-le-mul}
 use lib.Dec.{leb}

@@ -2,11 +2,11 @@
 use Prim.Native.Nat.{ℕ, suc, _*_, _≤_, _<_, zero-le}
 use mathlib.Core.Path.{_≡_, sym, ap, _∙_}
 use mathlib.Core.Logic.{⊎-elim}
-use mathlib.Core.Bool.{Bool, true, false, cond}
+use mathlib.Core.Bool.{cond}
 use native.Mathlib.Omega.{arith}
 use native.Mathlib.Nat.{sub-zero}
 use lib.Dec.{eqb}
-use lib.IntN.{ℤ, pos, negsuc, pos-ne-negsuc}
+use lib.IntN.{pos, negsuc, pos-ne-negsuc}
 use borrow.Author.Tests.{eq-eqb, ne-eqb}
 use Rattle.numbers.specs.Cases.{le-or-lt, not-true}
 use Rattle.numbers.specs.Least.{leastFrom, Least, least-is}

@@ -1,12 +1,12 @@
 -- The products of `exact_times_ce` fit 64 bits, and what `demand` returns is the definition's answer.
 use Prim.Native.Nat.{ℕ, _-_, _*_, _≤_}
 use mathlib.Core.Path.{_≡_}
-use mathlib.Core.Bool.{true, false}
+use mathlib.Core.Bool.{false}
 use native.Mathlib.Omega.{arith}
 use native.Mathlib.Nat.{mul-le-mul}
 use Rattle.curve.specs.Demand.{dem, InBounds, InRange, inBounds, inRange}
 use Rattle.curve.specs.Range.{in-bounds-test, in-range-test}
-use Rattle.curve.specs.Answer.{Answer, demandAnswer}
+use Rattle.curve.specs.Answer.{demandAnswer}
 
 module _ (ce d m1 m2 p : ℕ) (s : InBounds ce d m1 m2) (a : InRange ce p) where
   pub target-fits : d * ce ≤ 100000000000 * 500000

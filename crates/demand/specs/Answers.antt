@@ -1,5 +1,4 @@
 -- What each case of the demand call's enum says in document 01's numbers.
-use Prim.Native.Nat.{ℕ}
 use Rattle.curve.specs.Answer.{Answer}
 use Rattle.demand.specs.declared.Demanded.{Demanded}
 use Rattle.demand.specs.declared.Demanded.the-variants.{Quantity, OutOfBounds}

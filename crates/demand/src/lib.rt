@@ -48,7 +48,7 @@ pub fn settings_in_bounds(ce: u64, d: u64, m1: u64, m2: u64) -> bool
 }
 
 // Whether p is from the floor to 2 CE.
-pub fn price_in_range(ce: u64, p: u64) -> bool
+fn price_in_range(ce: u64, p: u64) -> bool
     requires { ⌜ ce ≤ 500000 ⌝ }
     ensures { λ r. ⌜ r ≡ inRange ce p ⌝ }
 {
@@ -74,7 +74,7 @@ fn exact_times_ce(ce: u64, d: u64, m1: u64, m2: u64, p: u64) -> u64
 }
 
 // Dem(p), within the bounds: exact demand, rounded up.
-pub fn quantity(ce: u64, d: u64, m1: u64, m2: u64, p: u64) -> u64
+fn quantity(ce: u64, d: u64, m1: u64, m2: u64, p: u64) -> u64
     requires { ⌜ InBounds ce d m1 m2 ⌝ }
     requires { ⌜ InRange ce p ⌝ }
     ensures { λ r. ⌜ r ≡ dem ce d m1 m2 p ⌝ }

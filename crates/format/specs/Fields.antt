@@ -41,7 +41,7 @@ fixed k = getD rows k (row [] 0) .widths
 unfoldable pub each : ℕ → ℕ
 each k = getD rows k (row [] 0) .repeated
 
--- what the last of the fixed fields counts, where these are the fields
+-- what the last of the fixed fields counts, where these are the fields; a kind that repeats nothing counts nothing (`each` is 0)
 unfoldable pub count : ℕ → List ℕ → ℕ
 count k ns = getD (take (length (fixed k)) ns) (length (fixed k) - 1) 0
 

@@ -1,9 +1,8 @@
 -- Hexadecimal digits, 0-9 and A-F, high first (document 01, Frames): numbers as bytes, and bytes as numbers.
 use Prim.Native.Nat.{ℕ, zero, suc, _+_, _-_, _*_, _/_, _%_, _^_}
 use mathlib.Core.Bool.{Bool, cond, _&&_, _||_}
-use mathlib.Core.List.{List, [], _∷_, _++_}
+use mathlib.Core.List.{List, [], _∷_}
 use lib.Dec.{leb, ltb}
-use lib.ListN.{length, drop}
 use Rattle.numbers.specs.Lists.{all}
 
 -- 0-9 and A-F: small letters are no digits
@@ -33,7 +32,3 @@ numberFrom before (c ∷ cs) = numberFrom (before * 16 + valueOf c) cs
 
 abbrev pub number : List ℕ → ℕ
 number cs = numberFrom 0 cs
-
--- a text over the start of a buffer: the bytes behind it stay
-unfoldable pub laid : List ℕ → List ℕ → List ℕ
-laid t o = t ++ drop (length t) o

@@ -4,4 +4,3 @@ pub mod Fields
 pub mod HexLaws
 pub mod LineLaws
 pub mod FieldLaws
-pub mod Tails

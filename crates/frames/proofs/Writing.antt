@@ -7,7 +7,8 @@ use native.Mathlib.Numerals.{add-one}
 use native.Mathlib.Omega.{arith}
 use lib.ListN.{length, take, drop, getD, set, length-set, take-append-drop}
 use lib.Seq.{take-suc, set-at, length-take-le}
-use Rattle.format.specs.Hex.{charOf, digits, laid}
+use Rattle.format.specs.Hex.{charOf, digits}
+use Rattle.numbers.specs.Tails.{laid}
 use Rattle.format.specs.HexLaws.{length-digits}
 
 -- the last i of w digits of n stand in their places, and v is what is left of n

@@ -5,20 +5,21 @@ ghost use mathlib.Core.List.{[], _∷_};
 ghost use Prim.Native.Nat.{_+_, _≤_, _<_};
 ghost use lib.ListN.{length, getD, take, drop};
 ghost use Rattle.numbers.specs.Lists.{total};
-ghost use Rattle.format.specs.Hex.{isHex, allHex, valueOf, charOf, number, digits, laid};
+ghost use Rattle.format.specs.Hex.{isHex, allHex, valueOf, charOf, number, digits};
+ghost use Rattle.numbers.specs.Tails.{laid};
 ghost use Rattle.format.specs.Lines.{run, part, lineStart, lineEnd};
 ghost use Rattle.format.specs.Fields.{lastKind, fixed, each, repeats, layout, fieldsAt, read};
 ghost use Rattle.frames.specs.Decoded.{callIn};
 
 // THE TABLE: for each kind from 0, which is none, the widths of its fixed fields. Behind the last stands 8, the width of what is repeated.
 const WIDTHS: [[usize; 8]; 7] = [
-    [8, 8, 8, 8, 8, 8, 8, 8],
-    [8, 10, 10, 10, 8, 8, 8, 8],
-    [2, 2, 2, 8, 8, 2, 8, 8],
-    [8, 8, 8, 8, 8, 8, 8, 8],
-    [2, 2, 8, 8, 8, 8, 8, 8],
-    [8, 8, 8, 8, 8, 8, 8, 8],
-    [8, 8, 8, 8, 8, 8, 8, 8],
+    [8, 8, 8, 8, 8, 8, 8, 8], // 00 is no kind
+    [8, 10, 10, 10, 8, 8, 8, 8], // 01 set-up: CE, D, M1, M2, A
+    [2, 2, 2, 8, 8, 2, 8, 8], // 02 registration: project, developer, kind, study, day, count; levels
+    [8, 8, 8, 8, 8, 8, 8, 8], // 03 open: C
+    [2, 2, 8, 8, 8, 8, 8, 8], // 04 offer: developer, count; steps of price and level
+    [8, 8, 8, 8, 8, 8, 8, 8], // 05 close
+    [8, 8, 8, 8, 8, 8, 8, 8], // 06 settle: limit
 ];
 
 // How many fixed fields a kind has, how many digits they have in all, and how many fields are repeated for each one that the last of them counts.

@@ -1,31 +1,12 @@
--- Laws of an offer's steps and of the number that stands for an offer.
-use Prim.Native.Nat.{ℕ}
-use mathlib.Core.Path.{_≡_, refl, sym, ap, _∙_}
-use mathlib.Core.List.{List, [], _∷_}
+-- Laws of the number that stands for an offer.
+use mathlib.Core.Path.{_≡_, refl, sym}
 use native.Mathlib.Omega.{arith}
 use lib.Dec.{eqb, eqb·suc-zero}
-use lib.ListN.{length, length-map}
+use lib.ListN.{length}
 use Rattle.rules.specs.Ledger.{Standing, none, made}
 use Rattle.rules.specs.Refusals.{isNone}
-use Rattle.rules.specs.Rounds.{steps}
-use Rattle.sound.specs.Sound.{pricesOf, levelsOf}
 use Rattle.history.specs.Held.{offeredNumber}
-
-pub steps-prices : (ps qs : List ℕ) → length ps ≡ length qs → pricesOf (steps ps qs) ≡ ps
-unfolding steps
-steps-prices [] qs e = refl
-steps-prices (p ∷ ps) [] e = absurd (omega arith)
-steps-prices (p ∷ ps) (q ∷ qs) e = ap (λ (xs : List ℕ). p ∷ xs) (steps-prices ps qs (omega arith))
-
-pub steps-levels : (ps qs : List ℕ) → length ps ≡ length qs → levelsOf (steps ps qs) ≡ qs
-unfolding steps
-steps-levels [] [] e = refl
-steps-levels [] (q ∷ qs) e = absurd (omega arith)
-steps-levels (p ∷ ps) [] e = absurd (omega arith)
-steps-levels (p ∷ ps) (q ∷ qs) e = ap (λ (xs : List ℕ). q ∷ xs) (steps-levels ps qs (omega arith))
-
-pub steps-length : (ps qs : List ℕ) → length ps ≡ length qs → length (steps ps qs) ≡ length ps
-steps-length ps qs e = sym (length-map (steps ps qs) (λ s. s .price)) ∙ ap length (steps-prices ps qs e)
+pub use Rattle.sound.specs.StepLaws.{steps-prices, steps-levels, steps-length}
 
 pub offered-none : (o : Standing) → offeredNumber o ≡ 0 → o ≡ none
 offered-none none e = refl

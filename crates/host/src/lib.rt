@@ -9,6 +9,7 @@ use demand::Demanded;
 // What C gets for refusal 1.
 const REFUSAL_1: u64 = 0xffff_ffff_ffff_ffff;
 
+// Dem(p), or 2^64 - 1 where the settings or p are beyond their bounds.
 #[no_mangle]
 pub extern "C" fn demand(ce: u64, d: u64, m1: u64, m2: u64, p: u64) -> u64
     ensures { λ r. ⌜ r ≡ hostNumber (demandAnswer ce d m1 m2 p) ⌝ }

@@ -1,5 +1,5 @@
 -- Levels as they are held: one more in the place behind the others, and the highest of them.
-use Prim.Native.Nat.{ℕ, zero, suc, _+_, _-_, _≤_, _<_}
+use Prim.Native.Nat.{ℕ, suc, _+_, _-_, _≤_, _<_}
 use mathlib.Core.Path.{_≡_, refl, sym, ap, _∙_}
 use mathlib.Core.List.{List, [], _∷_, _++_, append-assoc}
 use mathlib.Core.Logic.{_⊎_, ⊎-elim}
@@ -8,6 +8,7 @@ use native.Mathlib.Numerals.{add-one}
 use lib.ListN.{length, getD, set, take, replicate, length-append, List·getD-append}
 use lib.Seq.{set-at, take-suc, take-all, length-take-le}
 use Rattle.numbers.specs.Lists.{lastOr, padded}
+use Rattle.numbers.specs.ListLaws.{last-at}
 use Rattle.levels.specs.declared.Levels.{Levels}
 use Rattle.levels.specs.Held.{heldLevels, Copied, Highest}
 
@@ -46,15 +47,6 @@ module _ (ls : List ℕ) (held : Levels) where
           c .part ∙ ap heldLevels (take-all i ls all);
     }
 
--- the last of a list is at its last place
-last-at : (d : ℕ) (ls : List ℕ) (n : ℕ) → length ls ≡ suc n → getD ls n 0 ≡ lastOr d ls
-unfolding lastOr
-last-at d [] n e = absurd (omega arith)
-last-at d (x ∷ []) zero e = refl
-last-at d (x ∷ []) (suc n) e = absurd (omega arith)
-last-at d (x ∷ (y ∷ ys)) zero e = absurd (omega arith)
-last-at d (x ∷ (y ∷ ys)) (suc n) e = last-at x (y ∷ ys) n (omega arith)
-
 module _ (x : Levels) where
   counted : (ls : List ℕ) → x ≡ heldLevels ls → x .count ≡ length ls
   counted ls e = ap (λ (y : Levels). y .count) e
@@ -77,5 +69,5 @@ module _ (x : Levels) where
         let s : length ls ≡ suc n = omega (arith, counted ls e) in
         ap (λ (y : Levels). getD (y .values) (y .count - 1) 0) e
         ∙ List·getD-append ls (replicate (8 - length ls) 0) 0 n (omega arith)
-        ∙ last-at 0 ls n s;
+        ∙ sym (last-at 0 ls n s);
   }

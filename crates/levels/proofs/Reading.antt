@@ -12,6 +12,7 @@ use lib.Seq.{drop-cons, getD-take}
 use borrow.Author.Tests.{le-leb, lt-leb, lt-ltb, le-ltb, eq-eqb, ne-eqb}
 use Rattle.numbers.specs.Lists.{any, member}
 use Rattle.numbers.specs.ListLaws.{or-left, or-right}
+use Rattle.rules.specs.Ledger.{declaredOrZero}
 use Rattle.rules.specs.Refusals.{levelsOk, rising, lowering}
 
 -- what is left at a place: its element, and what is left behind it
@@ -81,7 +82,7 @@ levels-counted ls h g = simp (le-leb 1 (length ls) h, le-leb (length ls) 8 g)
 
 module _ (declared : List ℕ) where
   abbrev pub lowers : ℕ → ℕ → Bool
-  lowers q v = (eqb v 0 || member v declared) && ltb v q
+  lowers q v = declaredOrZero declared v && ltb v q
 
   pub lowering-in-turn : InTurn (lowering declared) lowers
   unfolding lowering
@@ -89,7 +90,7 @@ module _ (declared : List ℕ) where
 
   pub lowers-passes : (q v : ℕ) → (v ≡ 0) ⊎ (member v declared ≡ true) → v < q → lowers q v ≡ true
   lowers-passes q v d h =
-      let e : eqb v 0 || member v declared ≡ true = ⊎-elim (λ z. or-left _ (member v declared) (eq-eqb v 0 z)) (λ m. or-right (eqb v 0) _ m) d in
+      let e : declaredOrZero declared v ≡ true = ⊎-elim (λ z. or-left _ (member v declared) (eq-eqb v 0 z)) (λ m. or-right (eqb v 0) _ m) d in
       simp (e, lt-ltb v q h)
 
   pub lowers-undeclared : (q v : ℕ) → (v ≡ 0 → ⊥) → member v declared ≡ false → lowers q v ≡ false

@@ -1,10 +1,14 @@
 -- How the engine holds a list of at most eight numbers: with zeros behind it, and its length.
 use Prim.Native.Nat.{ℕ, _≤_}
 use mathlib.Core.Path.{_≡_}
-use mathlib.Core.List.{List}
+use mathlib.Core.List.{List, []}
 use lib.ListN.{length, take}
 use Rattle.numbers.specs.Lists.{lastOr, padded}
 use Rattle.levels.specs.declared.Levels.{Levels}
+
+-- what an array of levels has behind its end
+abbrev pub noLevels : Levels
+noLevels = record { values = []; count = 0 }
 
 abbrev pub heldLevels : List ℕ → Levels
 heldLevels ls = record { values = padded 8 ls; count = length ls }

@@ -3,3 +3,4 @@ pub mod Least
 pub mod Lists
 pub mod OneTo
 pub mod ListLaws
+pub mod Tails

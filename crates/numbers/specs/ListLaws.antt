@@ -1,5 +1,5 @@
 -- Laws of the lists of numbers: what is in them, what tests on them say, their parts, and bounds of their sum and greatest.
-use Prim.Native.Nat.{ℕ, zero, suc, _+_, _*_, max, _≤_, _<_, zero-le, suc-le-suc}
+use Prim.Native.Nat.{ℕ, zero, suc, _+_, _*_, max, _≤_, zero-le, suc-le-suc}
 use mathlib.Core.Path.{_≡_, refl, sym, ap, _∙_, subst}
 use mathlib.Core.Logic.{_⊎_, inl, inr, ⊎-elim, _↔_}
 use mathlib.Core.Bool.{Bool, true, false, cond, false≢true}
@@ -11,7 +11,7 @@ use lib.ListN.{length, getD}
 use borrow.Author.Tests.{eqb-true, eq-eqb}
 use Rattle.numbers.specs.Cases.{le-or-lt, and-true}
 pub use Rattle.numbers.specs.Cases.{or-true, or-left, or-right}
-pub use Rattle.numbers.specs.OneTo.{length-one-to, in-one-to, one-to-nth}
+pub use Rattle.numbers.specs.OneTo.{length-one-to, in-one-to, one-to-nth, numbered-nth}
 use Rattle.numbers.specs.Lists.{keep, total, greatest, lastOr, any, all, member}
 
 -- what holds of every element, and that some element passes a test
@@ -27,11 +27,6 @@ module _ {A : Type 0} where
 
   rest : {P : A → Type 0} {y : A} {ys : List A} → Each P (y ∷ ys) → Each P ys
   rest h x m = h x (List·Memᴰ·tail m)
-
-  pub nth-in : (xs : List A) (i : ℕ) (d : A) → i < length xs → List·Memᴰ (getD xs i d) xs
-  nth-in [] i d h = absurd (omega arith)
-  nth-in (x ∷ xs) zero d h = List·Memᴰ·head refl
-  nth-in (x ∷ xs) (suc i) d h = List·Memᴰ·tail (nth-in xs i d (omega arith))
 
   -- ---- keep
 
@@ -78,11 +73,6 @@ module _ {A : Type 0} where
       go true e = ap {B = List A} (λ r. x ∷ r) e
       go false e = e
 
-  pub keep-same : (s t : A → Bool) (xs : List A) → Each (λ x. s x ≡ t x) xs → keep s xs ≡ keep t xs
-  unfolding keep
-  keep-same s t [] h = refl
-  keep-same s t (x ∷ xs) h = rw (first h, keep-same s t xs (rest h))
-
   -- ---- any, all
 
   pub any-intro : (t : A → Bool) {x : A} (xs : List A) → List·Memᴰ x xs → t x ≡ true → any t xs ≡ true
@@ -102,11 +92,6 @@ module _ {A : Type 0} where
   unfolding all
   all-true t [] e x m = absurd (List·Memᴰ·not-nil m)
   all-true t (y ∷ ys) e x m = let b = and-true (t y) (all t ys) e in ⊎-elim (λ d. ap t d ∙ b .0) (λ k. all-true t ys (b .1) x k) (List·Memᴰ·cases-cons m)
-
-  pub all-intro : (t : A → Bool) (xs : List A) → Each (λ x. t x ≡ true) xs → all t xs ≡ true
-  unfolding all
-  all-intro t [] h = refl
-  all-intro t (y ∷ ys) h = rw (first h, all-intro t ys (rest h))
 
   -- ---- map
 
@@ -154,15 +139,19 @@ unfolding greatest
 greatest-append [] ys = omega arith
 greatest-append (x ∷ xs) ys = omega (arith, greatest-append xs ys)
 
-pub lastOr-append : (d : ℕ) (xs ys : List ℕ) → lastOr d (xs ++ ys) ≡ lastOr (lastOr d xs) ys
-unfolding lastOr
-lastOr-append d [] ys = refl
-lastOr-append d (x ∷ xs) ys = lastOr-append x xs ys
-
 pub last-in : (d : ℕ) (xs : List ℕ) → List·Memᴰ (lastOr d xs) (d ∷ xs)
 unfolding lastOr
 last-in d [] = List·Memᴰ·head refl
 last-in d (x ∷ xs) = List·Memᴰ·tail (last-in x xs)
+
+-- the last of a list is the one at its last place
+pub last-at : (d : ℕ) (xs : List ℕ) (n : ℕ) → length xs ≡ suc n → lastOr d xs ≡ getD xs n 0
+unfolding lastOr
+last-at d [] n e = absurd (omega arith)
+last-at d (x ∷ []) zero e = refl
+last-at d (x ∷ []) (suc n) e = absurd (omega arith)
+last-at d (x ∷ y ∷ xs) zero e = absurd (omega arith)
+last-at d (x ∷ y ∷ xs) (suc n) e = last-at x (y ∷ xs) n (omega arith)
 
 pub greatest-upper : {x : ℕ} (xs : List ℕ) → List·Memᴰ x xs → x ≤ greatest xs
 unfolding greatest

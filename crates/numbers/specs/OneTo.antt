@@ -2,7 +2,7 @@
 use Prim.Native.Nat.{ℕ, zero, suc, _≤_, _<_}
 use mathlib.Core.Path.{_≡_, refl, sym, ap, _∙_}
 use mathlib.Core.Logic.{⊎-elim, _↔_}
-use mathlib.Core.List.{[], _∷_, List·Memᴰ, List·Memᴰ·head, List·Memᴰ·not-nil, List·Memᴰ·append-cases, List·Memᴰ·eq-of-singleton, Memᴰ·append-left, Memᴰ·append-right}
+use mathlib.Core.List.{List, [], _∷_, map, List·Memᴰ, List·Memᴰ·head, List·Memᴰ·not-nil, List·Memᴰ·append-cases, List·Memᴰ·eq-of-singleton, Memᴰ·append-left, Memᴰ·append-right}
 use native.Mathlib.Omega.{arith}
 use lib.ListN.{length, getD, length-append, List·getD-append}
 use lib.Seq.{getD-at}
@@ -33,3 +33,12 @@ one-to-nth (suc n) i h = ⊎-elim
     (λ g. List·getD-append (oneTo n) (suc n ∷ []) 0 i (omega (arith, length-one-to n)) ∙ one-to-nth n i g)
     (λ g. let e : i ≡ n = omega arith in getD-at (oneTo n) (suc n) [] 0 i (length-one-to n ∙ sym e) ∙ ap suc (sym e))
     (le-or-lt (suc i) n)
+
+map-nth : {A B : Type 0} (f : A → B) (xs : List A) (i : ℕ) (a : A) (b : B) → i < length xs → getD (map f xs) i b ≡ f (getD xs i a)
+map-nth f [] i a b h = absurd (omega arith)
+map-nth f (x ∷ xs) zero a b h = refl
+map-nth f (x ∷ xs) (suc i) a b h = map-nth f xs i a b (omega arith)
+
+-- of a list that f makes of the numbers 1 to n, the one at place i is of the number i + 1
+pub numbered-nth : {A : Type 0} (f : ℕ → A) (n : ℕ) (xs : List A) (i : ℕ) (d : A) → xs ≡ map f (oneTo n) → i < n → getD xs i d ≡ f (suc i)
+numbered-nth {A} f n xs i d e h = ap (λ (ys : List A). getD ys i d) e ∙ map-nth f (oneTo n) i 0 d (omega (arith, length-one-to n)) ∙ ap f (one-to-nth n i h)

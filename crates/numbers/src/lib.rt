@@ -1,1 +1,1 @@
-// Laws on tests and on the least number that passes one. Specifications only: see specs/.
+// Tests, the least number that passes one, and lists of numbers: definitions and laws. Specifications only: see specs/.

@@ -1,10 +1,9 @@
 -- What `table_of` ensures.
 use Prim.Native.Nat.{ℕ}
 use mathlib.Core.Path.{_≡_}
-use mathlib.Core.List.{List, map}
-use Rattle.numbers.specs.Lists.{oneTo}
+use mathlib.Core.List.{List}
 use Rattle.rules.specs.Ledger.{Ledger}
-use Rattle.rules.specs.Clearing.{low, high}
+use Rattle.rules.specs.Clearing.{ofEach, low, high}
 use Rattle.rules.specs.Award.{rows}
 use Rattle.sound.specs.Sound.{Sound}
 use Rattle.levels.specs.declared.Levels.{Levels}
@@ -17,8 +16,8 @@ pub record Tabled (projects : List ℕ) (declared : List Levels) (lows highs : L
   pub right :
       (l : Ledger) (p : ℕ) →
       Sound l →
-      projects ≡ map (λ n. l .developers n .declared .project) (oneTo 32) →
-      declared ≡ map (λ n. heldLevels (l .developers n .declared .levels)) (oneTo 32) →
-      lows ≡ map (λ n. low p (l .developers n)) (oneTo 32) →
-      highs ≡ map (λ n. high p (l .developers n)) (oneTo 32) →
+      projects ≡ ofEach (λ x. x .declared .project) l →
+      declared ≡ ofEach (λ x. heldLevels (x .declared .levels)) l →
+      lows ≡ ofEach (low p) l →
+      highs ≡ ofEach (high p) l →
       Lays r (rows l p)

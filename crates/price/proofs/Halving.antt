@@ -1,38 +1,37 @@
 -- Covered at p, and the prices among which the lowest covered one lies.
-use Prim.Native.Nat.{ℕ, suc, _+_, _-_, _≤_, _<_}
-use mathlib.Core.Path.{_≡_, refl, sym, ap, ap₂, _∙_, subst}
+use Prim.Native.Nat.{ℕ, suc, _-_, _≤_, _<_}
+use mathlib.Core.Path.{_≡_, sym, ap, ap₂, _∙_, subst}
 use mathlib.Core.Bool.{Bool, true, false}
 use mathlib.Core.List.{List}
 use native.Mathlib.Omega.{arith}
-use native.Mathlib.Numerals.{add-one}
 use lib.Dec.{leb}
-use Rattle.numbers.specs.Least.{Bracket as Brackets, bracket-start, bracket-down, bracket-up, bracket-end, least-unique, Least}
+use Rattle.numbers.specs.Least.{Bracket as Brackets, bracket-start, bracket-down, bracket-up, bracket-end, least-unique}
 use Rattle.rules.specs.Ledger.{Ledger}
-use Rattle.rules.specs.Clearing.{highest, high as highAt, low as lowAt, covered, demandAt, supply as supplyBy, closingPrice}
+use Rattle.rules.specs.Clearing.{highest, high as highAt, low as lowAt, covered, closingPrice}
 use Rattle.sound.specs.Sound.{Sound, started}
 use Rattle.clearing.specs.ClosingPrice.{settings-facts, passed-in-range, covered-rises, closing-price}
 use Rattle.supply.specs.ByProject.{supplyOf}
 use Rattle.supply.specs.ByProjectLaws.{supply-of}
-use Rattle.history.specs.declared.History.{History}
 use Rattle.auction.specs.Holds.{ofEach, auctionOf}
-use Rattle.auction.specs.Called.{demandBy}
+use Rattle.auction.specs.Tests.{demandBy}
 use Rattle.auction.specs.Demands.{demand-is}
 use Rattle.auction.specs.declared.Auction.{Auction}
 use Rattle.price.specs.declared.Bracket.{Bracket}
-use Rattle.price.specs.Prices.{Lows, CoveredAt, ClosingPrice, halvedAt}
+use Rattle.price.specs.Prices.{Lows, CoveredAt, ClosingPrice, nextPrice, halvedAt}
+use Rattle.price.specs.PriceLaws.{next-price}
 
 -- ---- covered at p
 
 pub covered-is :
     (a : Auction) (firsts : List ℕ) (p next : ℕ) (highs : List ℕ) (d s : ℕ) →
-    (p < 4294967295 → next ≡ p + 1) → Lows (a .histories) firsts next highs → d ≡ demandBy (a .settings) p → s ≡ supplyOf (a .projects) highs →
+    next ≡ nextPrice p → Lows (a .histories) firsts next highs → d ≡ demandBy (a .settings) p → s ≡ supplyOf (a .projects) highs →
     CoveredAt a firsts p (leb d s)
 unfolding auctionOf covered highAt lowAt demandBy
 covered-is a firsts p next highs d s n w e f = record {
   right = λ l sound began h g low high.
       let b = settings-facts l sound began in
       let r = passed-in-range l sound began p low high in
-      let k : next ≡ suc p = n (let z = b .bounds .ce-high in let y = b .high in omega arith) ∙ add-one p in
+      let k : next ≡ suc p = n ∙ next-price p (let z = b .bounds .ce-high in let y = b .high in omega arith) in
       let hs : highs ≡ ofEach (highAt p) l = subst (λ (q : ℕ). highs ≡ ofEach (lowAt q) l) k (w .right l sound (ap (λ (x : Auction). x .histories) h) g) in
       ap₂ (λ (x y : ℕ). leb x y)
       (e ∙ ap (λ (x : Auction). demandBy (x .settings) p) h ∙ demand-is _ _ _ _ _ (b .bounds) r)

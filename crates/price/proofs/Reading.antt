@@ -2,11 +2,11 @@
 use Prim.Native.Nat.{ℕ, suc, _+_, _≤_, _<_}
 use mathlib.Core.Path.{_≡_, refl, sym, ap, _∙_, subst}
 use mathlib.Core.Logic.{⊎-elim}
-use mathlib.Core.List.{List, []}
+use mathlib.Core.List.{List}
 use native.Mathlib.Omega.{arith}
 use lib.Dec.{leb}
 use lib.ListN.{length, getD, set}
-use Rattle.rules.specs.Ledger.{Standing, none, made, Developer, Ledger, nobody}
+use Rattle.rules.specs.Ledger.{Standing, none, made, Developer, Ledger}
 use Rattle.rules.specs.Clearing.{highest, after, low}
 use Rattle.sound.specs.Sound.{Sound, Registered}
 use Rattle.reachable.specs.Checks.{levels-facts}

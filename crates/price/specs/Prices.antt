@@ -3,6 +3,7 @@ use Prim.Native.Nat.{ℕ, _+_, _≤_}
 use mathlib.Core.Path.{_≡_}
 use mathlib.Core.Bool.{Bool, true, cond}
 use mathlib.Core.List.{List}
+use lib.Dec.{leb}
 use Rattle.rules.specs.Ledger.{Ledger}
 use Rattle.rules.specs.Clearing.{highest, low, covered, closingPrice}
 use Rattle.sound.specs.Sound.{Sound, started}
@@ -14,17 +15,26 @@ use Rattle.auction.specs.Holds.{ofEach, auctionOf}
 use Rattle.auction.specs.declared.Auction.{Auction}
 use Rattle.price.specs.declared.Bracket.{Bracket}
 
+-- each developer's highest level, from the levels it declared
 pub record Highests (declared : List Levels) (r : List ℕ) : Type 0 where
   pub right : (l : Ledger) → Sound l → declared ≡ ofEach (λ x. heldLevels (x .declared .levels)) l → r ≡ ofEach highest l
 
+-- each developer's low at p, from its history and its highest level
 pub record Lows (histories : List History) (firsts : List ℕ) (p : ℕ) (r : List ℕ) : Type 0 where
   pub right : (l : Ledger) → Sound l → histories ≡ ofEach (λ x. held (x .withdrawals) (x .offer)) l → firsts ≡ ofEach highest l → r ≡ ofEach (low p) l
 
+-- whether p is covered, for a price that the clock passed
 pub record CoveredAt (a : Auction) (firsts : List ℕ) (p : ℕ) (r : Bool) : Type 0 where
   pub right : (l : Ledger) → Sound l → started (l .phase) ≡ true → a ≡ auctionOf l → firsts ≡ ofEach highest l → l .closing ≤ p → p ≤ l .settings .a → r ≡ covered l p
 
+-- the closing price P, once a round was opened
 pub record ClosingPrice (a : Auction) (firsts : List ℕ) (r : ℕ) : Type 0 where
   pub right : (l : Ledger) → Sound l → started (l .phase) ≡ true → a ≡ auctionOf l → firsts ≡ ofEach highest l → r ≡ closingPrice l
 
+-- the price above p; there is none above the highest price
+unfoldable pub nextPrice : ℕ → ℕ
+nextPrice p = cond (leb p 1000000) (p + 1) p
+
+-- halved at mid: below it if mid is covered, else above it
 abbrev pub halvedAt : Bracket → ℕ → Bool → Bracket
 halvedAt b mid t = record { lo = cond t (b .lo) (mid + 1); hi = cond t mid (b .hi) }

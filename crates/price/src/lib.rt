@@ -1,8 +1,7 @@
 // The closing price: the lowest covered price of those that the clock passed, found by halving.
 ghost use mathlib.Core.Path.{_≡_};
-ghost use mathlib.Core.Bool.{cond};
-ghost use Prim.Native.Nat.{_+_, _<_};
-ghost use Rattle.price.specs.Prices.{Highests, Lows, CoveredAt, ClosingPrice, halvedAt};
+ghost use Prim.Native.Nat.{_<_};
+ghost use Rattle.price.specs.Prices.{Highests, Lows, CoveredAt, ClosingPrice, nextPrice, halvedAt};
 use auction::Auction;
 use history::History;
 use levels::Levels;
@@ -39,12 +38,12 @@ pub fn lows_at(histories: [History; 32], highest: [u32; 32], p: u32) -> [u32; 32
 
 // The next price. High at p is low there.
 pub fn above(p: u32) -> u32
-    ensures { λ r. ⌜ (p < 4294967295 → r ≡ p + 1) ⌝ }
+    ensures { λ r. ⌜ r ≡ nextPrice p ⌝ }
 {
-    if p < 4294967295 {
-        return p + 1;
+    if Auction::TOP_PRICE < p {
+        return p;
     }
-    p
+    p + 1
 }
 
 // Whether the sum of the projects' highs at p is at least Dem(p).
@@ -70,6 +69,7 @@ fn halved(b: Bracket, mid: u32, covered: bool) -> Bracket
     }
 }
 
+// P (document 01, Closing price and award).
 pub fn closing_price(auction: Auction, highest: [u32; 32]) -> u32
     ensures { λ r. ⌜ ClosingPrice auction highest r ⌝ }
 {

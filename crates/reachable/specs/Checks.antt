@@ -6,7 +6,7 @@ use mathlib.Core.List.{List}
 use native.Mathlib.Omega.{arith}
 use Rattle.rules.specs.Ledger.{Settings, Declaration, SetUp, Register, Open, Offer, Close, Ledger}
 use Rattle.rules.specs.Refusals.{isFresh, isReady, mayOpen, inRound, settingsOk, numbersOk, declarationOk, closingOk, startCovered, isNone, mayOffer, pricesOk, lowering, check, number}
-pub use Rattle.rules.specs.CheckLaws.{Numbers, numbers-facts, Levels, levels-facts, rising-first, Declared, declaration-facts, closing-facts, may-offer-facts, Prices, prices-facts, falling-first, lowering-first}
+pub use Rattle.rules.specs.CheckLaws.{Numbers, numbers-facts, levels-facts, Declared, declaration-facts, closing-facts, may-offer-facts, prices-facts}
 
 pub record SetUpPassed (l : Ledger) (s : Settings) : Type 0 where
   pub phase : isFresh (l .phase) ≡ true

@@ -12,11 +12,11 @@ use Rattle.rules.specs.Clearing.{highest, high}
 use Rattle.rules.specs.Refusals.{isFresh, lowering}
 use Rattle.rules.specs.Rounds.{added, lastLevel, applied, phaseAfter, accepted}
 use Rattle.rules.specs.RoundLaws.{last-level-append, by-missing, by-phase-after}
-use Rattle.sound.specs.Sound.{started, appliedTo, levelsOf, Descends, SoundDeveloper, SoundOffer, RoundPrices, Sound}
+use Rattle.sound.specs.Sound.{started, appliedTo, levelsOf, Descends, SoundDeveloper, SoundOffer, Stands, RoundPrices, Sound}
 use Rattle.reachable.specs.Checks.{ClosePassed}
 use Rattle.reachable.specs.Histories.{lowering-next, lowering-append, descends-append, falling-descends}
 use Rattle.reachable.specs.Supplies.{covered-same, high-at-start}
-use Rattle.reachable.specs.Held.{in-round, Held, Kept, kept, registered}
+use Rattle.reachable.specs.Held.{in-round, Kept}
 
 -- ---- what closing adds to a developer
 
@@ -61,7 +61,7 @@ module _ (l : Ledger) (s : Sound l) (p : ClosePassed l) where
   before : (x : Developer) → SoundDeveloper (appliedTo (l .phase) l) (l .settings .a) x → SoundDeveloper (l .opening) (l .settings .a) x
   before x d = subst (λ (q : Phase). SoundDeveloper (appliedTo q l) (l .settings .a) x) round d
 
-  applied-held : (n : ℕ) (x : Developer) → Held l n x → SoundDeveloper (l .closing) (l .settings .a) (applied (l .opening) x)
+  applied-held : (n : ℕ) (x : Developer) → Stands l n x → SoundDeveloper (l .closing) (l .settings .a) (applied (l .opening) x)
   applied-held n x h = applied-sound l x prices (before x (h .developer)) (h .offer)
 
   each : (n : ℕ) → Kept next n (applied (l .opening) (l .developers n))
@@ -73,7 +73,7 @@ module _ (l : Ledger) (s : Sound l) (p : ClosePassed l) where
         number-high = h .number-high;
         developer = by-phase-after l (λ q. SoundDeveloper (appliedTo q next) (l .settings .a) (applied (l .opening) (l .developers n))) (applied-held n (l .developers n) h) (applied-held n (l .developers n) h);
         offer = tt;
-      })) (kept l s n)
+      })) (s .each n)
 
   -- withdrawals at A and below leave the high at A
   high-stays : (n : ℕ) → high (l .settings .a) (applied (l .opening) (l .developers n)) ≡ high (l .settings .a) (l .developers n)
@@ -81,7 +81,7 @@ module _ (l : Ledger) (s : Sound l) (p : ClosePassed l) where
   high-stays n = ⊎-elim
       (λ e. subst (λ (d : Developer). high (l .settings .a) (applied (l .opening) d) ≡ high (l .settings .a) d) (sym e) refl)
       (λ h. high-at-start _ _ _ (applied-held n (l .developers n) h) ∙ sym (high-at-start _ _ _ (h .developer)))
-      (kept l s n)
+      (s .each n)
 
   pub sound-close : Sound (accepted l Close)
   unfolding accepted applied
@@ -92,6 +92,6 @@ module _ (l : Ledger) (s : Sound l) (p : ClosePassed l) where
     idle = λ e. absurd (clash (by-phase-after l (λ q. started q ≡ true) refl refl) e);
     prices = λ e. record { low = prices .low; order = prices .order; high = prices .high };
     start-covered = λ e. covered-same next l (l .settings .a) refl (λ n. refl) high-stays ∙ s .start-covered (ap started round);
-    each = λ n. registered next n (each n);
+    each = each;
     alone = s .alone;
   }

@@ -2,17 +2,18 @@
 use Prim.Native.Nat.{ℕ, suc, _≤_, _<_, zero-le}
 use mathlib.Core.Path.{_≡_}
 use mathlib.Core.Logic.{⊎-elim}
-use mathlib.Core.Bool.{true, _||_}
+use mathlib.Core.Bool.{true}
 use mathlib.Core.List.{List, [], _∷_, List·Memᴰ, List·Memᴰ·head, List·Memᴰ·tail, List·Memᴰ·not-nil, List·Memᴰ·cases-cons}
 use native.Mathlib.Omega.{arith}
-use lib.Dec.{ltb, eqb}
+use lib.Dec.{ltb}
 use lib.ListN.{length}
-use borrow.Author.Tests.{eqb-true, lt-ltb, le-ltb}
+use borrow.Author.Tests.{lt-ltb, le-ltb}
 use Rattle.numbers.specs.Cases.{le-or-lt}
-use Rattle.numbers.specs.Lists.{keep, member}
-use Rattle.numbers.specs.ListLaws.{or-true, keep-le, member-true}
+use Rattle.numbers.specs.Lists.{keep}
+use Rattle.numbers.specs.ListLaws.{keep-le}
+use Rattle.rules.specs.Ledger.{declaredOrZero}
 use Rattle.rules.specs.Refusals.{lowering}
-use Rattle.rules.specs.CheckLaws.{lowering-first}
+use Rattle.rules.specs.CheckLaws.{declared-or-zero, lowering-first}
 
 -- how many of the numbers are below q
 below : ℕ → List ℕ → ℕ
@@ -48,8 +49,8 @@ below-strict v q (x ∷ xs) m h = ⊎-elim
     (le-or-lt v x))
     (List·Memᴰ·cases-cons m)
 
-declared-in : (v : ℕ) (ls : List ℕ) → eqb v 0 || member v ls ≡ true → List·Memᴰ v (0 ∷ ls)
-declared-in v ls e = ⊎-elim (λ z. List·Memᴰ·head (eqb-true v 0 z)) (λ m. List·Memᴰ·tail (member-true v ls .0 m)) (or-true (eqb v 0) (member v ls) e)
+declared-in : (v : ℕ) (ls : List ℕ) → declaredOrZero ls v ≡ true → List·Memᴰ v (0 ∷ ls)
+declared-in v ls e = ⊎-elim List·Memᴰ·head List·Memᴰ·tail (declared-or-zero ls v .0 e)
 
 lowering-below : (ls : List ℕ) (q : ℕ) (vs : List ℕ) → lowering ls q vs ≡ true → length vs ≤ below q (0 ∷ ls)
 lowering-below ls q [] e = zero-le

@@ -1,5 +1,5 @@
 -- What a ledger may hold under a developer's number, said of the developer held there; and ledgers that differ in their developers alone.
-use Prim.Native.Nat.{ℕ, _≤_}
+use Prim.Native.Nat.{ℕ}
 use mathlib.Core.Path.{_≡_, refl, sym, subst}
 use mathlib.Core.Logic.{_⊎_, inl, inr, ⊎-elim}
 use mathlib.Core.Bool.{Bool, true, false, cond}
@@ -11,7 +11,7 @@ use Rattle.rules.specs.Ledger.{Standing, none, made, Developer, Phase, Fresh, R
 use Rattle.rules.specs.Clearing.{covered}
 use Rattle.rules.specs.Refusals.{isFresh, isReady, mayOpen, inRound}
 use Rattle.rules.specs.Rounds.{put}
-use Rattle.sound.specs.Sound.{started, appliedTo, SoundDeveloper, SoundOffer, Registered, Sound}
+use Rattle.sound.specs.Sound.{started, appliedTo, SoundDeveloper, SoundOffer, Stands, Sound}
 pub use Rattle.clearing.specs.ClosingPrice.{started-not-fresh}
 
 -- ---- phases
@@ -37,23 +37,11 @@ by-may-open P r b Fresh e = absurd (clash e refl)
 by-may-open P r b Round e = absurd (clash e refl)
 by-may-open P r b Closed e = absurd (clash e refl)
 
--- ---- held
+-- ---- one number
 
-pub record Held (l : Ledger) (n : ℕ) (x : Developer) : Type 0 where
-  pub number-low : 1 ≤ n
-  pub number-high : n ≤ 32
-  pub developer : SoundDeveloper (appliedTo (l .phase) l) (l .settings .a) x
-  pub offer : SoundOffer l x (x .offer)
-
--- nobody, or held so
+-- under n stands x: nobody, or a registered developer
 abbrev pub Kept : Ledger → ℕ → Developer → Type 0
-Kept l n x = (x ≡ nobody) ⊎ Held l n x
-
-pub kept : (l : Ledger) → Sound l → (n : ℕ) → Kept l n (l .developers n)
-kept l s n = ⊎-elim inl (λ r. inr (record { number-low = r .number-low; number-high = r .number-high; developer = r .developer; offer = r .offer })) (s .each n)
-
-pub registered : (l : Ledger) (n : ℕ) → Kept l n (l .developers n) → (l .developers n ≡ nobody) ⊎ Registered l n
-registered l n k = ⊎-elim inl (λ h. inr (record { number-low = h .number-low; number-high = h .number-high; developer = h .developer; offer = h .offer })) k
+Kept l n x = (x ≡ nobody) ⊎ Stands l n x
 
 -- what holds of x under n and of every other developer holds of all once x is put under n
 pub by-put : (P : ℕ → Developer → Type 0) (n : ℕ) (x : Developer) (f : ℕ → Developer) → P n x → ((m : ℕ) → P m (f m)) → (m : ℕ) → P m (put n x f m)
@@ -102,6 +90,6 @@ sound-with l f s p w = record {
   idle = w .idle;
   prices = λ e. let r = s .prices e in record { low = r .low; order = r .order; high = r .high };
   start-covered = w .start-covered;
-  each = λ n. registered (withDevelopers l f) n (w .each n);
+  each = w .each;
   alone = w .alone;
 }

@@ -1,21 +1,18 @@
--- Withdrawals behind withdrawals: levels that fall, prices that do not rise, the last level; and the steps of an offer's two lists.
+-- Withdrawals behind withdrawals: levels that fall, prices that do not rise, the last level.
 use Prim.Native.Nat.{ℕ, _≤_, _<_}
-use mathlib.Core.Path.{_≡_, refl, ap}
-use mathlib.Core.Bool.{true, _||_}
+use mathlib.Core.Path.{_≡_}
+use mathlib.Core.Bool.{true}
 use mathlib.Core.List.{List, [], _∷_, _++_}
 use native.Mathlib.Omega.{arith}
-use lib.Dec.{eqb}
-use lib.ListN.{length}
 use borrow.Author.Tests.{lt-ltb}
-use Rattle.numbers.specs.Lists.{member}
-use Rattle.rules.specs.Ledger.{Step}
+use Rattle.rules.specs.Ledger.{declaredOrZero, Step}
 use Rattle.rules.specs.Refusals.{falling, lowering}
-use Rattle.rules.specs.Rounds.{steps, lastLevel}
+use Rattle.rules.specs.Rounds.{lastLevel}
 use Rattle.sound.specs.Sound.{pricesOf, levelsOf, Descends}
 use Rattle.rules.specs.CheckLaws.{falling-first, lowering-first}
 pub use Rattle.rules.specs.RoundLaws.{last-level-append}
 
-pub lowering-next : (ls : List ℕ) (q v : ℕ) (vs : List ℕ) → eqb v 0 || member v ls ≡ true → v < q → lowering ls v vs ≡ true → lowering ls q (v ∷ vs) ≡ true
+pub lowering-next : (ls : List ℕ) (q v : ℕ) (vs : List ℕ) → declaredOrZero ls v ≡ true → v < q → lowering ls v vs ≡ true → lowering ls q (v ∷ vs) ≡ true
 unfolding lowering
 lowering-next ls q v vs d h e = rw (d, lt-ltb v q h) e
 
@@ -46,18 +43,3 @@ falling-descends c o [] e = tt
 falling-descends c o (s ∷ ss) e =
     let t = falling-first c o (s .price) (pricesOf ss) e in
     (t .0, (let k = t .1 in omega arith), falling-descends c (s .price) ss (t .2))
-
--- ---- the steps of equally long lists
-
-pub prices-of-steps : (ps qs : List ℕ) → length ps ≡ length qs → pricesOf (steps ps qs) ≡ ps
-unfolding steps
-prices-of-steps [] qs e = refl
-prices-of-steps (p ∷ ps) [] e = absurd (omega arith)
-prices-of-steps (p ∷ ps) (q ∷ qs) e = ap (λ (s : List ℕ). p ∷ s) (prices-of-steps ps qs (omega arith))
-
-pub levels-of-steps : (ps qs : List ℕ) → length ps ≡ length qs → levelsOf (steps ps qs) ≡ qs
-unfolding steps
-levels-of-steps [] [] e = refl
-levels-of-steps [] (q ∷ qs) e = absurd (omega arith)
-levels-of-steps (p ∷ ps) [] e = absurd (omega arith)
-levels-of-steps (p ∷ ps) (q ∷ qs) e = ap (λ (s : List ℕ). q ∷ s) (levels-of-steps ps qs (omega arith))

@@ -4,17 +4,16 @@ use mathlib.Core.Path.{_≡_, refl, ap, _∙_}
 use mathlib.Core.Logic.{inr, ⊎-elim}
 use mathlib.Core.List.{List}
 use native.Mathlib.Omega.{arith}
-use lib.ListN.{length, length-map}
 use Rattle.numbers.specs.Cases.{clash}
 use Rattle.rules.specs.Ledger.{Declaration, Step, Offer, made, Developer, Round, Ledger}
 use Rattle.rules.specs.Clearing.{high}
 use Rattle.rules.specs.Refusals.{isFresh}
 use Rattle.rules.specs.Rounds.{put, steps, accepted}
-use Rattle.sound.specs.Sound.{started, SoundDeveloper, SoundSteps, SoundOffer, Sound}
+use Rattle.sound.specs.Sound.{started, SoundDeveloper, SoundSteps, SoundOffer, Stands, Sound}
+use Rattle.sound.specs.StepLaws.{steps-prices, steps-levels, steps-length}
 use Rattle.reachable.specs.Checks.{OfferPassed, may-offer-facts, prices-facts}
-use Rattle.reachable.specs.Histories.{prices-of-steps, levels-of-steps}
 use Rattle.reachable.specs.Supplies.{covered-same}
-use Rattle.reachable.specs.Held.{in-round, Held, Kept, kept, by-put, withDevelopers, developer-with, kept-with, sound-with}
+use Rattle.reachable.specs.Held.{in-round, Kept, by-put, withDevelopers, developer-with, kept-with, sound-with}
 
 abbrev offering : Developer → List Step → Developer
 offering x ss = record { declared = x .declared; quantity = x .quantity; withdrawals = x .withdrawals; offer = made ss }
@@ -32,12 +31,12 @@ module _ (l : Ledger) (n : ℕ) (ps qs : List ℕ) (s : Sound l) (p : OfferPasse
       record {
         round = p .phase;
         kind = may-offer-facts l n (p .developer) .2;
-        few = omega (arith, ap length (prices-of-steps ps qs (f .same)), length-map (steps ps qs) (λ (t : Step). t .price));
-        prices = rw (prices-of-steps ps qs (f .same)) (f .falls);
-        levels = rw (levels-of-steps ps qs (f .same)) (p .levels);
+        few = omega (arith, steps-length ps qs (f .same));
+        prices = rw (steps-prices ps qs (f .same)) (f .falls);
+        levels = rw (steps-levels ps qs (f .same)) (p .levels);
       }
 
-  held : Held (withDevelopers l next) n (offering (l .developers n) (steps ps qs))
+  held : Stands (withDevelopers l next) n (offering (l .developers n) (steps ps qs))
   unfolding SoundOffer
   held = ⊎-elim
       (λ e. let z : l .developers n .declared .kind ≡ 0 = ap (λ (d : Developer). d .declared .kind) e in absurd (omega (arith, may-offer-facts l n (p .developer))))
@@ -46,7 +45,7 @@ module _ (l : Ledger) (n : ℕ) (ps qs : List ℕ) (s : Sound l) (p : OfferPasse
         number-high = h .number-high;
         developer = offering-sound _ _ (l .developers n) (steps ps qs) (developer-with l next (l .developers n) (h .developer));
         offer = given;
-      }) (kept l s n)
+      }) (s .each n)
 
   declared-stays : (m : ℕ) → next m .declared ≡ l .developers m .declared
   declared-stays = by-put (λ m d. d .declared ≡ l .developers m .declared) n (offering (l .developers n) (steps ps qs)) (l .developers) refl (λ m. refl)
@@ -60,7 +59,7 @@ module _ (l : Ledger) (n : ℕ) (ps qs : List ℕ) (s : Sound l) (p : OfferPasse
   sound-offer = sound-with l next s (ap isFresh round) (record {
     idle = λ e. absurd (clash (ap started round) e);
     start-covered = λ e. covered-same (withDevelopers l next) l (l .settings .a) refl (λ m. ap (λ (d : Declaration). d .project) (declared-stays m)) (high-stays (l .settings .a)) ∙ s .start-covered e;
-    each = by-put (Kept (withDevelopers l next)) n (offering (l .developers n) (steps ps qs)) (l .developers) (inr held) (λ m. kept-with l next m (l .developers m) (kept l s m));
+    each = by-put (Kept (withDevelopers l next)) n (offering (l .developers n) (steps ps qs)) (l .developers) (inr held) (λ m. kept-with l next m (l .developers m) (s .each m));
     alone = λ m j. rw (declared-stays m, declared-stays j) (s .alone m j);
   })
     where

@@ -12,7 +12,7 @@ use Rattle.rules.specs.Refusals.{isFresh, isReady, inRound, openingPrice, start
 use Rattle.rules.specs.Rounds.{accepted}
 use Rattle.sound.specs.Sound.{started, appliedTo, SoundDeveloper, SoundOffer, RoundPrices, Sound}
 use Rattle.reachable.specs.Checks.{OpenPassed, closing-facts}
-use Rattle.reachable.specs.Held.{by-may-open, Kept, kept, registered}
+use Rattle.reachable.specs.Held.{by-may-open, Kept}
 
 module _ (l : Ledger) (c : ℕ) (s : Sound l) (p : OpenPassed l c) where
   opening-high : openingPrice l ≤ l .settings .a
@@ -48,7 +48,7 @@ module _ (l : Ledger) (c : ℕ) (s : Sound l) (p : OpenPassed l c) where
         number-high = h .number-high;
         developer = subst (λ (b : ℕ). SoundDeveloper b (l .settings .a) (l .developers n)) opening-applied (h .developer);
         offer = offers (l .developers n) (l .developers n .offer) (h .offer);
-      })) (kept l s n)
+      })) (s .each n)
 
   pub sound-open : Sound (accepted l (Open c))
   unfolding accepted covered supply greatestOf developersOf
@@ -59,6 +59,6 @@ module _ (l : Ledger) (c : ℕ) (s : Sound l) (p : OpenPassed l c) where
     idle = λ e. absurd (clash refl e);
     prices = λ e. let t = closing-facts l c (p .closing) in record { low = t .0; order = t .1; high = opening-high };
     start-covered = λ e. start-stays;
-    each = λ n. registered next n (each n);
+    each = each;
     alone = s .alone;
   }

@@ -8,22 +8,21 @@ use native.Mathlib.Omega.{arith}
 use lib.Dec.{eqb}
 use borrow.Author.Tests.{eqb-true}
 use Rattle.numbers.specs.Cases.{and-true, clash}
-use Rattle.numbers.specs.Lists.{lastOr}
 use Rattle.numbers.specs.ListLaws.{all-true}
-use Rattle.rules.specs.Ledger.{Declaration, Register, none, Developer, Ready, Ledger}
+use Rattle.rules.specs.Ledger.{Declaration, highestDeclared, Register, none, Developer, Ready, Ledger}
 use Rattle.rules.specs.Clearing.{developersOf}
 use Rattle.rules.specs.Refusals.{isFresh, mayJoin, lowering}
 use Rattle.rules.specs.Rounds.{put, lastLevel, accepted}
 use Rattle.rules.specs.Projects.{in-developers-of}
-use Rattle.sound.specs.Sound.{started, Descends, SoundDeclaration, SoundDeveloper, SoundOffer, Sound}
+use Rattle.sound.specs.Sound.{started, Descends, SoundDeclaration, SoundDeveloper, SoundOffer, Stands, Sound}
 use Rattle.reachable.specs.Checks.{RegisterPassed, Numbers, numbers-facts, Declared, declaration-facts}
-use Rattle.reachable.specs.Held.{is-ready, Held, Kept, kept, by-put, withDevelopers, kept-with, sound-with}
+use Rattle.reachable.specs.Held.{is-ready, Kept, by-put, withDevelopers, kept-with, sound-with}
 
 -- a developer with a project is registered
 pub used-number : (l : Ledger) → Sound l → (m : ℕ) → 1 ≤ l .developers m .declared .project → (1 ≤ m) × (m ≤ 32)
 used-number l s m h = ⊎-elim
     (λ e. let z : l .developers m .declared .project ≡ 0 = ap (λ (d : Developer). d .declared .project) e in absurd (omega arith))
-    (λ k. (k .number-low, k .number-high)) (kept l s m)
+    (λ k. (k .number-low, k .number-high)) (s .each m)
 
 -- whoever joins others is of kind 2, and so are they
 pub joined-kinds : (l : Ledger) → Sound l → (k kind m : ℕ) → mayJoin l k kind ≡ true → 1 ≤ k → l .developers m .declared .project ≡ k → (kind ≡ 2) × (l .developers m .declared .kind ≡ 2)
@@ -35,7 +34,7 @@ joined-kinds l s k kind m e h g =
     (eqb-true kind 2 (t .0), eqb-true _ 2 (t .1))
 
 abbrev newcomer : Declaration → Developer
-newcomer x = record { declared = x; quantity = lastOr 0 (x .levels); withdrawals = []; offer = none }
+newcomer x = record { declared = x; quantity = highestDeclared x; withdrawals = []; offer = none }
 
 newcomer-sound : (c a : ℕ) (x : Declaration) → SoundDeclaration x → SoundDeveloper c a (newcomer x)
 unfolding lowering Descends lastLevel
@@ -51,7 +50,7 @@ module _ (l : Ledger) (n : ℕ) (x : Declaration) (s : Sound l) (p : RegisterPas
   abbrev next : ℕ → Developer
   next = put n (newcomer x) (l .developers)
 
-  held : Held (withDevelopers l next) n (newcomer x)
+  held : Stands (withDevelopers l next) n (newcomer x)
   unfolding SoundOffer
   held = record {
     number-low = numbers .number-low;
@@ -80,7 +79,7 @@ module _ (l : Ledger) (n : ℕ) (x : Declaration) (s : Sound l) (p : RegisterPas
   sound-register = sound-with l next s (ap isFresh ready) (record {
     idle = λ e. by-put (λ m d. d .withdrawals ≡ []) n (newcomer x) (l .developers) refl (s .idle e);
     start-covered = λ e. absurd (clash e (ap started ready));
-    each = by-put (Kept (withDevelopers l next)) n (newcomer x) (l .developers) (inr held) (λ m. kept-with l next m (l .developers m) (kept l s m));
+    each = by-put (Kept (withDevelopers l next)) n (newcomer x) (l .developers) (inr held) (λ m. kept-with l next m (l .developers m) (s .each m));
     alone = alone;
   })
     where

@@ -1,4 +1,4 @@
--- One call more: what a refused and an accepted call make of the ledger, and the ledger and the replies of a list with one call more.
+-- One call more: what a refused and an accepted call make of the ledger, and the ledger and the answers of a list with one call more.
 use mathlib.Core.Path.{_≡_, refl, ap}
 use mathlib.Core.Bool.{Bool, true, false, cond}
 use mathlib.Core.List.{List, [], _∷_, _++_}
@@ -6,7 +6,7 @@ use lib.Dec.{eqb}
 use borrow.Author.Tests.{eqb-true, eq-eqb, ne-eqb}
 use Rattle.rules.specs.Ledger.{Call, Ledger, start}
 use Rattle.rules.specs.Refusals.{number}
-use Rattle.rules.specs.Rounds.{accepted, step, stepAll, ledger, Reply, reply, repliesFrom, replies}
+use Rattle.rules.specs.Rounds.{accepted, step, stepAll, ledger, Answered, answer, answersFrom, answers}
 
 pub step-refused : (l : Ledger) (c : Call) → (number l c ≡ 0 → ⊥) → step l c ≡ l
 unfolding step
@@ -34,11 +34,11 @@ pub ledger-snoc : (cs : List Call) (c : Call) → ledger (cs ++ (c ∷ [])) ≡ 
 unfolding ledger
 ledger-snoc cs c = step-all-snoc start cs c
 
-replies-from-snoc : (l : Ledger) (cs : List Call) (c : Call) → repliesFrom l (cs ++ (c ∷ [])) ≡ repliesFrom l cs ++ (reply (stepAll l cs) c ∷ [])
-unfolding stepAll repliesFrom
-replies-from-snoc l [] c = refl
-replies-from-snoc l (d ∷ cs) c = ap (λ (rs : List Reply). reply l d ∷ rs) (replies-from-snoc (step l d) cs c)
+answers-from-snoc : (l : Ledger) (cs : List Call) (c : Call) → answersFrom l (cs ++ (c ∷ [])) ≡ answersFrom l cs ++ (answer (stepAll l cs) c ∷ [])
+unfolding stepAll answersFrom
+answers-from-snoc l [] c = refl
+answers-from-snoc l (d ∷ cs) c = ap (λ (rs : List Answered). answer l d ∷ rs) (answers-from-snoc (step l d) cs c)
 
-pub replies-snoc : (cs : List Call) (c : Call) → replies (cs ++ (c ∷ [])) ≡ replies cs ++ (reply (ledger cs) c ∷ [])
-unfolding replies ledger
-replies-snoc cs c = replies-from-snoc start cs c
+pub answers-snoc : (cs : List Call) (c : Call) → answers (cs ++ (c ∷ [])) ≡ answers cs ++ (answer (ledger cs) c ∷ [])
+unfolding answers ledger
+answers-snoc cs c = answers-from-snoc start cs c

@@ -2,6 +2,9 @@
 ghost use mathlib.Core.Path.{_≡_};
 ghost use lib.ListN.{length};
 
+// The most bytes of a record, and of its replies (document 01, Frames).
+const LONGEST: usize = 65_536;
+
 // One byte more than a record may have, so that a longer one is seen.
 fn input() -> [u8; 65537]
     ensures { λ r. ⌜ 65537 ≡ length r ⌝ }
@@ -13,9 +16,9 @@ fn main() {
     let mut record = input();
     let n = io::read_full(libc::STDIN_FILENO, &mut record);
     let mut replies = io::large_buffer();
-    if n <= 65536 {
+    if n <= LONGEST {
         let written = replaying::replay(&record[..n], &mut replies);
-        if written <= 65536 {
+        if written <= LONGEST as u64 {
             io::write_all(libc::STDOUT_FILENO, &replies[..written as usize]);
             return;
         }

@@ -8,10 +8,9 @@ use borrow.Author.Tests.{le-leb, lt-leb}
 use borrow.Rule.Slice.PartMut.{putMid, midOf}
 use lib.Dec.{leb}
 use lib.ListN.{length, take, drop, length-append, length-take, length-drop}
-use Rattle.format.specs.Hex.{laid}
 use Rattle.format.specs.Lines.{lines, part, lineStart, lineEnd}
 use Rattle.format.specs.LineLaws.{line-inside, next-line, no-line}
-use Rattle.format.specs.Tails.{length-laid, tail-is, wrote, wrote-all}
+use Rattle.numbers.specs.Tails.{laid, length-laid, tail-is, Filled, filled-more, filled-all}
 use Rattle.rules.specs.Ledger.{Call, Ledger}
 use Rattle.rules.specs.Rounds.{stepAll, ledger}
 use Rattle.reachable.specs.Steps.{ledger-snoc}
@@ -105,9 +104,7 @@ sized-end s limit a at used z h =
 pub record Written (s o out : List ℕ) (a : Auction) (at used : ℕ) : Type 0 where
   pub calls : List Call
   pub holds : a ≡ auctionOf (ledger calls)
-  pub within : used ≤ length (replies s)
-  pub behind : drop used (replies s) ≡ left calls at s
-  pub laid-out : out ≡ laid (take used (replies s)) o
+  pub filled : Filled (replies s) o out (left calls at s) used
   pub same : length out ≡ length o
   pub inside : at ≤ length s + 1
 
@@ -116,9 +113,7 @@ unfolding laid
 written-first s o a e = record {
   calls = [];
   holds = e;
-  within = omega arith;
-  behind = sym (left-first s);
-  laid-out = refl;
+  filled = record { inside = omega arith; left = sym (left-first s); holds = refl };
   same = refl;
   inside = omega arith;
 }
@@ -127,7 +122,7 @@ module _ (s l o out : List ℕ) (a : Auction) (at used : ℕ) (t : Turn) (fit : 
     (p : Steps s l at (z .calls) t) where
   -- the reply fits the tail
   pub room : used + length (textOf (t .reply)) ≤ length out
-  room = omega (arith, z .within, z .same, ap length (z .behind), length-drop used (replies s), p .counts)
+  room = omega (arith, z .filled .inside, z .same, ap length (z .filled .left), length-drop used (replies s), p .counts)
 
   pub tail-room : length (textOf (t .reply)) ≤ length (midOf used (length out - used) out)
   tail-room = rw tail-is (omega (arith, room, length-drop used out))
@@ -136,21 +131,21 @@ module _ (s l o out : List ℕ) (a : Auction) (at used : ℕ) (t : Turn) (fit : 
       → Written s o (putMid used (length out - used) out ys) (t .auction) (at + length l + 1) (used + n)
   written-again ys n ey en =
       let R : List ℕ = replies s in
-      let w = wrote R (textOf (t .reply)) (left (p .calls) (at + length l + 1) s) o out ys used (z .within) (z .behind ∙ p .adds) (z .laid-out) ey in
+      let f : Filled R o out (textOf (t .reply) ++ left (p .calls) (at + length l + 1) s) used =
+      record { inside = z .filled .inside; left = z .filled .left ∙ p .adds; holds = z .filled .holds } in
+      let w = filled-more R o out (left (p .calls) (at + length l + 1) s) used (textOf (t .reply)) ys f ey in
       let few : length (take (used + length (textOf (t .reply))) R) ≤ length o = omega (arith, length-take (used + length (textOf (t .reply))) R) in
       rw en record {
         calls = p .calls;
         holds = p .next;
-        within = w .0;
-        behind = w .1;
-        laid-out = w .2;
-        same = ap length (w .2) ∙ length-laid (take (used + length (textOf (t .reply))) R) o few;
+        filled = w;
+        same = ap length (w .holds) ∙ length-laid (take (used + length (textOf (t .reply))) R) o few;
         inside = omega (arith, p .inside);
       }
 
 pub written-end : (s o out : List ℕ) (a : Auction) (at used : ℕ) → Written s o out a at used → length s ≤ at
     → (used ≡ length (replies s)) × (out ≡ laid (replies s) o)
-written-end s o out a at used z h = wrote-all (replies s) o out used (z .within) (z .behind ∙ left-none (z .calls) at s h) (z .laid-out)
+written-end s o out a at used z h = filled-all (replies s) o out (left (z .calls) at s) used (z .filled) (left-none (z .calls) at s h)
 
 -- ---- the whole
 

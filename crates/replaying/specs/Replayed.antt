@@ -4,7 +4,7 @@ use mathlib.Core.Bool.{cond}
 use mathlib.Core.List.{List}
 use lib.Dec.{leb}
 use lib.ListN.{length}
-use Rattle.format.specs.Hex.{laid}
+use Rattle.numbers.specs.Tails.{laid}
 
 -- the text over the buffer's start where it fits, else the buffer as it was
 unfoldable pub over : List ℕ → List ℕ → List ℕ

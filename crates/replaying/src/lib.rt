@@ -1,16 +1,20 @@
-// A record replayed from a fresh auction into a lent buffer (document 01, Frames): the sizes of the replies first, then the replies, each
-// into the tail that is left. Nothing is written unless all fits.
+// A record replayed from a fresh auction into a lent buffer (document 01, Frames): first whether the replies fit, then the replies, each into
+// the tail that is left. Nothing is written unless all fits.
 ghost use mathlib.Core.Path.{_≡_};
 ghost use Prim.Native.Nat.{_≤_};
 ghost use lib.Dec.{leb};
 ghost use lib.ListN.{length};
-ghost use Rattle.format.specs.Hex.{laid};
+ghost use Rattle.numbers.specs.Tails.{laid};
 ghost use Rattle.replies.specs.Orders.{orderIn};
 ghost use Rattle.replies.specs.Replies.{replies};
+ghost use Rattle.replies.specs.Lengths.{mostTo, mostIn};
 ghost use Rattle.turns.specs.Turns.{Takes};
 ghost use Rattle.replaying.specs.Replayed.{hosted, over};
 use auction::Auction;
 use turns::Turn;
+
+// What a host gets for refusal 11: 2^64 less 11.
+const REFUSAL_11: u64 = 0xffff_ffff_ffff_fff5;
 
 // The next auction and the reply to a line.
 fn step(auction: Auction, line: &[u8]) -> Turn
@@ -19,8 +23,42 @@ fn step(auction: Auction, line: &[u8]) -> Turn
     turns::respond(auction, frames::decode(line))
 }
 
-// Whether the replies to a record fit so many bytes.
-fn fits(bytes: &[u8], limit: usize) -> bool
+// At least as many bytes as the reply to a line has.
+fn most(line: &[u8]) -> usize
+    ensures { λ r. ⌜ r ≡ mostTo (now (line .entry)) ⌝ }
+{
+    if line.len() < 2 {
+        return 5;
+    }
+    if line[1] == 53 {
+        return 21;
+    }
+    if line[1] == 54 {
+        return 435;
+    }
+    5
+}
+
+// Whether so many bytes are surely enough for the replies, by the lines alone: no call is made.
+fn enough(bytes: &[u8], limit: usize) -> bool
+    ensures { λ r. ⌜ r ≡ leb (mostIn (now (bytes .entry))) limit ⌝ }
+{
+    let mut start: usize = 0;
+    let mut sum: usize = 0;
+    while start < bytes.len() {
+        let line = frames::next_line(bytes, start);
+        let n = most(line);
+        if limit - sum < n {
+            return false;
+        }
+        sum += n;
+        start = start + line.len() + 1;
+    }
+    true
+}
+
+// Whether the sizes of the replies to a record add up to at most so many bytes.
+fn sizes_fit(bytes: &[u8], limit: usize) -> bool
     ensures { λ r. ⌜ r ≡ leb (length (replies (now (bytes .entry)))) limit ⌝ }
 {
     let mut auction = Auction::new();
@@ -40,6 +78,16 @@ fn fits(bytes: &[u8], limit: usize) -> bool
         at = at + line.len() + 1;
     }
     true
+}
+
+// Whether the replies to a record fit so many bytes. Their sizes are asked only where the lines leave it open.
+fn fits(bytes: &[u8], limit: usize) -> bool
+    ensures { λ r. ⌜ r ≡ leb (length (replies (now (bytes .entry)))) limit ⌝ }
+{
+    if enough(bytes, limit) {
+        return true;
+    }
+    sizes_fit(bytes, limit)
 }
 
 // Writes the replies to a record, which fit, and gives their number of bytes.
@@ -71,5 +119,5 @@ pub fn replay(bytes: &[u8], out: &mut [u8]) -> u64
     if fits(bytes, out.len()) {
         return write(bytes, out) as u64;
     }
-    18446744073709551605
+    REFUSAL_11
 }

@@ -4,7 +4,7 @@ use mathlib.Core.Bool.{cond}
 use mathlib.Core.List.{List, [], _∷_, _++_, map, flatten}
 use lib.Dec.{eqb}
 use lib.IntN.{ℤ, pos, negsuc}
-use lib.ListN.{length, getD}
+use lib.ListN.{length}
 use Rattle.format.specs.Hex.{digits}
 use Rattle.format.specs.Lines.{lines}
 use Rattle.rules.specs.Ledger.{Call, SetUp, Register, Open, Offer, Close, Ledger, start}

@@ -7,11 +7,11 @@ use native.Mathlib.Omega.{arith}
 use lib.ListN.{length, take, getD, length-append}
 use lib.Seq.{take-suc, length-take-le}
 use borrow.Rule.Slice.PartMut.{putMid, midOf}
-use Rattle.format.specs.Hex.{digits, laid}
+use Rattle.format.specs.Hex.{digits}
 use Rattle.format.specs.HexLaws.{length-digits}
-use Rattle.format.specs.Tails.{grow, length-laid}
+use Rattle.numbers.specs.Tails.{laid, grow, length-laid}
 use Rattle.replies.specs.Replies.{recordDigits}
-use Rattle.reply_text.specs.TextLaws.{bytes-append, bytes-length}
+use Rattle.replies.specs.Lengths.{bytes-append, bytes-length}
 
 -- ---- part by part: the buffer xs holds the text P over its old bytes o, and the next part starts at a
 

@@ -1,8 +1,8 @@
 -- Laws of a reply's text: how long it is, and what an accepted settling adds, in the words of the rules.
 use Prim.Native.Nat.{ℕ, _+_, _*_, _≤_}
-use mathlib.Core.Path.{_≡_, refl, sym, ap, _∙_}
+use mathlib.Core.Path.{_≡_, refl, ap, _∙_}
 use mathlib.Core.Bool.{Bool, true, false, cond}
-use mathlib.Core.List.{List, [], _∷_, _++_, map, flatten, append-assoc, List·Memᴰ·head, List·Memᴰ·tail}
+use mathlib.Core.List.{List, [], flatten}
 use native.Mathlib.Omega.{arith}
 use borrow.Author.Tests.{eq-eqb, ne-eqb}
 use lib.Dec.{eqb}
@@ -12,24 +12,13 @@ use Rattle.numbers.specs.ListLaws.{Each}
 use Rattle.format.specs.Hex.{digits}
 use Rattle.format.specs.HexLaws.{length-digits}
 use Rattle.rules.specs.Settling.{Settlement}
-use Rattle.replies.specs.Replies.{answerLine, recordDigits, settledDigits}
-use Rattle.awarding.specs.Awarding.{laid}
+use Rattle.replies.specs.Replies.{answerLine, settledDigits}
+use Rattle.replies.specs.Lengths.{bytes-length, flat-length, flat-digits}
+use Rattle.numbers.specs.Tails.{laid}
 use Rattle.settling.specs.Settles.{settledAs}
 use Rattle.settling.specs.declared.Settled.{Settled}
 use Rattle.reply_text.specs.declared.Reply.{Reply}
 use Rattle.reply_text.specs.Texts.{recordsIn, numbersText, settledText, addedText, shownText, textOf}
-
--- ---- bytes, two digits each
-
-pub bytes-append : (xs ys : List ℕ) → recordDigits (xs ++ ys) ≡ recordDigits xs ++ recordDigits ys
-unfolding flatten
-bytes-append [] ys = refl
-bytes-append (x ∷ xs) ys = ap (λ (l : List ℕ). digits 2 x ++ l) (bytes-append xs ys) ∙ sym (append-assoc (digits 2 x) (recordDigits xs) (recordDigits ys))
-
-pub bytes-length : (xs : List ℕ) → length (recordDigits xs) ≡ 2 * length xs
-unfolding flatten
-bytes-length [] = refl
-bytes-length (x ∷ xs) = omega (arith, length-append (digits 2 x) (recordDigits xs), length-digits 2 x, bytes-length xs)
 
 -- ---- lengths
 
@@ -70,21 +59,10 @@ module _ (r : Reply) where
 
 -- ---- the tie to the rules
 
-flat-length : (rs : List (List ℕ)) → Each (λ r. length r ≡ 6) rs → length (flatten rs) ≡ 6 * length rs
-unfolding flatten
-flat-length [] six = refl
-flat-length (r ∷ rs) six =
-    omega (arith, length-append r (flatten rs), six r (List·Memᴰ·head refl), flat-length rs (λ x m. six x (List·Memᴰ·tail m)))
-
-flat-digits : (rs : List (List ℕ)) → recordDigits (flatten rs) ≡ flatten (map recordDigits rs)
-unfolding flatten
-flat-digits [] = refl
-flat-digits (r ∷ rs) = bytes-append r (flatten rs) ∙ ap (λ (l : List ℕ). recordDigits r ++ l) (flat-digits rs)
-
 -- what an accepted settling adds, where the awards start with its records
 pub settled-text : (s : Settlement) (awards old : List ℕ) → length (s .records) ≤ 32 → Each (λ r. length r ≡ 6) (s .records)
     → awards ≡ laid (flatten (s .records)) old → settledText (settledAs s) awards ≡ settledDigits s
-unfolding numbersText settledText settledDigits
+unfolding numbersText settledText settledDigits laid
 settled-text s awards old few six e =
     let n : recordsIn (settledAs s) ≡ length (s .records) = omega arith in
     let t : take (6 * length (s .records)) awards ≡ flatten (s .records) =

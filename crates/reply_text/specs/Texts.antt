@@ -1,7 +1,7 @@
 -- The text of a reply in numbers.
 use Prim.Native.Nat.{ℕ, min, _*_}
 use mathlib.Core.Bool.{cond}
-use mathlib.Core.List.{List, [], _∷_, _++_, map, flatten}
+use mathlib.Core.List.{List, [], _++_, map, flatten}
 use lib.Dec.{eqb}
 use lib.ListN.{take}
 use Rattle.format.specs.Hex.{digits}

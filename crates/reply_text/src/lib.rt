@@ -3,7 +3,8 @@ ghost use mathlib.Core.Path.{_≡_};
 ghost use mathlib.Core.List.{map, flatten};
 ghost use Prim.Native.Nat.{_*_, _≤_};
 ghost use lib.ListN.{length, take};
-ghost use Rattle.format.specs.Hex.{digits, laid};
+ghost use Rattle.format.specs.Hex.{digits};
+ghost use Rattle.numbers.specs.Tails.{laid};
 ghost use Rattle.reply_text.specs.Texts.{recordsIn, numbersText, settledText, shownText, textOf};
 use settling::Settled;
 

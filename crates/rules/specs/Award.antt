@@ -3,16 +3,16 @@ use Prim.Native.Nat.{ℕ}
 use mathlib.Core.Bool.{Bool, true, false, cond, _&&_, _||_}
 use mathlib.Core.List.{List, [], _∷_, map}
 use lib.Dec.{leb, ltb, eqb}
-use Rattle.numbers.specs.Lists.{oneTo, keep, any, member}
-use Rattle.rules.specs.Ledger.{Developer, Ledger}
+use Rattle.numbers.specs.Lists.{oneTo, keep, any}
+use Rattle.rules.specs.Ledger.{declaredOrZero, Developer, Ledger}
 use Rattle.rules.specs.Clearing.{high, low, developersOf, greatestOf, demandAt}
 use Rattle.choices.specs.Choices.{choices, covering, bestOf}
 
--- a level is declared by a developer, or 0, and from its own low to its own high at p
+-- open to a developer: declared by it, or 0, and from its own low to its own high at p
 unfoldable pub openToDeveloper : ℕ → Developer → ℕ → Bool
-openToDeveloper p x v = (eqb v 0 || member v (x .declared .levels)) && leb (low p x) v && leb v (high p x)
+openToDeveloper p x v = declaredOrZero (x .declared .levels) v && leb (low p x) v && leb v (high p x)
 
--- open, a term of document 01: so for some developer of the project, and not below the project's low
+-- open, a term of document 01: open to some developer of the project, and not below the project's low
 unfoldable pub openTo : Ledger → ℕ → ℕ → ℕ → Bool
 openTo l p k v = leb (greatestOf (low p) l k) v && any (λ n. openToDeveloper p (l .developers n) v) (developersOf l k)
 
@@ -42,6 +42,7 @@ isEmpty (x ∷ xs) = false
 unfoldable pub row : Ledger → ℕ → ℕ → List ℕ
 row l p k = cond (isEmpty (developersOf l k)) (0 ∷ []) (openLevels l p k)
 
+-- the rows of all numbers, 1 to 32
 unfoldable pub rows : Ledger → ℕ → List (List ℕ)
 rows l p = map (row l p) (oneTo 32)
 
@@ -49,20 +50,20 @@ rows l p = map (row l p) (oneTo 32)
 unfoldable pub admissible : Ledger → ℕ → List (List ℕ)
 admissible l p = choices (rows l p)
 
--- those that cover
+-- those that cover, a term of document 01: a choice covers if its total is at least Dem(P)
 unfoldable pub coveringChoices : Ledger → ℕ → List (List ℕ)
 coveringChoices l p = covering (demandAt l p) (admissible l p)
 
--- the award: the covering choice of least total; of equal totals the one with the larger level at the lowest project number where they
--- differ
+-- the award, a term of document 01: the covering choice of least total; of equal totals the one with the larger level at the lowest
+-- project number where they differ
 unfoldable pub award : Ledger → ℕ → List ℕ
 award l p = bestOf (coveringChoices l p)
 
--- n is preferred to m: a higher study value, or the same and an earlier start day (3.15.2 iii)
+-- x is preferred to y: a higher study value, or the same and an earlier start day (3.15.2 iii)
 unfoldable pub preferred : Developer → Developer → Bool
 preferred x y = ltb (y .declared .study) (x .declared .study) || (eqb (x .declared .study) (y .declared .study) && ltb (x .declared .day) (y .declared .day))
 
--- the preferred one of n and ns; the first of equals, which is the lowest number
+-- the preferred one of n and ns; the first of equals, which is the lowest number (3.15.2 iii)
 unfoldable pub mostPreferred : Ledger → ℕ → List ℕ → ℕ
 mostPreferred l n [] = n
 mostPreferred l n (m ∷ ns) = mostPreferred l (cond (preferred (l .developers m) (l .developers n)) m n) ns

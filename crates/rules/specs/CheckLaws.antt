@@ -1,19 +1,19 @@
 -- What the checks of the calls say where they pass (document 01, Registration, Rounds and The twelve numbers).
 use Prim.Native.Nat.{ℕ, suc, _*_, _/_, _≤_, _<_}
 use mathlib.Core.Path.{_≡_}
-use mathlib.Core.Logic.{_⊎_, ⊎-elim, ⊎-map}
+use mathlib.Core.Logic.{_⊎_, ⊎-elim, ⊎-map, _↔_}
 use mathlib.Core.Bool.{true, _&&_, _||_}
 use mathlib.Core.List.{List, [], _∷_, List·Memᴰ, List·Memᴰ·not-nil, List·Memᴰ·cases-cons}
 use native.Mathlib.Omega.{arith}
 use lib.Dec.{leb, ltb, eqb}
 use lib.ListN.{length}
-use borrow.Author.Tests.{leb-true, ltb-true, eqb-true}
-use Rattle.numbers.specs.Cases.{and-true, or-true}
+use borrow.Author.Tests.{leb-true, ltb-true, eqb-true, eq-eqb}
+use Rattle.numbers.specs.Cases.{and-true, or-true, or-left, or-right}
 use Rattle.numbers.specs.Lists.{lastOr, member}
-use Rattle.numbers.specs.ListLaws.{last-in}
+use Rattle.numbers.specs.ListLaws.{last-in, member-true}
 use Rattle.curve.specs.Demand.{inBounds, InBounds}
 use Rattle.curve.specs.Range.{in-bounds}
-use Rattle.rules.specs.Ledger.{Settings, Declaration, Ledger}
+use Rattle.rules.specs.Ledger.{Settings, Declaration, declaredOrZero, Ledger}
 use Rattle.rules.specs.Refusals.{settingsOk, isNumber, numbersOk, rising, levelsOk, mayJoin, declarationOk, floor, openingPrice, closingOk, mayOffer, falling, pricesOk, lowering}
 
 -- ---- set-up
@@ -32,7 +32,7 @@ in-settings s e =
 
 -- ---- registration
 
-is-number : (n : ℕ) → isNumber n ≡ true → (1 ≤ n) × (n ≤ 32)
+pub is-number : (n : ℕ) → isNumber n ≡ true → (1 ≤ n) × (n ≤ 32)
 is-number n e = let t = and-true (leb 1 n) (leb n 32) e in (leb-true 1 n (t .0), leb-true n 32 (t .1))
 
 pub record Numbers (l : Ledger) (k n : ℕ) : Type 0 where
@@ -135,10 +135,16 @@ falling-first c o p ps e =
     let u = and-true (leb c p) (ltb p o) (t .0) in
     (leb-true c p (u .0), ltb-true p o (u .1), t .1)
 
+pub declared-or-zero : (ls : List ℕ) (v : ℕ) → (declaredOrZero ls v ≡ true) ↔ ((v ≡ 0) ⊎ List·Memᴰ v ls)
+declared-or-zero ls v = (
+  (λ e. ⊎-map (eqb-true v 0) (member-true v ls .0) (or-true (eqb v 0) (member v ls) e)),
+  ⊎-elim (λ e. or-left (eqb v 0) (member v ls) (eq-eqb v 0 e)) (λ m. or-right (eqb v 0) (member v ls) (member-true v ls .1 m)),
+)
+
 -- the first level of a lowering list is declared or 0, and below the quantity before it
-pub lowering-first : (ls : List ℕ) (q v : ℕ) (vs : List ℕ) → lowering ls q (v ∷ vs) ≡ true → (eqb v 0 || member v ls ≡ true) × (v < q) × (lowering ls v vs ≡ true)
+pub lowering-first : (ls : List ℕ) (q v : ℕ) (vs : List ℕ) → lowering ls q (v ∷ vs) ≡ true → (declaredOrZero ls v ≡ true) × (v < q) × (lowering ls v vs ≡ true)
 unfolding lowering
 lowering-first ls q v vs e =
-    let t = and-true ((eqb v 0 || member v ls) && ltb v q) (lowering ls v vs) e in
-    let u = and-true (eqb v 0 || member v ls) (ltb v q) (t .0) in
+    let t = and-true (declaredOrZero ls v && ltb v q) (lowering ls v vs) e in
+    let u = and-true (declaredOrZero ls v) (ltb v q) (t .0) in
     (u .0, ltb-true v q (u .1), t .1)

@@ -1,8 +1,11 @@
 -- The calls, and what the ledger holds (document 01, Registration, Rounds and Closing price and award). Nothing here is the engine's.
 use Prim.Native.Nat.{ℕ}
+use mathlib.Core.Bool.{Bool, _||_}
 use mathlib.Core.List.{List, []}
+use lib.Dec.{eqb}
+use Rattle.numbers.specs.Lists.{lastOr, member}
 
--- CE, D, M1, M2 and the opening price A
+-- CE, D, M1, M2 and the opening price A (document 01, Demand)
 pub record Settings : Type 0 where
   pub ce : ℕ
   pub d : ℕ
@@ -10,7 +13,8 @@ pub record Settings : Type 0 where
   pub m2 : ℕ
   pub a : ℕ
 
--- what a registration declares: the project, the kind of plant (1 existing, 2 new), study value, start day, levels
+-- what a registration declares (document 01, Registration): the project, the kind of plant (1 existing, 2 new), study value, start day,
+-- levels
 pub record Declaration : Type 0 where
   pub project : ℕ
   pub kind : ℕ
@@ -18,7 +22,15 @@ pub record Declaration : Type 0 where
   pub day : ℕ
   pub levels : List ℕ
 
--- a step of an offer, or a withdrawal: at a price, down to a level
+-- the highest level declared, at which a developer's quantity starts (document 01, Registration)
+abbrev pub highestDeclared : Declaration → ℕ
+highestDeclared x = lastOr 0 (x .levels)
+
+-- v is one of the levels declared, or 0, which may always be offered (document 01, Registration)
+abbrev pub declaredOrZero : List ℕ → ℕ → Bool
+declaredOrZero levels v = eqb v 0 || member v levels
+
+-- a step of an offer, or a withdrawal: at a price, down to a level (document 01, Rounds)
 pub record Step : Type 0 where
   pub price : ℕ
   pub level : ℕ
@@ -37,15 +49,15 @@ pub data Standing : Type 0 where
   none : Standing
   made : List Step → Standing
 
--- what is held of a developer number. Of one that is not registered, all fields are 0 or empty
+-- what is held of a developer number. Of one that is not registered, all is 0 or empty: `nobody`
 pub record Developer : Type 0 where
   pub declared : Declaration
   pub quantity : ℕ
   pub withdrawals : List Step
   pub offer : Standing
 
--- Fresh: before set-up. Ready: set up, no round opened yet. Round: a round is open. Between: a round was closed, another may be
--- opened. Closed: the auction is closed
+-- The phases of document 01, Rounds. Fresh: before set-up. Ready: set up, no round opened yet. Round: a round is open. Between: a round
+-- was closed, another may be opened. Closed: the auction is closed
 pub data Phase : Type 0 where
   Fresh : Phase
   Ready : Phase
@@ -53,8 +65,8 @@ pub data Phase : Type 0 where
   Between : Phase
   Closed : Phase
 
--- The ledger, a term of document 01. `opening` and `closing` are the prices of the open or else the latest round, 0 before the first;
--- so between rounds and after the last, `closing` is the last C
+-- The ledger, a term of document 01 (Closing price and award). `opening` and `closing` are the prices of the open or else the latest
+-- round, 0 before the first; so between rounds and after the last, `closing` is the last C
 pub record Ledger : Type 0 where
   pub phase : Phase
   pub settings : Settings
@@ -62,6 +74,7 @@ pub record Ledger : Type 0 where
   pub closing : ℕ
   pub developers : ℕ → Developer
 
+-- under a number that is not registered
 abbrev pub nobody : Developer
 nobody = record {
   declared = record { project = 0; kind = 0; study = 0; day = 0; levels = [] };

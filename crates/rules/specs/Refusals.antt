@@ -4,13 +4,14 @@ use mathlib.Core.Bool.{Bool, true, false, cond, not, _&&_, _||_}
 use mathlib.Core.List.{List, [], _∷_}
 use lib.Dec.{leb, ltb, eqb}
 use lib.ListN.{length}
-use Rattle.numbers.specs.Lists.{all, member}
+use Rattle.numbers.specs.Lists.{all}
 use Rattle.curve.specs.Demand.{inBounds}
-use Rattle.rules.specs.Ledger.{Settings, Declaration, Call, SetUp, Register, Open, Offer, Close, Standing, none, made, Developer, Phase, Fresh, Ready, Round, Between, Closed, Ledger}
+use Rattle.rules.specs.Ledger.{Settings, Declaration, declaredOrZero, Call, SetUp, Register, Open, Offer, Close, Standing, none, made, Developer, Phase, Fresh, Ready, Round, Between, Closed, Ledger}
 use Rattle.rules.specs.Clearing.{developersOf, covered}
 
--- ---- the phase that accepts a call
+-- ---- the phase that accepts a call (document 01, Rounds)
 
+-- accepts set-up
 abbrev pub isFresh : Phase → Bool
 isFresh Fresh = true
 isFresh Ready = false
@@ -18,6 +19,7 @@ isFresh Round = false
 isFresh Between = false
 isFresh Closed = false
 
+-- accepts registrations; the next opening is the first
 abbrev pub isReady : Phase → Bool
 isReady Fresh = false
 isReady Ready = true
@@ -25,6 +27,7 @@ isReady Round = false
 isReady Between = false
 isReady Closed = false
 
+-- accepts an opening
 abbrev pub mayOpen : Phase → Bool
 mayOpen Fresh = false
 mayOpen Ready = true
@@ -32,6 +35,7 @@ mayOpen Round = false
 mayOpen Between = true
 mayOpen Closed = false
 
+-- accepts offers and closing
 abbrev pub inRound : Phase → Bool
 inRound Fresh = false
 inRound Ready = false
@@ -39,6 +43,7 @@ inRound Round = true
 inRound Between = false
 inRound Closed = false
 
+-- accepts settling
 abbrev pub isClosed : Phase → Bool
 isClosed Fresh = false
 isClosed Ready = false
@@ -46,17 +51,19 @@ isClosed Round = false
 isClosed Between = false
 isClosed Closed = true
 
--- ---- set-up
+-- ---- set-up (document 01, Demand)
 
 -- the settings within their bounds, and CE/2 < A <= 2 CE
 unfoldable pub settingsOk : Settings → Bool
 settingsOk s = inBounds (s .ce) (s .d) (s .m1) (s .m2) && ltb (s .ce / 2) (s .a) && leb (s .a) (2 * s .ce)
 
--- ---- registration
+-- ---- registration (document 01, Registration)
 
+-- projects and developers have numbers 1 to 32
 abbrev pub isNumber : ℕ → Bool
 isNumber n = leb 1 n && leb n 32
 
+-- nobody is registered under the number: a registered developer has a project, 1 to 32
 abbrev pub unused : Developer → Bool
 unused x = eqb (x .declared .project) 0
 
@@ -77,11 +84,13 @@ levelsOk ls = leb 1 (length ls) && leb (length ls) 8 && rising 0 ls
 unfoldable pub mayJoin : Ledger → ℕ → ℕ → Bool
 mayJoin l k kind = all (λ m. eqb kind 2 && eqb (l .developers m .declared .kind) 2) (developersOf l k)
 
+-- kind 1 or 2, good levels, and a project that the developer may join
 unfoldable pub declarationOk : Ledger → Declaration → Bool
 declarationOk l x = (eqb (x .kind) 1 || eqb (x .kind) 2) && levelsOk (x .levels) && mayJoin l (x .project) (x .kind)
 
--- ---- opening
+-- ---- opening (document 01, Rounds)
 
+-- the floor is CE/2 (document 01, Demand)
 abbrev pub floor : Ledger → ℕ
 floor l = l .settings .ce / 2
 
@@ -97,13 +106,14 @@ closingOk l c = leb (floor l) c && ltb c (openingPrice l)
 unfoldable pub startCovered : Ledger → Bool
 startCovered l = not (isReady (l .phase)) || covered l (l .settings .a)
 
--- ---- offers
+-- ---- offers (document 01, Rounds)
 
+-- one accepted offer per developer and round: none stands yet
 abbrev pub isNone : Standing → Bool
 isNone none = true
 isNone (made ss) = false
 
--- a developer of kind 2
+-- a developer of kind 2 alone makes offers
 abbrev pub mayOffer : Ledger → ℕ → Bool
 mayOffer l n = isNumber n && eqb (l .developers n .declared .kind) 2
 
@@ -119,14 +129,15 @@ pricesOk l ps qs = eqb (length ps) (length qs) && leb (length ps) 8 && falling (
 -- each level is declared or 0, and strictly below the quantity before it (activity rule, 3.10)
 unfoldable pub lowering : List ℕ → ℕ → List ℕ → Bool
 lowering declared q [] = true
-lowering declared q (v ∷ vs) = (eqb v 0 || member v declared) && ltb v q && lowering declared v vs
+lowering declared q (v ∷ vs) = declaredOrZero declared v && ltb v q && lowering declared v vs
 
--- ---- the refusal of a call, or 0: the first check that fails gives its number
+-- ---- the refusal of a call, or 0: the first check that fails gives its number (document 01, The twelve numbers)
 
 -- the refusal n where the check fails, what follows where it passes
 abbrev pub check : Bool → ℕ → ℕ → ℕ
 check passes n next = cond passes next n
 
+-- set-up 2, 1; registration 2, 3, 4; opening 2, 5, 9; offer 2, 3, 8, 6, 7; closing 2
 unfoldable pub number : Ledger → Call → ℕ
 number l (SetUp s) = check (isFresh (l .phase)) 2 (check (settingsOk s) 1 0)
 number l (Register n x) =

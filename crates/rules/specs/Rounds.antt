@@ -5,17 +5,17 @@ use mathlib.Core.Bool.{cond, _&&_, _||_}
 use mathlib.Core.List.{List, [], _∷_, _++_}
 use lib.Dec.{leb, ltb, eqb}
 use lib.IntN.{ℤ, pos, _-ℤ_}
-use Rattle.numbers.specs.Lists.{lastOr}
-use Rattle.rules.specs.Ledger.{Step, Call, SetUp, Register, Open, Offer, Close, Standing, none, made, Developer, Phase, Ready, Round, Between, Closed, Ledger, start}
+use Rattle.rules.specs.Ledger.{highestDeclared, Step, Call, SetUp, Register, Open, Offer, Close, Standing, none, made, Developer, Phase, Ready, Round, Between, Closed, Ledger, start}
 use Rattle.rules.specs.Clearing.{supply, demandAt}
 use Rattle.rules.specs.Refusals.{inRound, floor, openingPrice, number}
 
--- ---- what an accepted call does
+-- ---- what an accepted call does (document 01, Rounds and Closing price and award)
 
 -- developer n is x, the others stay
 abbrev pub put : ℕ → Developer → (ℕ → Developer) → ℕ → Developer
 put n x f m = cond (eqb m n) x (f m)
 
+-- the steps of an offer's prices and levels
 unfoldable pub steps : List ℕ → List ℕ → List Step
 steps [] qs = []
 steps (p ∷ ps) [] = []
@@ -32,6 +32,7 @@ unfoldable pub lastLevel : ℕ → List Step → ℕ
 lastLevel q [] = q
 lastLevel q (s ∷ ss) = lastLevel (s .level) ss
 
+-- a developer after the closing: with these withdrawals added, and the last level added, if any, as its quantity
 unfoldable pub applied : ℕ → Developer → Developer
 applied o x = record {
   declared = x .declared;
@@ -48,6 +49,7 @@ supplyAfter l = supply (λ x. applied (l .opening) x .quantity) l
 unfoldable pub phaseAfter : Ledger → Phase
 phaseAfter l = cond (leb (supplyAfter l) (demandAt l (l .closing)) || eqb (l .closing) (floor l)) Closed Between
 
+-- the ledger after an accepted call
 unfoldable pub accepted : Ledger → Call → Ledger
 accepted l (SetUp s) = record {
   phase = Ready;
@@ -61,7 +63,7 @@ accepted l (Register n x) = record {
   settings = l .settings;
   opening = l .opening;
   closing = l .closing;
-  developers = put n (record { declared = x; quantity = lastOr 0 (x .levels); withdrawals = []; offer = none }) (l .developers);
+  developers = put n (record { declared = x; quantity = highestDeclared x; withdrawals = []; offer = none }) (l .developers);
 }
 accepted l (Open c) = record {
   phase = Round;
@@ -90,7 +92,7 @@ accepted l Close = record {
   developers = λ n. applied (l .opening) (l .developers n);
 }
 
--- ---- the ledger of a list of calls
+-- ---- the ledger of a list of calls (document 01, Closing price and award)
 
 -- a refused call changes nothing
 unfoldable pub step : Ledger → Call → Ledger
@@ -100,10 +102,11 @@ unfoldable pub stepAll : Ledger → List Call → Ledger
 stepAll l [] = l
 stepAll l (c ∷ cs) = stepAll (step l c) cs
 
+-- the ledger, a term of document 01: it starts empty and is fed the calls in order
 unfoldable pub ledger : List Call → Ledger
 ledger cs = stepAll start cs
 
--- ---- the answers
+-- ---- the answers (document 01, Rounds)
 
 -- the excess that an accepted closing answers: supply after the withdrawals at C less Dem(C); every other answer has 0
 unfoldable pub excess : Ledger → Call → ℤ
@@ -114,16 +117,16 @@ excess l (Offer n ps qs) = pos 0
 excess l Close = cond (inRound (l .phase)) (pos (supplyAfter l) -ℤ pos (demandAt l (l .closing))) (pos 0)
 
 -- a call's whole answer, and those to a list of calls
-pub record Reply : Type 0 where
+pub record Answered : Type 0 where
   pub number : ℕ
   pub excess : ℤ
 
-unfoldable pub reply : Ledger → Call → Reply
-reply l c = record { number = number l c; excess = excess l c }
+unfoldable pub answer : Ledger → Call → Answered
+answer l c = record { number = number l c; excess = excess l c }
 
-unfoldable pub repliesFrom : Ledger → List Call → List Reply
-repliesFrom l [] = []
-repliesFrom l (c ∷ cs) = reply l c ∷ repliesFrom (step l c) cs
+unfoldable pub answersFrom : Ledger → List Call → List Answered
+answersFrom l [] = []
+answersFrom l (c ∷ cs) = answer l c ∷ answersFrom (step l c) cs
 
-unfoldable pub replies : List Call → List Reply
-replies cs = repliesFrom start cs
+unfoldable pub answers : List Call → List Answered
+answers cs = answersFrom start cs

@@ -1,4 +1,5 @@
--- The sample record of document 01 as a list of calls. Its settling and the ten marked cases of demand, shown jointly and computed.
+-- The sample record of document 01 (Frames) as a list of calls. Its settling and the ten marked cases of demand (Demand), shown jointly and
+-- computed.
 use mathlib.Core.Path.{_≡_, refl}
 use lib.IntN.{pos, _-ℤ_}
 use mathlib.Core.List.{List, [], _∷_, _++_, map}
@@ -10,10 +11,10 @@ use Rattle.curve.specs.Marked.{MarkedCases, marked-cases}
 use Rattle.rules.specs.Ledger.{Call, SetUp, Register, Open, Offer, Close, Closed}
 use Rattle.rules.specs.Clearing.{after, high, low, developersOf, greatestOf, supply, covered, closingPrice}
 use Rattle.rules.specs.Refusals.{settingsOk, numbersOk, rising, levelsOk, mayJoin, declarationOk, openingPrice, closingOk, startCovered, falling, pricesOk, lowering, number}
-use Rattle.rules.specs.Rounds.{steps, added, lastLevel, applied, supplyAfter, phaseAfter, accepted, step, stepAll, ledger, excess, reply, repliesFrom, replies}
+use Rattle.rules.specs.Rounds.{steps, added, lastLevel, applied, supplyAfter, phaseAfter, accepted, step, stepAll, ledger, excess, answer, answersFrom, answers}
 use Rattle.choices.specs.Choices.{spread, choices, covering, larger, before, best, bestOf}
 use Rattle.rules.specs.Award.{openToDeveloper, openTo, insert, insertAll, declaredBy, openLevels, row, rows, admissible, coveringChoices, award, preferred, mostPreferred, firstPreferred, winner}
-use Rattle.rules.specs.Settling.{recordsFrom, records, settlementAt, settlement}
+use Rattle.rules.specs.Settling.{recordsFrom, records, settlingNumber, settlementAt, settlement}
 
 abbrev pub sample : List Call
 sample =
@@ -29,11 +30,13 @@ sample =
     ∷ Close
     ∷ []
 
--- the ledger is closed; P is 26,000 and Dem(P) 970; the open totals are 920, 1,020, 1,070 and 1,170, of which three cover; the award is
--- 1,020: 820 to developer 1 of project 1 and 200 to developer 3 of project 2
+-- the ledger is closed, and settling with the record's limit 100 and the replay's 192 bytes is accepted; P is 26,000 and Dem(P) 970; the
+-- open totals are 920, 1,020, 1,070 and 1,170, of which three cover; the award is 1,020: 820 to developer 1 of project 1 and 200 to
+-- developer 3 of project 2
 abbrev pub SampleSettled : Type 0
 SampleSettled =
     (ledger sample .phase ≡ Closed)
+    × (settlingNumber (ledger sample) 100 192 ≡ 0)
     × (map total (admissible (ledger sample) 26000) ≡ 920 ∷ 1070 ∷ 1020 ∷ 1170 ∷ [])
     × (settlement (ledger sample) ≡ record {
       price = 26000;
@@ -43,15 +46,15 @@ SampleSettled =
       covering = 3;
       records = (1 ∷ 1 ∷ 0 ∷ 0 ∷ 3 ∷ 52 ∷ []) ∷ (2 ∷ 3 ∷ 0 ∷ 0 ∷ 0 ∷ 200 ∷ []) ∷ [];
     })
-    × (map (λ r. r .number) (replies sample) ≡ replicate 10 0)
-    × (map (λ r. r .excess) (replies sample) ≡ replicate 9 (pos 0) ++ ((pos 0 -ℤ pos 55) ∷ []))
+    × (map (λ r. r .number) (answers sample) ≡ replicate 10 0)
+    × (map (λ r. r .excess) (answers sample) ≡ replicate 9 (pos 0) ++ ((pos 0 -ℤ pos 55) ∷ []))
 
 pub shown-jointly : MarkedCases × SampleSettled
 unfolding oneTo keep total greatest lastOr any all leastFrom dem inBounds
     after high low developersOf greatestOf supply covered closingPrice
     settingsOk numbersOk rising levelsOk mayJoin declarationOk openingPrice closingOk startCovered falling pricesOk lowering number
-    steps added lastLevel applied supplyAfter phaseAfter accepted step stepAll ledger excess reply repliesFrom replies
+    steps added lastLevel applied supplyAfter phaseAfter accepted step stepAll ledger excess answer answersFrom answers
     spread choices covering larger before best bestOf
     openToDeveloper openTo insert insertAll declaredBy openLevels row rows admissible coveringChoices award preferred mostPreferred firstPreferred winner
-    recordsFrom records settlementAt settlement
-shown-jointly = (marked-cases, (refl, refl, refl, refl, refl))
+    recordsFrom records settlingNumber settlementAt settlement
+shown-jointly = (marked-cases, (refl, refl, refl, refl, refl, refl))

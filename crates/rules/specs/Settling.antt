@@ -1,4 +1,4 @@
--- The award records and the settling's answer (document 01, Closing price and award and The twelve numbers).
+-- The award records and the settling's answer (document 01, Closing price and award).
 use Prim.Native.Nat.{ℕ, suc, min, _*_, _/_, _%_}
 use mathlib.Core.Bool.{cond}
 use mathlib.Core.List.{List, [], _∷_}
@@ -22,6 +22,7 @@ recordsFrom l p k (v ∷ vs) = cond (eqb v 0) (recordsFrom l p (suc k) vs) (reco
 unfoldable pub records : Ledger → ℕ → List (List ℕ)
 records l p = recordsFrom l p 1 (award l p)
 
+-- the checks of settling in their order, 2, 10, 11 (document 01, The twelve numbers); a limit above 65,536 means 65,536
 unfoldable pub settlingNumber : Ledger → ℕ → ℕ → ℕ
 settlingNumber l limit room =
     check (isClosed (l .phase)) 2

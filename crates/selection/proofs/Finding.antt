@@ -112,11 +112,11 @@ more-index n t i m f h k = go (leb t (f .total))
     go true = k
     go false = h
 
-pub through-index : (d acc i m : ℕ) (f : Found) (cs : List (List ℕ)) → f .index < m → i + length cs ≤ m → through d acc i f cs .index < m
+pub through-index : (d base i m : ℕ) (f : Found) (cs : List (List ℕ)) → f .index < m → i + length cs ≤ m → through d base i f cs .index < m
 unfolding through
-through-index d acc i m f [] h k = h
-through-index d acc i m f (c ∷ cs) h k = through-index d acc (suc i) m (cond (leb d (acc + total c)) (more 1 (acc + total c) i f) f) cs (go (leb d (acc + total c))) (omega arith)
+through-index d base i m f [] h k = h
+through-index d base i m f (c ∷ cs) h k = through-index d base (suc i) m (cond (leb d (base + total c)) (more 1 (base + total c) i f) f) cs (go (leb d (base + total c))) (omega arith)
   where
-    go : (b : Bool) → cond b (more 1 (acc + total c) i f) f .index < m
-    go true = more-index 1 (acc + total c) i m f h (omega arith)
+    go : (b : Bool) → cond b (more 1 (base + total c) i f) f .index < m
+    go true = more-index 1 (base + total c) i m f h (omega arith)
     go false = h

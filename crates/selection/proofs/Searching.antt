@@ -33,11 +33,11 @@ no-rows p e = (ap lowest (left-none p e), ap highest (left-none p e))
 
 -- g has gone through the choices with the level at the place
 abbrev pub With : List ℕ → List ℕ → ℕ → ℕ → ℕ → ℕ → Found → ℕ → Found → Type 0
-With levels ends i at acc ix f d g = g ≡ through d (acc + getD levels at 0) ix f (choices (rowsBehind levels ends i))
+With levels ends i at base ix f d g = g ≡ through d (base + getD levels at 0) ix f (choices (rowsBehind levels ends i))
 
-module _ {levels ends ways lows highs : List ℕ} {i at acc ix : ℕ} {f : Found} (r : Ready levels ends ways lows highs i at acc ix f) where
+module _ {levels ends ways lows highs : List ℕ} {i at base ix : ℕ} {f : Found} (r : Ready levels ends ways lows highs i at base ix f) where
   -- of a row that is used up nothing is left
-  pub used-up : (d : ℕ) → at ≡ getD ends i 0 → f ≡ through d acc ix f (choices (left levels ends i at))
+  pub used-up : (d : ℕ) → at ≡ getD ends i 0 → f ≡ through d base ix f (choices (left levels ends i at))
   unfolding choices spread through
   used-up d e = rw (left-used (r .place) (omega (arith, r .row)) e)
 
@@ -56,41 +56,41 @@ module _ {levels ends ways lows highs : List ℕ} {i at acc ix : ℕ} {f : Found
     high-is = r .behind .highs-are i zero-le (r .row)
 
     -- the sums fit
-    pub sums-fit : (acc + getD levels at 0 ≤ 32000000000) × (acc + getD levels at 0 + getD lows i 0 ≤ 32000000000) × (acc + getD levels at 0 + getD highs i 0 ≤ 32000000000)
+    pub sums-fit : (base + getD levels at 0 ≤ 32000000000) × (base + getD levels at 0 + getD lows i 0 ≤ 32000000000) × (base + getD levels at 0 + getD highs i 0 ≤ 32000000000)
     sums-fit = let k = left-fits (place .rest) in
-        (omega (arith, r .acc-fits, place .small, r .row), omega (arith, r .acc-fits, place .small, low-is, r .row, k .0), omega (arith, r .acc-fits, place .small, high-is, r .row, k .1))
+        (omega (arith, r .base-fits, place .small, r .row), omega (arith, r .base-fits, place .small, low-is, r .row, k .0), omega (arith, r .base-fits, place .small, high-is, r .row, k .1))
 
     pub room-left : (ix + getD ways i 0 ≤ 65536) × (f .covering + getD ways i 0 ≤ 65536)
     room-left = (omega (arith, r .room, place .counts, way-is), omega (arith, r .room, place .counts, way-is, r .covered))
 
     module _ (d : ℕ) where
-      pub none-covers : acc + getD levels at 0 + getD highs i 0 < d → With levels ends i at acc ix f d f
-      none-covers h = sym (through-none d (acc + getD levels at 0) ix f (rowsBehind levels ends i) (place .rest .laid) (omega (arith, high-is)))
+      pub none-covers : base + getD levels at 0 + getD highs i 0 < d → With levels ends i at base ix f d f
+      none-covers h = sym (through-none d (base + getD levels at 0) ix f (rowsBehind levels ends i) (place .rest .laid) (omega (arith, high-is)))
 
-      pub all-cover : d ≤ acc + getD levels at 0 + getD lows i 0 → With levels ends i at acc ix f d (more (getD ways i 0) (acc + getD levels at 0 + getD lows i 0) ix f)
-      all-cover h = rw (way-is, low-is) (sym (through-all d (acc + getD levels at 0) ix f (rowsBehind levels ends i) (place .rest .laid) (place .some) (omega (arith, low-is))))
+      pub all-cover : d ≤ base + getD levels at 0 + getD lows i 0 → With levels ends i at base ix f d (more (getD ways i 0) (base + getD levels at 0 + getD lows i 0) ix f)
+      all-cover h = rw (way-is, low-is) (sym (through-all d (base + getD levels at 0) ix f (rowsBehind levels ends i) (place .rest .laid) (place .some) (omega (arith, low-is))))
 
       -- where neither holds there is a row behind, which is gone into
-      pub rest-ready : acc + getD levels at 0 + getD lows i 0 < d → d ≤ acc + getD levels at 0 + getD highs i 0 → Ready levels ends ways lows highs (i + 1) (getD ends i 0) (acc + getD levels at 0) ix f
+      pub rest-ready : base + getD levels at 0 + getD lows i 0 < d → d ≤ base + getD levels at 0 + getD highs i 0 → Ready levels ends ways lows highs (i + 1) (getD ends i 0) (base + getD levels at 0) ix f
       rest-ready h k = record {
         place = place .rest;
         behind = r .behind;
         row = ⊎-elim (λ q. q) (λ q. let z = no-rows (place .rest) (omega (arith, r .row)) in absurd (omega (arith, low-is, high-is))) (le-or-lt (suc (i + 1)) 32);
-        acc-fits = omega (arith, r .acc-fits, place .small);
+        base-fits = omega (arith, r .base-fits, place .small);
         room = omega (arith, r .room, place .counts);
         covered = r .covered;
       }
 
-      module _ (g : Found) (w : With levels ends i at acc ix f d g) where
-        pub next-ready : Ready levels ends ways lows highs i (at + 1) acc (ix + getD ways i 0) g
+      module _ (g : Found) (w : With levels ends i at base ix f d g) where
+        pub next-ready : Ready levels ends ways lows highs i (at + 1) base (ix + getD ways i 0) g
         next-ready = record {
           place = place .next;
           behind = r .behind;
           row = r .row;
-          acc-fits = r .acc-fits;
+          base-fits = r .base-fits;
           room = omega (arith, r .room, place .counts, way-is);
-          covered = rw (w, way-is) (omega (arith, through-covering d (acc + getD levels at 0) ix f (choices (rowsBehind levels ends i)), r .covered));
+          covered = rw (w, way-is) (omega (arith, through-covering d (base + getD levels at 0) ix f (choices (rowsBehind levels ends i)), r .covered));
         }
 
-        pub go-on : (e : Found) → e ≡ through d acc (ix + getD ways i 0) g (choices (left levels ends i (at + 1))) → e ≡ through d acc ix f (choices (left levels ends i at))
-        go-on e q = q ∙ rw (w, way-is, place .here, place .beside) (sym (through-cons d acc ix f (getD levels at 0) (place .others) (rowsBehind levels ends i)))
+        pub go-on : (e : Found) → e ≡ through d base (ix + getD ways i 0) g (choices (left levels ends i (at + 1))) → e ≡ through d base ix f (choices (left levels ends i at))
+        go-on e q = q ∙ rw (w, way-is, place .here, place .beside) (sym (through-cons d base ix f (getD levels at 0) (place .others) (rowsBehind levels ends i)))

@@ -1,5 +1,5 @@
 -- From the parts to the whole: what `select` answers is what settling the table's rows comes to.
-use Prim.Native.Nat.{ℕ, min, _≤_, _<_}
+use Prim.Native.Nat.{ℕ, _≤_, _<_}
 use mathlib.Core.Path.{_≡_, refl, sym, ap, subst, _∙_}
 use mathlib.Core.Bool.{Bool, false}
 use mathlib.Core.Logic.{⊎-elim}
@@ -43,23 +43,23 @@ abbrev pub none : Found
 none = record { covering = 0; total = 18446744073709551615; index = 0 }
 
 -- what is known once the choices are counted
-pub record Counted (t : Table) (limit most n : ℕ) : Type 0 where
+pub record Counted (t : Table) (limit n : ℕ) : Type 0 where
   pub long : Long (t .levels) (t .ends)
   pub laid : Laid (t .levels) 0 (t .ends)
-  pub most-is : most ≡ min limit 65536
-  pub counts : CountedTo most (t .ends) n
+  pub capped : limit ≤ 65536
+  pub counts : CountedTo limit (t .ends) n
 
-module _ {t : Table} {limit most n : ℕ} (k : Counted t limit most n) where
-  pub too-many : {d : ℕ} → most < n → Selects t d limit (refusedBy 10)
+module _ {t : Table} {limit n : ℕ} (k : Counted t limit n) where
+  pub too-many : {d : ℕ} → limit < n → Selects t d limit (refusedBy 10)
   unfolding selectedOf
   too-many h = selects λ some.
       let rows : List (List ℕ) = rowsIn (t .levels) 0 (t .ends) in
-      let over : min limit 65536 < count rows = ⊎-elim (λ j. absurd (omega (arith, k .counts .within (t .levels) (k .long .0) j))) (λ j. omega (arith, k .most-is)) (le-or-lt (count rows) most) in
-      rw (lt-leb (count rows) (min limit 65536) over)
+      let over : limit < count rows = ⊎-elim (λ j. absurd (omega (arith, k .counts .within (t .levels) (k .long .0) j))) (λ j. j) (le-or-lt (count rows) limit) in
+      rw (lt-leb (count rows) limit over)
 
-  module _ (h : n ≤ most) where
-    within : count (rowsIn (t .levels) 0 (t .ends)) ≤ most
-    within = ⊎-elim (λ j. j) (λ j. absurd (omega (arith, k .counts .over (t .levels) (k .long .0) j))) (le-or-lt (count (rowsIn (t .levels) 0 (t .ends))) most)
+  module _ (h : n ≤ limit) where
+    within : count (rowsIn (t .levels) 0 (t .ends)) ≤ limit
+    within = ⊎-elim (λ j. j) (λ j. absurd (omega (arith, k .counts .over (t .levels) (k .long .0) j))) (le-or-lt (count (rowsIn (t .levels) 0 (t .ends))) limit)
 
     pub first-place : Place (t .levels) (t .ends) 0 0
     first-place = record {
@@ -68,11 +68,11 @@ module _ {t : Table} {limit most n : ℕ} (k : Counted t limit most n) where
       row = omega arith;
       reach = rise-reach 0 (t .ends) (k .laid .0);
       laid = k .laid .1;
-      few = omega (arith, within, k .most-is);
+      few = omega (arith, within, k .capped);
     }
 
     pub ready : {ways lows highs : List ℕ} → Behind (t .levels) (t .ends) ways lows highs 0 → Ready (t .levels) (t .ends) ways lows highs 0 0 0 0 none
-    ready b = record { place = first-place; behind = b; row = omega arith; acc-fits = omega arith; room = omega (arith, first-place .few); covered = omega arith }
+    ready b = record { place = first-place; behind = b; row = omega arith; base-fits = omega arith; room = omega (arith, first-place .few); covered = omega arith }
 
     module _ (d : ℕ) {f : Found} (e : f ≡ through d 0 0 none (choices (rowsIn (t .levels) 0 (t .ends)))) where
       pub in-list : f .index < count (rowsIn (t .levels) 0 (t .ends))
@@ -87,5 +87,5 @@ module _ {t : Table} {limit most n : ℕ} (k : Counted t limit most n) where
           let number-of : n ≡ count rows = k .counts .within (t .levels) (k .long .0) within in
           let covers : f .covering ≡ length (covering d (choices rows)) = ap (λ (g : Found). g .covering) e ∙ through-counts d 0 none (choices rows) ∙ zero-add (length (covering d (choices rows))) in
           let awarded : award ≡ bestOf (covering d (choices rows)) = a ∙ found .0 in
-          rw (le-leb (count rows) (min limit 65536) (omega (arith, within, k .most-is)))
+          rw (le-leb (count rows) limit within)
           (λ j. record { number = 0; choices = number-of j; covering = covers j; total = found .1 j; award = awarded j })

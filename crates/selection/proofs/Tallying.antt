@@ -1,4 +1,4 @@
--- Counting the choices row by row, up to a most.
+-- Counting the choices row by row, against a limit.
 use Prim.Native.Nat.{ℕ, _+_, _-_, _*_, _≤_, _<_}
 use mathlib.Core.Path.{_≡_, sym, ap, _∙_}
 use mathlib.Core.List.{List, []}
@@ -38,8 +38,8 @@ module _ {ends : List ℕ} {n at i : ℕ} (t : Tally ends n at i) (e : length en
     tally-again k = record { placed = omega arith; small = k; rise = rise-row ends i at (omega arith) (t .rise) .1; all = more }
 
     -- the number of choices is no smaller than that of the rows passed
-    pub tally-over : (most : ℕ) → most < n * (getD ends i 0 - at) → CountedTo most ends (n * (getD ends i 0 - at))
-    tally-over most k = record {
+    pub tally-over : (limit : ℕ) → limit < n * (getD ends i 0 - at) → CountedTo limit ends (n * (getD ends i 0 - at))
+    tally-over limit k = record {
       within = λ levels l w.
           let m : ℕ = n * (getD ends i 0 - at) in
           let rest : ℕ = count (rowsBehind levels ends i) in
@@ -49,9 +49,9 @@ module _ {ends : List ℕ} {n at i : ℕ} (t : Tally ends n at i) (e : length en
       over = λ levels l w. k;
     }
 
-  pub tally-end : (most : ℕ) → 32 ≤ i → CountedTo most ends n
+  pub tally-end : (limit : ℕ) → 32 ≤ i → CountedTo limit ends n
   unfolding choices rowsIn
-  tally-end most h =
+  tally-end limit h =
       let z : drop i ends ≡ [] = drop-of-length-le ends {i = i} (omega arith) in
       let all : (levels : List ℕ) → length levels ≡ 288 → count (rowsIn levels 0 ends) ≡ n = λ levels l. t .all levels l ∙ ap (λ (es : List ℕ). n * count (rowsIn levels at es)) z ∙ mul-one n in
       record { within = λ levels l w. sym (all levels l); over = λ levels l w. omega (arith, all levels l) }

@@ -57,12 +57,12 @@ pub record Place (levels ends : List ℕ) (i at : ℕ) : Type 0 where
 abbrev pub startOf : List ℕ → ℕ → ℕ
 startOf ends i = getD (0 ∷ ends) i 0
 
--- ---- counted against a most
+-- ---- counted against a limit
 
--- n is the number of choices that tables with these ends have, or above `most` if that is
-pub record CountedTo (most : ℕ) (ends : List ℕ) (n : ℕ) : Type 0 where
-  pub within : (levels : List ℕ) → length levels ≡ 288 → count (rowsIn levels 0 ends) ≤ most → n ≡ count (rowsIn levels 0 ends)
-  pub over : (levels : List ℕ) → length levels ≡ 288 → most < count (rowsIn levels 0 ends) → most < n
+-- n is the number of choices that tables with these ends have, or above the limit if that is
+pub record CountedTo (limit : ℕ) (ends : List ℕ) (n : ℕ) : Type 0 where
+  pub within : (levels : List ℕ) → length levels ≡ 288 → count (rowsIn levels 0 ends) ≤ limit → n ≡ count (rowsIn levels 0 ends)
+  pub over : (levels : List ℕ) → length levels ≡ 288 → limit < count (rowsIn levels 0 ends) → limit < n
 
 -- ---- the rows behind each row
 

@@ -1,5 +1,5 @@
 -- What `select` promises.
-use Prim.Native.Nat.{ℕ, min}
+use Prim.Native.Nat.{ℕ}
 use mathlib.Core.Path.{_≡_}
 use mathlib.Core.Bool.{cond}
 use mathlib.Core.List.{List, []}
@@ -11,10 +11,10 @@ use Rattle.table.specs.Rows.{Lays}
 use Rattle.table.specs.declared.Table.{Table}
 use Rattle.selection.specs.declared.Selected.{Selected}
 
--- what settling a book of rows comes to: refusal 10 where there are more choices than the limit, which above 65,536 means 65,536
+-- what settling a book of rows comes to: refusal 10 where there are more choices than the limit
 unfoldable pub selectedOf : ℕ → ℕ → List (List ℕ) → Selected
 selectedOf limit d rows =
-    cond (leb (length (choices rows)) (min limit 65536))
+    cond (leb (length (choices rows)) limit)
     (record { number = 0; choices = length (choices rows); covering = length (covering d (choices rows)); total = total (bestOf (covering d (choices rows))); award = bestOf (covering d (choices rows)) })
     (record { number = 10; choices = 0; covering = 0; total = 0; award = replicate 32 0 })
 

@@ -11,17 +11,17 @@ use Rattle.selection.specs.declared.Found.{Found}
 unfoldable pub more : ℕ → ℕ → ℕ → Found → Found
 more n t i f = cond (leb t (f .total)) (record { covering = f .covering + n; total = t; index = i }) (record { covering = f .covering + n; total = f .total; index = f .index })
 
--- the choices cs, the first of them at the place i, each with acc added to its total
+-- the choices cs, the first of them at the place i, each with base added to its total
 unfoldable pub through : ℕ → ℕ → ℕ → Found → List (List ℕ) → Found
-through d acc i f [] = f
-through d acc i f (c ∷ cs) = through d acc (suc i) (cond (leb d (acc + total c)) (more 1 (acc + total c) i f) f) cs
+through d base i f [] = f
+through d base i f (c ∷ cs) = through d base (suc i) (cond (leb d (base + total c)) (more 1 (base + total c) i f) f) cs
 
--- where going through the choices that are left may begin: in row i from `at` on, with the total acc of the rows before, the first choice at
+-- where going through the choices that are left may begin: in row i from `at` on, with the total base of the rows before, the first choice at
 -- the place index
-pub record Ready (levels ends ways lows highs : List ℕ) (i at acc index : ℕ) (found : Found) : Type 0 where
+pub record Ready (levels ends ways lows highs : List ℕ) (i at base index : ℕ) (found : Found) : Type 0 where
   pub place : Place levels ends i at
   pub behind : Behind levels ends ways lows highs 0
   pub row : i < 32
-  pub acc-fits : acc ≤ i * 1000000000
+  pub base-fits : base ≤ i * 1000000000
   pub room : index + count (left levels ends i at) ≤ 65536
   pub covered : found .covering ≤ index

@@ -1,7 +1,7 @@
 // The choices of one level from each row of a table: how many there are, how many cover a demand, and the best of these.
 ghost use mathlib.Core.Path.{_≡_};
 ghost use mathlib.Core.List.{[]};
-ghost use Prim.Native.Nat.{min, _+_, _-_, _≤_, _<_};
+ghost use Prim.Native.Nat.{_+_, _-_, _≤_, _<_};
 ghost use lib.ListN.{length, getD, take, drop};
 ghost use Rattle.choices.specs.Choices.{choices};
 ghost use Rattle.table.specs.Rows.{EndsRise};
@@ -21,19 +21,6 @@ pub struct Selected {
 }
 
 impl Selected {
-    // The most choices that are settled, whatever the limit (document 01, Closing price and award).
-    pub const MOST: u64 = 65_536;
-
-    // The most choices that are settled at a limit.
-    fn most_of(limit: u64) -> u64
-        ensures { λ r. ⌜ r ≡ min limit 65536 ⌝ }
-    {
-        if limit <= Selected::MOST {
-            return limit;
-        }
-        Selected::MOST
-    }
-
     fn refused(number: u8) -> Selected
         ensures { λ r. ⌜ r ≡ refusedBy number ⌝ }
     {
@@ -48,8 +35,9 @@ impl Selected {
 }
 
 // The numbers of choices and of covering ones, and the best of these: least total, ties to the larger level at the first project where they
-// differ.
+// differ. The limit is capped by then.
 pub fn select(t: Table, demand: u64, limit: u64) -> Selected
+    requires { ⌜ limit ≤ 65536 ⌝ }
     ensures { λ r. ⌜ Selects t demand limit r ⌝ }
 {
     let levels = t.levels;
@@ -57,9 +45,8 @@ pub fn select(t: Table, demand: u64, limit: u64) -> Selected
     if !is_laid(&levels, &ends) {
         return Selected::refused(2);
     }
-    let most = Selected::most_of(limit);
-    let counted = count_choices(&ends, most);
-    if most < counted {
+    let counted = count_choices(&ends, limit);
+    if limit < counted {
         return Selected::refused(10);
     }
     let behind = look_behind(&levels, &ends);
@@ -133,10 +120,10 @@ fn is_laid(levels: &[u32; 288], ends: &[usize; 32]) -> bool
     true
 }
 
-// The number of choices, counted up to `most`: where there are more, some number above it.
-fn count_choices(ends: &[usize; 32], most: u64) -> u64
-    requires { ⌜ (length (now ends) ≡ 32) × EndsRise 0 (now ends) 288 × (most ≤ 65536) ⌝ }
-    ensures { λ r. ⌜ CountedTo most (now (ends .entry)) r ⌝ }
+// The number of choices, counted against the limit: where there are more, some number above it.
+fn count_choices(ends: &[usize; 32], limit: u64) -> u64
+    requires { ⌜ (length (now ends) ≡ 32) × EndsRise 0 (now ends) 288 × (limit ≤ 65536) ⌝ }
+    ensures { λ r. ⌜ CountedTo limit (now (ends .entry)) r ⌝ }
 {
     let mut n: u64 = 1;
     let mut at: usize = 0;
@@ -144,7 +131,7 @@ fn count_choices(ends: &[usize; 32], most: u64) -> u64
     while i < 32 {
         let end = ends[i];
         n = n * ((end - at) as u64);
-        if most < n {
+        if limit < n {
             return n;
         }
         at = end;
@@ -228,7 +215,7 @@ fn with_more(found: Found, n: u64, total: u64, index: u64) -> Found
 }
 
 // Depth first through the choices of the rows that are left: row i from the place `at` on, and the rows behind it. The rows before row i
-// have the total acc, and the first of these choices is at the place index. Where the rows behind do not cover even at their highs, no
+// have the total `base`, and the first of these choices is at the place index. Where the rows behind do not cover even at their highs, no
 // choice with the level at the place does; where they cover at their lows, all do, and the lows are the best of them. Only between the two
 // are they gone into, never behind the last row, where both sums are 0.
 fn explore(
@@ -240,18 +227,18 @@ fn explore(
     i: usize,
     at: usize,
     demand: u64,
-    acc: u64,
+    base: u64,
     index: u64,
     found: Found,
 ) -> Found
-    requires { ⌜ Ready (now levels) (now ends) (now ways) (now lows) (now highs) i at acc index found ⌝ }
-    ensures { λ r. ⌜ r ≡ through demand acc index found (choices (left (now (levels .entry)) (now (ends .entry)) i at)) ⌝ }
+    requires { ⌜ Ready (now levels) (now ends) (now ways) (now lows) (now highs) i at base index found ⌝ }
+    ensures { λ r. ⌜ r ≡ through demand base index found (choices (left (now (levels .entry)) (now (ends .entry)) i at)) ⌝ }
 {
     let end = ends[i];
     if at == end {
         return found;
     }
-    let total = acc + levels[at] as u64;
+    let total = base + levels[at] as u64;
     let low = total + lows[i];
     let high = total + highs[i];
     let way = ways[i];
@@ -284,7 +271,7 @@ fn explore(
         i,
         at + 1,
         demand,
-        acc,
+        base,
         index + way,
         passed,
     )

@@ -1,10 +1,9 @@
 -- From what the parts of settling ensure to the ledger's settlement: each refusal in its order, and the accepted answer with its records.
-use Prim.Native.Nat.{ℕ, suc, min, _+_, _*_, _≤_, _<_}
+use Prim.Native.Nat.{ℕ, suc, min, _*_, _≤_, _<_}
 use mathlib.Core.Path.{_≡_, refl, sym, ap, _∙_, subst}
 use mathlib.Core.Bool.{Bool, true, false, cond}
 use mathlib.Core.List.{List, [], flatten}
 use native.Mathlib.Omega.{arith}
-use native.Mathlib.Numerals.{add-one}
 use lib.Dec.{eqb, leb}
 use lib.ListN.{length, replicate}
 use borrow.Author.Tests.{eq-eqb, ne-eqb, le-leb, lt-leb}
@@ -15,22 +14,24 @@ use Rattle.rules.specs.Clearing.{highest, high, low, covered, demandAt, closing
 use Rattle.rules.specs.Refusals.{isClosed}
 use Rattle.rules.specs.Rounds.{ledger}
 use Rattle.rules.specs.Award.{rows, admissible, coveringChoices, award}
-use Rattle.rules.specs.Settling.{recordsFrom, records, settlingNumber, Settlement, settlementAt, settlement}
+use Rattle.rules.specs.Settling.{recordsFrom, records, settlingNumber, settlementAt, settlement}
 use Rattle.sound.specs.Sound.{Sound, started}
-use Rattle.clearing.specs.ClosingPrice.{settings-facts, passed-in-range, closing-price}
+use Rattle.clearing.specs.ClosingPrice.{closed-started, settings-facts, passed-in-range, closing-price}
 use Rattle.reachable.specs.Reachable.{sound}
 use Rattle.awards.specs.AwardLaws.{some-cover}
-use Rattle.auction.specs.Holds.{phaseNumber, ofEach, auctionOf}
-use Rattle.auction.specs.Called.{demandBy}
+use Rattle.auction.specs.Holds.{phaseNumber, ofEach, auctionOf, Holding}
+use Rattle.auction.specs.Tests.{demandBy}
 use Rattle.auction.specs.Demands.{demand-is}
 use Rattle.auction.specs.declared.Auction.{Auction}
-use Rattle.price.specs.Prices.{Highests, Lows, ClosingPrice}
+use Rattle.price.specs.Prices.{Highests, Lows, ClosingPrice, nextPrice}
+use Rattle.price.specs.PriceLaws.{next-price}
 use Rattle.table.specs.Rows.{Lays}
 use Rattle.table.specs.declared.Table.{Table}
 use Rattle.open_levels.specs.Tabled.{Tabled}
 use Rattle.selection.specs.Selection.{selectedOf, Selects}
 use Rattle.selection.specs.declared.Selected.{Selected}
-use Rattle.awarding.specs.Awarding.{Winners, winnersFrom, awardCount, recordsOf, laid}
+use Rattle.awarding.specs.Awarding.{Winners, awardCount, recordsOf}
+use Rattle.numbers.specs.Tails.{laid}
 use Rattle.awarding.specs.AwardingLaws.{records-are, records-from-count}
 use Rattle.settling.specs.declared.Settled.{Settled}
 use Rattle.settling.specs.Settles.{Settles, refusedWith, settledAs}
@@ -41,17 +42,6 @@ closed-number Ready = refl
 closed-number Round = refl
 closed-number Between = refl
 closed-number Closed = refl
-
-closed-started : (p : Phase) → isClosed p ≡ true → started p ≡ true
-closed-started Fresh e = e
-closed-started Ready e = e
-closed-started Round e = refl
-closed-started Between e = refl
-closed-started Closed e = refl
-
--- of every sound ledger that the auction holds
-abbrev Holding : Auction → (Ledger → Type 0) → Type 0
-Holding a P = (l : Ledger) → Sound l → a ≡ auctionOf l → P l
 
 module _ (a : Auction) (limit : ℕ) (old : List ℕ) where
   closed-is : (l : Ledger) → a ≡ auctionOf l → isClosed (l .phase) ≡ eqb (a .phase) 4
@@ -79,11 +69,11 @@ pub record Computed (a : Auction) (limit p demand : ℕ) (lows highs : List ℕ)
   pub highests : Highests (a .declared) highest
   pub price : ClosingPrice a highest p
   pub lows-at : Lows (a .histories) highest p lows
-  pub above : p < 4294967295 → next ≡ p + 1
+  pub above : next ≡ nextPrice p
   pub highs-at : Lows (a .histories) highest next highs
   pub tabled : Tabled (a .projects) (a .declared) lows highs table
   pub demand-at : demand ≡ demandBy (a .settings) p
-  pub selects : Selects table demand limit s
+  pub selects : Selects table demand (min limit 65536) s
 
 -- what that is of the ledger
 pub record Known (l : Ledger) (limit p demand : ℕ) (lows highs : List ℕ) (s : Selected) : Type 0 where
@@ -92,7 +82,7 @@ pub record Known (l : Ledger) (limit p demand : ℕ) (lows highs : List ℕ) (s 
   pub lows-are : lows ≡ ofEach (low p) l
   pub highs-are : highs ≡ ofEach (high p) l
   pub demand-is : demand ≡ demandAt l p
-  pub selected : s ≡ selectedOf limit (demandAt l p) (rows l p)
+  pub selected : s ≡ selectedOf (min limit 65536) (demandAt l p) (rows l p)
 
 pub known : (a : Auction) (limit p demand : ℕ) (lows highs : List ℕ) (s : Selected) → Computed a limit p demand lows highs s → Holding a (λ l. Known l limit p demand lows highs s)
 unfolding auctionOf demandBy high low coveringChoices admissible
@@ -102,7 +92,7 @@ known a limit p demand lows highs s c l snd h = record {
   lows-are = lows-are;
   highs-are = highs-are;
   demand-is = demand-at;
-  selected = subst (λ (d : ℕ). s ≡ selectedOf limit d (rows l p)) demand-at (c .selects .right (rows l p) lays (subst (λ (d : ℕ). covering d (choices (rows l p)) ≡ [] → ⊥) (sym demand-at) some));
+  selected = subst (λ (d : ℕ). s ≡ selectedOf (min limit 65536) d (rows l p)) demand-at (c .selects .right (rows l p) lays (subst (λ (d : ℕ). covering d (choices (rows l p)) ≡ [] → ⊥) (sym demand-at) some));
 }
   where
     closed : isClosed (l .phase) ≡ true
@@ -127,7 +117,7 @@ known a limit p demand lows highs s c l snd h = record {
     lows-are = c .lows-at .right l snd (ap (λ (x : Auction). x .histories) h) firsts
 
     next-is : c .next ≡ suc p
-    next-is = c .above (let f = settings-facts l snd began in let z = f .bounds .ce-high in let y = f .high in omega (arith, least-high)) ∙ add-one p
+    next-is = c .above ∙ next-price p (let f = settings-facts l snd began in let z = f .bounds .ce-high in let y = f .high in omega (arith, least-high))
 
     highs-are : highs ≡ ofEach (high p) l
     highs-are = subst (λ (q : ℕ). highs ≡ ofEach (low q) l) next-is (c .highs-at .right l snd (ap (λ (x : Auction). x .histories) h) firsts)
@@ -156,7 +146,7 @@ abbrev overTen : Selected
 overTen = record { number = 10; choices = 0; covering = 0; total = 0; award = replicate 32 0 }
 
 -- refused: by 10, and the choices outnumber the limit
-over-limit : (limit d : ℕ) (rs : List (List ℕ)) (s : Selected) → s ≡ selectedOf limit d rs → (s .number ≡ 0 → ⊥) → (s .number ≡ 10) × (leb (length (choices rs)) (min limit 65536) ≡ false)
+over-limit : (limit d : ℕ) (rs : List (List ℕ)) (s : Selected) → s ≡ selectedOf (min limit 65536) d rs → (s .number ≡ 0 → ⊥) → (s .number ≡ 10) × (leb (length (choices rs)) (min limit 65536) ≡ false)
 unfolding selectedOf
 over-limit limit d rs s e z = go (leb (length (choices rs)) (min limit 65536)) refl e
   where
@@ -164,7 +154,7 @@ over-limit limit d rs s e z = go (leb (length (choices rs)) (min limit 65536)) r
     go true f e = absurd (z (ap (λ (x : Selected). x .number) e))
     go false f e = (ap (λ (x : Selected). x .number) e, refl)
 
-within-limit : (limit d : ℕ) (rs : List (List ℕ)) (s : Selected) → s ≡ selectedOf limit d rs → s .number ≡ 0 → (s ≡ chosen d rs) × (leb (length (choices rs)) (min limit 65536) ≡ true)
+within-limit : (limit d : ℕ) (rs : List (List ℕ)) (s : Selected) → s ≡ selectedOf (min limit 65536) d rs → s .number ≡ 0 → (s ≡ chosen d rs) × (leb (length (choices rs)) (min limit 65536) ≡ true)
 unfolding selectedOf
 within-limit limit d rs s e z = go (leb (length (choices rs)) (min limit 65536)) refl e
   where

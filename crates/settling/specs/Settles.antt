@@ -3,12 +3,12 @@ use Prim.Native.Nat.{ℕ}
 use mathlib.Core.Path.{_≡_}
 use mathlib.Core.List.{List, flatten}
 use lib.ListN.{length}
-use Rattle.rules.specs.Ledger.{Call, Ledger}
+use Rattle.rules.specs.Ledger.{Call}
 use Rattle.rules.specs.Rounds.{ledger}
 use Rattle.rules.specs.Settling.{Settlement, settlement, settlingNumber}
 use Rattle.auction.specs.Holds.{auctionOf}
 use Rattle.auction.specs.declared.Auction.{Auction}
-use Rattle.awarding.specs.Awarding.{laid}
+use Rattle.numbers.specs.Tails.{laid}
 use Rattle.settling.specs.declared.Settled.{Settled}
 
 -- a refusal: its number, every other number 0

@@ -29,6 +29,7 @@ fn refused(number: u8) -> Settled
     }
 }
 
+// Checks: 2, 10, 11.
 pub fn settle(auction: Auction, limit: u32, awards: &mut [u8]) -> Settled
     ensures { λ r. ⌜ Settles auction limit (now (awards .entry)) (now (awards .exit)) r ⌝ }
 {
@@ -44,7 +45,8 @@ pub fn settle(auction: Auction, limit: u32, awards: &mut [u8]) -> Settled
     let highs = price::lows_at(histories, highest, price::above(p));
     let table = open_levels::table_of(projects, declared, lows, highs);
     let demand = auction.demand_at(p);
-    let selected = selection::select(table, demand, limit as u64);
+    let capped = Auction::capped_limit(limit);
+    let selected = selection::select(table, demand, capped);
     if selected.number != 0 {
         return refused(selected.number);
     }

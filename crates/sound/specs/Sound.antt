@@ -63,11 +63,15 @@ unfoldable pub SoundOffer : Ledger → Developer → Standing → Type 0
 SoundOffer l x none = Unit {0}
 SoundOffer l x (made ss) = SoundSteps l x ss
 
-pub record Registered (l : Ledger) (n : ℕ) : Type 0 where
+-- x may stand in the ledger under the number n
+pub record Stands (l : Ledger) (n : ℕ) (x : Developer) : Type 0 where
   pub number-low : 1 ≤ n
   pub number-high : n ≤ 32
-  pub developer : SoundDeveloper (appliedTo (l .phase) l) (l .settings .a) (l .developers n)
-  pub offer : SoundOffer l (l .developers n) (l .developers n .offer)
+  pub developer : SoundDeveloper (appliedTo (l .phase) l) (l .settings .a) x
+  pub offer : SoundOffer l x (x .offer)
+
+abbrev pub Registered : Ledger → ℕ → Type 0
+Registered l n = Stands l n (l .developers n)
 
 -- floor <= C < opening price <= A
 pub record RoundPrices (l : Ledger) : Type 0 where

@@ -1,7 +1,7 @@
 -- The greatest of each project, developer by developer: one developer more raises its project's greatest, and no other.
 use Prim.Native.Nat.{ℕ, zero, suc, _+_, _-_, max, _≤_, _<_}
 use mathlib.Core.Path.{_≡_, refl, sym, ap, _∙_}
-use mathlib.Core.Bool.{Bool, true, false, cond, _&&_, and-false}
+use mathlib.Core.Bool.{Bool, true, false, cond}
 use mathlib.Core.List.{List, [], _∷_, _++_, map}
 use native.Mathlib.Omega.{arith}
 use native.Mathlib.Numerals.{add-one}
@@ -9,33 +9,29 @@ use native.Mathlib.Decide.{ℕ-discrete as decEq}
 use lib.Dec.{eqb, leb}
 use lib.ListN.{length, getD, set, take, replicate, length-map, length-set}
 use lib.Seq.{ext-getD, getD-set-same, getD-set-other, set-getD, take-suc, take-all, length-take-le}
-use borrow.Author.Tests.{leb-true, le-leb, lt-leb, eq-eqb, ne-eqb}
+use borrow.Author.Tests.{leb-true, le-leb, eq-eqb, ne-eqb}
 use Rattle.numbers.specs.Cases.{and-true}
 use Rattle.numbers.specs.Lists.{oneTo, greatest}
 use Rattle.numbers.specs.ListLaws.{greatest-append, map-same, length-one-to, one-to-nth}
-use Rattle.supply.specs.ByProject.{ofProject, greatestByProject, raisedAt}
+use Rattle.supply.specs.ByProject.{ofProject, greatestByProject, isProject, placeOf, countedOf}
 
--- ---- a place raised, by the tests of the code
+-- ---- the place and what counts there, by the tests of the code
 
-module _ (best : List ℕ) (k q : ℕ) where
-  pub raised-below : k < 1 → best ≡ raisedAt best k q
-  unfolding raisedAt
-  raised-below h = simp (lt-leb 1 k h)
+module _ (k : ℕ) where
+  pub project : isProject k ≡ true → (1 ≤ k) × (k ≤ 32)
+  project e = let t = and-true (leb 1 k) (leb k 32) e in (leb-true 1 k (t .0), leb-true k 32 (t .1))
 
-  pub raised-above : 32 < k → best ≡ raisedAt best k q
-  unfolding raisedAt
-  raised-above h = simp (lt-leb k 32 h, and-false)
+  pub placed : (b : Bool) → isProject k ≡ b → placeOf k ≡ cond b (k - 1) 0
+  unfolding placeOf
+  placed b e = rw e
 
-  module _ (low : 1 ≤ k) (top : k ≤ 32) where
-    raised-inside : raisedAt best k q ≡ set best (k - 1) (max (getD best (k - 1) 0) q)
-    unfolding raisedAt
-    raised-inside = simp (le-leb 1 k low, le-leb k 32 top)
+  pub counts : (q : ℕ) (b : Bool) → isProject k ≡ b → countedOf k q ≡ cond b q 0
+  unfolding countedOf
+  counts q b e = rw e
 
-    pub raised-taken : getD best (k - 1) 0 < q → set best (k - 1) q ≡ raisedAt best k q
-    raised-taken h = ap (set best (k - 1)) (omega arith) ∙ sym raised-inside
-
-    pub raised-kept : q ≤ getD best (k - 1) 0 → best ≡ raisedAt best k q
-    raised-kept h = sym (set-getD best (k - 1) 0) ∙ ap (set best (k - 1)) (omega arith) ∙ sym raised-inside
+-- the number at project k's place raised to q
+abbrev raisedAt : List ℕ → ℕ → ℕ → List ℕ
+raisedAt best k q = set best (placeOf k) (max (getD best (placeOf k) 0) (countedOf k q))
 
 -- ---- one developer more
 
@@ -79,29 +75,28 @@ module _ (f : ℕ → ℕ) where
 
 -- a place of a raised row
 raised-at : (xs : List ℕ) (p q i : ℕ) → length xs ≡ 32 → i < 32 → getD (raisedAt xs p q) i 0 ≡ max (getD xs i 0) (cond (eqb p (suc i)) q 0)
-unfolding raisedAt
 raised-at xs p q i l h = go (decEq p (suc i))
   where
     v : ℕ
     v = max (getD xs (p - 1) 0) q
 
-    other : (p ≡ suc i → ⊥) → (b : Bool) → leb 1 p && leb p 32 ≡ b → getD (cond b (set xs (p - 1) v) xs) i 0 ≡ getD xs i 0
-    other n true e = let w = leb-true 1 p (and-true (leb 1 p) (leb p 32) e .0) in getD-set-other xs (p - 1) i v 0 (λ d. n (omega arith))
-    other n false e = refl
+    other : (p ≡ suc i → ⊥) → (b : Bool) → isProject p ≡ b → getD (raisedAt xs p q) i 0 ≡ getD xs i 0
+    other n true e =
+        let w = project p e .0 in
+        rw (placed p true e, counts p q true e) (getD-set-other xs (p - 1) i v 0 (λ d. n (omega arith)))
+    other n false e =
+        let same : set xs 0 (max (getD xs 0 0) 0) ≡ xs = ap (set xs 0) (omega arith) ∙ set-getD xs 0 0 in
+        rw (placed p false e, counts p q false e, same)
 
     go : Dec (p ≡ suc i) → getD (raisedAt xs p q) i 0 ≡ max (getD xs i 0) (cond (eqb p (suc i)) q 0)
     go (yes e) =
+        let t : isProject p ≡ true = rw (le-leb 1 p (omega arith), le-leb p 32 (omega arith)) in
         let f : p - 1 ≡ i = omega arith in
-        rw (raised-inside xs p q (omega arith) (omega arith), f, eq-eqb p (suc i) e) (getD-set-same xs i (max (getD xs i 0) q) 0 (omega arith))
-    go (no n) = rw (ne-eqb p (suc i) n) (other n (leb 1 p && leb p 32) refl ∙ omega arith)
+        rw (placed p true t, counts p q true t, f, eq-eqb p (suc i) e) (getD-set-same xs i (max (getD xs i 0) q) 0 (omega arith))
+    go (no n) = rw (ne-eqb p (suc i) n) (other n (isProject p) refl ∙ omega arith)
 
 length-raised : (xs : List ℕ) (p q : ℕ) → length (raisedAt xs p q) ≡ length xs
-unfolding raisedAt
-length-raised xs p q = go (leb 1 p && leb p 32)
-  where
-    go : (b : Bool) → length (cond b (set xs (p - 1) (max (getD xs (p - 1) 0) q)) xs) ≡ length xs
-    go true = length-set xs (p - 1) (max (getD xs (p - 1) 0) q)
-    go false = refl
+length-raised xs p q = length-set xs (placeOf p) (max (getD xs (placeOf p) 0) (countedOf p q))
 
 raised-row : (f : ℕ → ℕ) (p q : ℕ) → map (λ k. max (f k) (cond (eqb p k) q 0)) (oneTo 32) ≡ raisedAt (row f) p q
 raised-row f p q =
@@ -127,8 +122,10 @@ unfolding greatestByProject ofProject greatest oneTo
 raising-first ps qs p q = record { projects = p; quantities = q; within = omega arith; part = refl }
 
 module _ (ps qs best : List ℕ) (i : ℕ) (r : Raising ps qs best i) where
-  pub raising-again : (next : List ℕ) → i < 32 → next ≡ raisedAt best (getD ps i 0) (getD qs i 0) → Raising ps qs next (i + 1)
-  raising-again next h e =
+  pub raising-again : (at q v : ℕ) → i < 32 → at ≡ placeOf (getD ps i 0) → q ≡ countedOf (getD ps i 0) (getD qs i 0) → v ≡ max (getD best at 0) q
+      → Raising ps qs (set best at v) (i + 1)
+  raising-again at q v h ea eq ev =
+      let e : set best at v ≡ raisedAt best (getD ps i 0) (getD qs i 0) = rw (ev, eq, ea) in
       let t : length (take i ps) ≡ length (take i qs) = length-take-le i ps (omega arith) ∙ sym (length-take-le i qs (omega arith)) in
       record {
         projects = r .projects;

@@ -1,4 +1,3 @@
-mod Words
 mod Joining
 mod Greatest
 mod Summing

@@ -1,9 +1,8 @@
 -- The developers' projects and numbers as the engine holds them, in lists of 32; what is taken project by project.
-use Prim.Native.Nat.{ℕ, max, _-_}
+use Prim.Native.Nat.{ℕ, _-_}
 use mathlib.Core.Bool.{Bool, cond, _&&_}
 use mathlib.Core.List.{List, [], _∷_, map}
 use lib.Dec.{eqb, leb}
-use lib.ListN.{set, getD}
 use Rattle.numbers.specs.Lists.{oneTo, total, greatest, all}
 
 -- of the numbers xs, those at the places where ps has k
@@ -16,9 +15,15 @@ ofProject k (p ∷ ps) (x ∷ xs) = cond (eqb p k) (x ∷ ofProject k ps xs) (of
 unfoldable pub greatestByProject : List ℕ → List ℕ → List ℕ
 greatestByProject ps qs = map (λ k. greatest (ofProject k ps qs)) (oneTo 32)
 
--- the number at project k's place raised to q
-unfoldable pub raisedAt : List ℕ → ℕ → ℕ → List ℕ
-raisedAt best k q = cond (leb 1 k && leb k 32) (set best (k - 1) (max (getD best (k - 1) 0) q)) best
+abbrev pub isProject : ℕ → Bool
+isProject k = leb 1 k && leb k 32
+
+-- the place of project k, and what its developer's quantity counts for; of a number that is no project's, the first place and 0
+unfoldable pub placeOf : ℕ → ℕ
+placeOf k = cond (isProject k) (k - 1) 0
+
+unfoldable pub countedOf : ℕ → ℕ → ℕ
+countedOf k q = cond (isProject k) q 0
 
 -- the sum over the projects 1 to 32 of the greatest quantity among each one's developers
 unfoldable pub supplyOf : List ℕ → List ℕ → ℕ

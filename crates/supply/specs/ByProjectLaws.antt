@@ -7,7 +7,7 @@ use lib.Dec.{eqb}
 use Rattle.numbers.specs.Lists.{oneTo, keep, total, greatest, all}
 use Rattle.numbers.specs.ListLaws.{map-same}
 use Rattle.rules.specs.Ledger.{Developer, Ledger}
-use Rattle.rules.specs.Clearing.{developersOf, greatestOf, supply as supplyBy}
+use Rattle.rules.specs.Clearing.{ofEach, developersOf, greatestOf, supply as supplyBy}
 use Rattle.rules.specs.Refusals.{mayJoin}
 use Rattle.supply.specs.ByProject.{ofProject, greatestByProject, supplyOf, joins}
 
@@ -29,7 +29,7 @@ of-project-map {A} k f g (x ∷ xs) = go (eqb (f x) k) (of-project-map k f g xs)
 
 pub supply-of :
     (f : Developer → ℕ) (l : Ledger) →
-    supplyOf (map (λ n. l .developers n .declared .project) (oneTo 32)) (map (λ n. f (l .developers n)) (oneTo 32)) ≡ supplyBy f l
+    supplyOf (ofEach (λ x. x .declared .project) l) (ofEach f l) ≡ supplyBy f l
 unfolding supplyOf greatestByProject supplyBy greatestOf developersOf
 supply-of f l = ap total (map-same _ _ (oneTo 32) (λ k m. ap greatest (of-project-map k _ _ (oneTo 32))))
 
@@ -40,6 +40,6 @@ all-map t f (x ∷ xs) = ap (λ (b : Bool). t (f x) && b) (all-map t f xs)
 
 pub joins-of :
     (l : Ledger) (k kind : ℕ) →
-    joins (map (λ n. l .developers n .declared .project) (oneTo 32)) (map (λ n. l .developers n .declared .kind) (oneTo 32)) k kind ≡ mayJoin l k kind
+    joins (ofEach (λ x. x .declared .project) l) (ofEach (λ x. x .declared .kind) l) k kind ≡ mayJoin l k kind
 unfolding joins mayJoin developersOf
 joins-of l k kind = ap (all (λ x. eqb kind 2 && eqb x 2)) (of-project-map k _ _ (oneTo 32)) ∙ all-map _ _ (keep _ (oneTo 32))

@@ -1,2 +1,3 @@
 pub mod ByProject
 pub mod ByProjectLaws
+pub mod Words

@@ -1,7 +1,12 @@
 // Supply over the developers' projects and quantities, and who may join a project.
 ghost use mathlib.Core.Path.{_≡_};
-ghost use Prim.Native.Nat.{_*_, _≤_, _^_};
-ghost use Rattle.supply.specs.ByProject.{greatestByProject, raisedAt, supplyOf, joins};
+ghost use Prim.Native.Nat.{max, _*_, _≤_, _<_, _^_};
+ghost use Rattle.supply.specs.ByProject.{greatestByProject, isProject, placeOf, countedOf, supplyOf, joins};
+
+// The kinds of plant: existing, new (document 01, Registration).
+pub const EXISTING: u8 = 1;
+
+pub const NEW: u8 = 2;
 
 // Whether a developer of this kind may join the project: all of its developers are of kind 2, and so is this one.
 pub fn may_join(projects: [u8; 32], kinds: [u8; 32], project: u8, kind: u8) -> bool
@@ -10,10 +15,10 @@ pub fn may_join(projects: [u8; 32], kinds: [u8; 32], project: u8, kind: u8) -> b
     let mut i: usize = 0;
     while i < 32 {
         if projects[i] == project {
-            if kind != 2 {
+            if kind != NEW {
                 return false;
             }
-            if kinds[i] != 2 {
+            if kinds[i] != NEW {
                 return false;
             }
         }
@@ -29,30 +34,52 @@ pub fn greatest_by_project(projects: [u8; 32], quantities: [u32; 32]) -> [u32; 3
     let mut best = [0u32; 32];
     let mut i: usize = 0;
     while i < 32 {
-        let k = projects[i] as usize;
-        let q = quantities[i];
-        let next = raised(best, k, q);
-        best = next;
+        let k = projects[i];
+        let at = place(k);
+        let q = counted(k, quantities[i]);
+        best[at] = greater(best[at], q);
         i += 1;
     }
     best
 }
 
-// The greatest of project k raised to q, if k is a project's number.
-fn raised(best: [u32; 32], k: usize, q: u32) -> [u32; 32]
-    ensures { λ r. ⌜ r ≡ raisedAt best k q ⌝ }
+// Projects have the numbers 1 to 32 (document 01, Registration).
+fn is_project(k: u8) -> bool
+    ensures { λ r. ⌜ r ≡ isProject k ⌝ }
 {
-    let mut next = best;
     if k < 1 {
-        return next;
+        return false;
     }
-    if 32 < k {
-        return next;
+    k <= 32
+}
+
+// The place of project k; the first place for a number that is none.
+fn place(k: u8) -> usize
+    ensures { λ r. ⌜ (r ≡ placeOf k) × (r < 32) ⌝ }
+{
+    if !is_project(k) {
+        return 0;
     }
-    if next[k - 1] < q {
-        next[k - 1] = q;
+    (k - 1) as usize
+}
+
+// The quantity of a developer of project k; 0 where k is no project's number.
+fn counted(k: u8, q: u32) -> u32
+    ensures { λ r. ⌜ r ≡ countedOf k q ⌝ }
+{
+    if !is_project(k) {
+        return 0;
     }
-    next
+    q
+}
+
+fn greater(x: u32, y: u32) -> u32
+    ensures { λ r. ⌜ r ≡ max x y ⌝ }
+{
+    if x < y {
+        return y;
+    }
+    x
 }
 
 // Supply: the sum over the projects of the greatest quantity among each one's developers.

@@ -10,8 +10,8 @@ use denote.Ref.{now}
 use borrow.Fn.World.{ArgsD}
 use Rattle.rules.specs.Ledger.{Call, Open, Offer, Close}
 use Rattle.rules.specs.Refusals.{number}
-use Rattle.rules.specs.Rounds.{ledger, excess, Reply, reply, repliesFrom, replies}
-use Rattle.reachable.specs.Steps.{replies-snoc}
+use Rattle.rules.specs.Rounds.{ledger, excess, Answered, answer, answersFrom, answers}
+use Rattle.reachable.specs.Steps.{answers-snoc}
 use Rattle.auction.specs.Holds.{auctionOf}
 use Rattle.auction.specs.Called.{Called, setsUp, registers}
 use Rattle.auction.specs.declared.Auction.{Auction}
@@ -39,55 +39,55 @@ use Rattle.auction.proofs.Auction.offer.Met as offer-met
 use Rattle.auction.proofs.Auction.close.Met as close-met
 
 -- a call that answers with a number alone
-abbrev answered : Answer → Reply
-answered r = record { number = r .number; excess = pos 0 }
+abbrev numberAlone : Answer → Answered
+numberAlone r = record { number = r .number; excess = pos 0 }
 
 -- `Run cs rs a`: the calls cs, one after the other from a fresh auction, are answered rs and lead to a
-pub data Run : List Call → List Reply → Auction → Type 0 where
+pub data Run : List Call → List Answered → Auction → Type 0 where
   fresh : {a : Auction} → new.Post tt tt a tt → Run [] [] a
   sets-up :
-      {cs : List Call} {rs : List Reply} {a : Auction} (ce d m1 m2 a₀ : ℕ) (r : Answer) → Run cs rs a →
+      {cs : List Call} {rs : List Answered} {a : Auction} (ce d m1 m2 a₀ : ℕ) (r : Answer) → Run cs rs a →
       set-up.Post tt (a, (ce, (d, (m1, (m2, (a₀, tt)))))) r (a, (ce, (d, (m1, (m2, (a₀, tt)))))) →
-      Run (cs ++ (setsUp ce d m1 m2 a₀ ∷ [])) (rs ++ (answered r ∷ [])) (r .auction)
+      Run (cs ++ (setsUp ce d m1 m2 a₀ ∷ [])) (rs ++ (numberAlone r ∷ [])) (r .auction)
   -- the arguments x: the auction, project, developer, kind, study value, start day, levels
   registers-one :
-      {cs : List Call} {rs : List Reply} (κs : Lfts 1) (x : ArgsD register-signature κs) (r : Answer) → Run cs rs (x .0) →
+      {cs : List Call} {rs : List Answered} (κs : Lfts 1) (x : ArgsD register-signature κs) (r : Answer) → Run cs rs (x .0) →
       registration.Post κs x r x →
-      Run (cs ++ (registers (x .1 .0) (x .1 .1 .0) (x .1 .1 .1 .0) (x .1 .1 .1 .1 .0) (x .1 .1 .1 .1 .1 .0) (now (x .1 .1 .1 .1 .1 .1 .0)) ∷ [])) (rs ++ (answered r ∷ [])) (r .auction)
+      Run (cs ++ (registers (x .1 .0) (x .1 .1 .0) (x .1 .1 .1 .0) (x .1 .1 .1 .1 .0) (x .1 .1 .1 .1 .1 .0) (now (x .1 .1 .1 .1 .1 .1 .0)) ∷ [])) (rs ++ (numberAlone r ∷ [])) (r .auction)
   opens :
-      {cs : List Call} {rs : List Reply} {a : Auction} (c : ℕ) (r : Answer) → Run cs rs a →
+      {cs : List Call} {rs : List Answered} {a : Auction} (c : ℕ) (r : Answer) → Run cs rs a →
       opening.Post tt (a, (c, tt)) r (a, (c, tt)) →
-      Run (cs ++ (Open c ∷ [])) (rs ++ (answered r ∷ [])) (r .auction)
+      Run (cs ++ (Open c ∷ [])) (rs ++ (numberAlone r ∷ [])) (r .auction)
   -- the arguments x: the auction, developer, prices, levels
   offers :
-      {cs : List Call} {rs : List Reply} (κs : Lfts 2) (x : ArgsD offer-signature κs) (r : Answer) → Run cs rs (x .0) →
+      {cs : List Call} {rs : List Answered} (κs : Lfts 2) (x : ArgsD offer-signature κs) (r : Answer) → Run cs rs (x .0) →
       offering.Post κs x r x →
-      Run (cs ++ (Offer (x .1 .0) (now (x .1 .1 .0)) (now (x .1 .1 .1 .0)) ∷ [])) (rs ++ (answered r ∷ [])) (r .auction)
+      Run (cs ++ (Offer (x .1 .0) (now (x .1 .1 .0)) (now (x .1 .1 .1 .0)) ∷ [])) (rs ++ (numberAlone r ∷ [])) (r .auction)
   closes :
-      {cs : List Call} {rs : List Reply} {a : Auction} (r : Closing) → Run cs rs a →
+      {cs : List Call} {rs : List Answered} {a : Auction} (r : Closing) → Run cs rs a →
       closing.Post tt (a, tt) r (a, tt) →
       Run (cs ++ (Close ∷ [])) (rs ++ (record { number = r .number; excess = r .excess } ∷ [])) (r .auction)
 
 -- one call more, by its contract
-pub record Next (cs : List Call) (rs : List Reply) (c : Call) (b : Auction) (n : ℕ) (e : ℤ) : Type 0 where
+pub record Next (cs : List Call) (rs : List Answered) (c : Call) (b : Auction) (n : ℕ) (e : ℤ) : Type 0 where
   pub held : b ≡ auctionOf (ledger (cs ++ (c ∷ [])))
-  pub replied : rs ++ (record { number = n; excess = e } ∷ []) ≡ replies (cs ++ (c ∷ []))
+  pub answered : rs ++ (record { number = n; excess = e } ∷ []) ≡ answers (cs ++ (c ∷ []))
 
-next : {cs : List Call} {rs : List Reply} {c : Call} {a b : Auction} {n : ℕ} {e : ℤ} → a ≡ auctionOf (ledger cs) → rs ≡ replies cs → Called c a b n e → Next cs rs c b n e
-unfolding reply
+next : {cs : List Call} {rs : List Answered} {c : Call} {a b : Auction} {n : ℕ} {e : ℤ} → a ≡ auctionOf (ledger cs) → rs ≡ answers cs → Called c a b n e → Next cs rs c b n e
+unfolding answer
 next {cs} {rs} {c} {a} {b} {n} {e} h g s =
     let f : n ≡ number (ledger cs) c = s .number cs h in
     let k : e ≡ excess (ledger cs) c = s .excess cs h in
-    record { held = s .next cs h; replied = cc (replies-snoc cs c) }
+    record { held = s .next cs h; answered = cc (answers-snoc cs c) }
 
-pub reached : {cs : List Call} {rs : List Reply} {a : Auction} → Run cs rs a → (a ≡ auctionOf (ledger cs)) × (rs ≡ replies cs)
-unfolding replies repliesFrom
+pub reached : {cs : List Call} {rs : List Answered} {a : Auction} → Run cs rs a → (a ≡ auctionOf (ledger cs)) × (rs ≡ answers cs)
+unfolding answers answersFrom
 reached (fresh f) = (f, refl)
-reached (sets-up {cs = cs} ce d m1 m2 a₀ r w s) = let f = reached w in let k = next (f .0) (f .1) s in (k .held, k .replied)
-reached (registers-one {cs = cs} κs x r w s) = let f = reached w in let k = next (f .0) (f .1) s in (k .held, k .replied)
-reached (opens {cs = cs} c r w s) = let f = reached w in let k = next (f .0) (f .1) s in (k .held, k .replied)
-reached (offers {cs = cs} κs x r w s) = let f = reached w in let k = next (f .0) (f .1) s in (k .held, k .replied)
-reached (closes {cs = cs} r w s) = let f = reached w in let k = next (f .0) (f .1) s in (k .held, k .replied)
+reached (sets-up {cs = cs} ce d m1 m2 a₀ r w s) = let f = reached w in let k = next (f .0) (f .1) s in (k .held, k .answered)
+reached (registers-one {cs = cs} κs x r w s) = let f = reached w in let k = next (f .0) (f .1) s in (k .held, k .answered)
+reached (opens {cs = cs} c r w s) = let f = reached w in let k = next (f .0) (f .1) s in (k .held, k .answered)
+reached (offers {cs = cs} κs x r w s) = let f = reached w in let k = next (f .0) (f .1) s in (k .held, k .answered)
+reached (closes {cs = cs} r w s) = let f = reached w in let k = next (f .0) (f .1) s in (k .held, k .answered)
 
 -- THE THEOREM: each method meets its contract, in every model, and by the contracts alone the auction that a list of calls reaches holds
 -- the ledger of the list, and the answers along the way are the ledger's
@@ -98,8 +98,8 @@ pub record EveryList (M : Type 1) : Type 2 where
   pub open-meets : open-states.statement M
   pub offer-meets : offer-states.statement M
   pub close-meets : close-states.statement M
-  pub held : {cs : List Call} {rs : List Reply} {a : Auction} → Run cs rs a → a ≡ auctionOf (ledger cs)
-  pub replied : {cs : List Call} {rs : List Reply} {a : Auction} → Run cs rs a → rs ≡ replies cs
+  pub held : {cs : List Call} {rs : List Answered} {a : Auction} → Run cs rs a → a ≡ auctionOf (ledger cs)
+  pub answered : {cs : List Call} {rs : List Answered} {a : Auction} → Run cs rs a → rs ≡ answers cs
 
 pub every-list : {M : Type 1} → EveryList M
 every-list = record {
@@ -110,5 +110,5 @@ every-list = record {
   offer-meets = offer-met.met;
   close-meets = close-met.met;
   held = λ w. reached w .0;
-  replied = λ w. reached w .1;
+  answered = λ w. reached w .1;
 }

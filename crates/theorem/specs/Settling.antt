@@ -2,17 +2,14 @@
 -- refused ones included, each call getting the auction that the last one returned (`Run`, in EveryList). Whatever the limit and the lent
 -- buffer, settling the auction that the list reaches is as `Stated` says of the ledger of the list. The engine's calls are tied in
 -- through their contracts, which each of them meets.
-use mathlib.Core.Path.{_≡_}
 use mathlib.Core.List.{List}
-use Prim.Native.Nat.{ℕ}
 use contract.Lifetimes.{Lfts}
 use denote.Ref.{now}
 use denote.Triple.Clauses.{AtExit}
 use borrow.Fn.World.{ArgsD}
 use borrow.Fn.Kinds.{endedOf}
 use Rattle.rules.specs.Ledger.{Call}
-use Rattle.rules.specs.Rounds.{ledger, Reply}
-use Rattle.auction.specs.declared.Auction.{Auction}
+use Rattle.rules.specs.Rounds.{ledger, Answered}
 use Rattle.settling.specs.declared.Settled.{Settled}
 use Rattle.settling.proofs.settle.{signature}
 use Rattle.settling.proofs.settle.Kinds as kinds
@@ -28,7 +25,7 @@ pub record Settling (M : Type 1) : Type 2 where
   pub calls : EveryList M
   pub settle-meets : settle-states.statement M
   pub statement :
-      {cs : List Call} {rs : List Reply} (κs : Lfts 1) (x : ArgsD signature κs) (r : Settled) (y : AtExit (endedOf 1 kinds.ps kinds.r) κs) →
+      {cs : List Call} {rs : List Answered} (κs : Lfts 1) (x : ArgsD signature κs) (r : Settled) (y : AtExit (endedOf 1 kinds.ps kinds.r) κs) →
       Run cs rs (x .0) → settle.Post κs x r y →
       Stated (ledger cs) (x .1 .0) (now (x .1 .1 .0)) (now (y .1 .1 .0)) r
 

@@ -1,7 +1,6 @@
 -- What settling's contract says is what is stated of it.
-use Prim.Native.Nat.{ℕ, min, _-_, _*_, _≤_, _<_}
-use mathlib.Core.Path.{_≡_, refl, sym, ap, _∙_, subst}
-use mathlib.Core.Logic.{_↔_}
+use Prim.Native.Nat.{ℕ, min, _*_}
+use mathlib.Core.Path.{_≡_, refl, sym, _∙_, subst}
 use mathlib.Core.Bool.{Bool, true, false}
 use mathlib.Core.List.{List, [], _∷_, flatten}
 use native.Mathlib.Omega.{arith}
@@ -9,31 +8,24 @@ use lib.Dec.{leb}
 use lib.ListN.{length}
 use borrow.Author.Tests.{le-leb, leb-true}
 use Rattle.numbers.specs.Cases.{clash, not-true}
-use Rattle.numbers.specs.Least.{Least}
-use Rattle.rules.specs.Ledger.{Call, Phase, Fresh, Ready, Round, Between, Closed, Ledger}
+use Rattle.rules.specs.Ledger.{Call, Ledger}
 use Rattle.rules.specs.Clearing.{covered, closingPrice}
 use Rattle.rules.specs.Refusals.{isClosed}
 use Rattle.rules.specs.Rounds.{ledger}
 use Rattle.rules.specs.Award.{admissible}
-use Rattle.rules.specs.Settling.{records, settlingNumber, Settlement, settlementAt, settlement}
+use Rattle.rules.specs.Settling.{records, settlingNumber, settlementAt, settlement}
 use Rattle.sound.specs.Sound.{Sound, started}
 use Rattle.reachable.specs.Reachable.{sound}
-use Rattle.clearing.specs.ClosingPrice.{closing-price}
+use Rattle.clearing.specs.ClosingPrice.{closed-started, closing-price}
 use Rattle.awards.specs.AwardLaws.{award-at-closing}
 use Rattle.awards.specs.Winners.{winner-open, winner-preferred, awarded-open}
 use Rattle.auction.specs.Holds.{auctionOf}
 use Rattle.auction.specs.declared.Auction.{Auction}
-use Rattle.awarding.specs.Awarding.{laid}
+use Rattle.numbers.specs.Tails.{laid}
 use Rattle.settling.specs.Settles.{Settles, settledAs}
 use Rattle.settling.specs.declared.Settled.{Settled}
-use Rattle.theorem.specs.Stated.{Goes, InSomeOrder, none, same, Written, Accepted, Within, Fit, Stated}
-
-closed-started : (p : Phase) → isClosed p ≡ true → started p ≡ true
-closed-started Fresh e = e
-closed-started Ready e = e
-closed-started Round e = refl
-closed-started Between e = refl
-closed-started Closed e = refl
+use Rattle.theorem.specs.AwardRecords.{InSomeOrder, none, same}
+use Rattle.theorem.specs.Stated.{Accepted, Within, Fit, Stated}
 
 as-it-is : {A : Type 0} (xs : List A) → InSomeOrder xs xs
 as-it-is [] = none

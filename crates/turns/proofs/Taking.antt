@@ -1,29 +1,25 @@
 -- From a call's contract to the turn's: its reply's text is the ledger's, and the next auction holds the next ledger.
-use Prim.Native.Nat.{ℕ, suc, min, _*_, _≤_}
+use Prim.Native.Nat.{ℕ}
 use mathlib.Core.Path.{_≡_, refl, sym, ap, ap₂, _∙_}
-use mathlib.Core.Bool.{Bool, true, false, cond}
-use mathlib.Core.Logic.{⊎-elim}
-use mathlib.Core.List.{List, [], _∷_, flatten, append-nil, List·Memᴰ, List·Memᴰ·cases-cons, List·Memᴰ·not-nil}
+use mathlib.Core.Bool.{Bool, true, false}
+use mathlib.Core.List.{List, [], flatten, append-nil}
 use mathlib.Core.Option.{none}
 use native.Mathlib.Omega.{arith}
-use lib.Dec.{eqb, leb}
+use lib.Dec.{eqb}
 use lib.IntN.{ℤ, pos}
 use lib.ListN.{length, drop, getD}
-use borrow.Author.Tests.{ne-eqb, eqb-true, eqb-false, leb-true}
-use Rattle.numbers.specs.ListLaws.{Each}
+use borrow.Author.Tests.{ne-eqb, eqb-true, eqb-false}
 use Rattle.format.specs.Hex.{digits}
 use Rattle.rules.specs.Ledger.{Settings, Declaration, Call, SetUp, Register, Open, Offer, Close, Ledger}
-use Rattle.rules.specs.Clearing.{closingPrice}
-use Rattle.rules.specs.Refusals.{check, isClosed}
 use Rattle.rules.specs.Rounds.{ledger}
-use Rattle.rules.specs.Award.{admissible, award, winner}
-use Rattle.rules.specs.Settling.{recordOf, recordsFrom, records, settlingNumber, settlementAt, settlement}
+use Rattle.rules.specs.Settling.{records, settlingNumber, settlementAt, settlement}
 use Rattle.replies.specs.Orders.{Malformed, Asks, Settle, firsts, seconds, setUpOf, registrationOf, offerOf, orderOf, ordered}
+use Rattle.replies.specs.Lengths.{six, few}
 use Rattle.replies.specs.Replies.{kindOf, extra, twosComplement, settledDigits, answerLine, replyTo}
 use Rattle.auction.specs.Called.{Called, setsUp, registers}
 use Rattle.auction.specs.Holds.{auctionOf}
 use Rattle.auction.specs.declared.Auction.{Auction}
-use Rattle.awarding.specs.Awarding.{laid}
+use Rattle.numbers.specs.Tails.{laid}
 use Rattle.settling.specs.Settles.{Settles, settledAs}
 use Rattle.settling.specs.declared.Settled.{Settled}
 use Rattle.frames.specs.Decoded.{held, callIn, call-none, call-some}
@@ -108,28 +104,6 @@ offer-is ns ps qs n e f g = rw (e, f, g)
 
 -- ---- settling
 
--- each record has 6 bytes
-six : (l : Ledger) (p k : ℕ) (vs : List ℕ) → Each (λ r. length r ≡ 6) (recordsFrom l p k vs)
-unfolding recordsFrom
-six l p k [] r m = absurd (List·Memᴰ·not-nil m)
-six l p k (v ∷ vs) r m = go (eqb v 0) (λ j. six l p (suc k) vs r j) m
-  where
-    go : (b : Bool) → (List·Memᴰ r (recordsFrom l p (suc k) vs) → length r ≡ 6)
-        → List·Memᴰ r (cond b (recordsFrom l p (suc k) vs) (recordOf k (winner l p k v) v ∷ recordsFrom l p (suc k) vs)) → length r ≡ 6
-    go true rest m = rest m
-    go false rest m = ⊎-elim (λ e. ap length e) rest (List·Memᴰ·cases-cons m)
-
--- 192 bytes hold 32 records
-few : (l : Ledger) (limit : ℕ) → settlingNumber l limit 192 ≡ 0 → length (records l (closingPrice l)) ≤ 32
-unfolding settlingNumber
-few l limit e = go (isClosed (l .phase)) (leb (length (admissible l (closingPrice l))) (min limit 65536)) (leb (6 * length (records l (closingPrice l))) 192) refl e
-  where
-    go : (x y z : Bool) → leb (6 * length (records l (closingPrice l))) 192 ≡ z → check x 2 (check y 10 (check z 11 0)) ≡ 0 → length (records l (closingPrice l)) ≤ 32
-    go true true true h e = omega (arith, leb-true (6 * length (records l (closingPrice l))) 192 h)
-    go true true false h e = absurd (omega arith)
-    go true false z h e = absurd (omega arith)
-    go false y z h e = absurd (omega arith)
-
 -- a refusal adds nothing
 refused-line : (k n : ℕ) (x y : List ℕ) → (n ≡ 0 → ⊥) → answerLine k n x ≡ answerLine k n y
 unfolding answerLine
@@ -141,7 +115,7 @@ module _ (l : Ledger) (limit : ℕ) (old new : List ℕ) (s : Settled) where
   unfolding settlement settlementAt records
   accepted-digits z e b =
       ap (λ (x : Settled). settledText x new) e
-      ∙ settled-text (settlement l) new old (few l limit z) (six l (closingPrice l) 1 (award l (closingPrice l))) b
+      ∙ settled-text (settlement l) new old (few l limit z) (six l) b
 
   settled-line : s .number ≡ settlingNumber l limit 192 → (s .number ≡ 0 → s ≡ settledAs (settlement l))
       → (s .number ≡ 0 → new ≡ laid (flatten (settlement l .records)) old)

@@ -17,10 +17,10 @@ pub fn demand_by_scan(ce: u64, d: u64, m1: u64, m2: u64, p: u64) -> Answer {
 }
 
 /// The paper's highest CE.
-const HIGHEST_CE: u64 = 500_000;
+pub const HIGHEST_CE: u64 = 500_000;
 
 /// The paper's highest M2.
-pub(crate) const HIGHEST_M2: u64 = 100_000_000_000;
+pub const HIGHEST_M2: u64 = 100_000_000_000;
 
 /// The curve's settings, signed and wide enough for every product below.
 struct Curve {
@@ -126,26 +126,13 @@ impl Curve {
 #[cfg(test)]
 mod tests {
     use super::*;
-
-    /// The paper's marked cases, p and Dem(p), with CE 20,000, D 1,000, M1 900, M2 1,200.
-    const MARKED: [(u64, u64); 10] = [
-        (40_000, 900),
-        (30_001, 950),
-        (30_000, 950),
-        (29_999, 951),
-        (25_999, 971),
-        (20_000, 1_000),
-        (19_999, 1_001),
-        (19_950, 1_001),
-        (19_949, 1_002),
-        (10_000, 1_200),
-    ];
+    use crate::sample::MARKED_CASES;
 
     #[test]
     fn marked_cases() {
-        for (p, quantity) in MARKED {
-            assert_eq!(demand(20_000, 1_000, 900, 1_200, p), Ok(quantity), "p {p}");
-            assert_eq!(demand_by_scan(20_000, 1_000, 900, 1_200, p), Ok(quantity));
+        for ([ce, d, m1, m2, p], quantity) in MARKED_CASES {
+            assert_eq!(demand(ce, d, m1, m2, p), Ok(quantity), "p {p}");
+            assert_eq!(demand_by_scan(ce, d, m1, m2, p), Ok(quantity), "p {p}");
         }
     }
 

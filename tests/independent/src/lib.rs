@@ -1,4 +1,4 @@
-//! A second implementation of document 01, to run beside the engine.
+//! An independent implementation of document 01, to run beside the engine.
 //! It is written from the paper's rules alone and shares no code with the engine.
 //! Where the paper gives a rule and a formula for it, this one takes the rule.
 
@@ -13,7 +13,7 @@ pub mod settling;
 #[cfg(test)]
 mod tests;
 
-pub use demand::{demand, demand_by_scan};
+pub use demand::{demand, demand_by_scan, HIGHEST_CE, HIGHEST_M2};
 
 /// An accepted call's number, or the number of its refusal.
 pub type Answer = Result<u64, u8>;

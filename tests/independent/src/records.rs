@@ -17,6 +17,9 @@ use crate::settling::number_of_choices;
 pub use counted::{largest_book, LARGEST_BOOKS};
 pub use long::long_record;
 
+/// Makes records of one sort.
+pub type Records = fn() -> Vec<Vec<u8>>;
+
 /// The record of a seed.
 pub fn record(seed: u64) -> Vec<u8> {
     let mut writer = Writer::new(seed);

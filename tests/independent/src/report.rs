@@ -1,9 +1,19 @@
 //! What a program that compares replies prints: one line a group of records with what their
-//! replies were, and the first difference.
+//! replies were, and the first difference; and what it ends with.
 
 use crate::replay::lines;
 use std::collections::BTreeMap;
 use std::fmt::Write;
+use std::process::ExitCode;
+
+/// The exit status of a program whose groups agree or not.
+pub fn verdict<'a>(agree: impl IntoIterator<Item = &'a bool>) -> ExitCode {
+    if agree.into_iter().all(|&agrees| agrees) {
+        ExitCode::SUCCESS
+    } else {
+        ExitCode::FAILURE
+    }
+}
 
 /// Records compared under one name.
 pub struct Group {

@@ -1,5 +1,5 @@
-//! Document 01's sample record and its whole reply as the paper prints them, and the examples
-//! of the twelve numbers as lines behind the sample's.
+//! Document 01's sample record and its whole reply as the paper prints them, the examples of
+//! the twelve numbers as lines behind the sample's, and the marked cases of demand.
 
 pub const RECORD: &str = "\
 0100004E2000000003E8000000038400000004B000009C40
@@ -74,3 +74,17 @@ pub fn example((count, line, reply): (usize, &str, &str)) -> (String, String) {
     };
     (behind(RECORD, line), behind(REPLY, reply))
 }
+
+/// The marked cases (document 01, Demand): CE, D, M1, M2 and p, with Dem(p).
+pub const MARKED_CASES: [([u64; 5], u64); 10] = [
+    ([20_000, 1_000, 900, 1_200, 40_000], 900),
+    ([20_000, 1_000, 900, 1_200, 30_001], 950),
+    ([20_000, 1_000, 900, 1_200, 30_000], 950),
+    ([20_000, 1_000, 900, 1_200, 29_999], 951),
+    ([20_000, 1_000, 900, 1_200, 25_999], 971),
+    ([20_000, 1_000, 900, 1_200, 20_000], 1_000),
+    ([20_000, 1_000, 900, 1_200, 19_999], 1_001),
+    ([20_000, 1_000, 900, 1_200, 19_950], 1_001),
+    ([20_000, 1_000, 900, 1_200, 19_949], 1_002),
+    ([20_000, 1_000, 900, 1_200, 10_000], 1_200),
+];

@@ -1,4 +1,4 @@
-//! Tests of the second implementation: what document 01 writes out, and what its rules imply
+//! Tests of the independent implementation: what document 01 writes out, and what its rules imply
 //! on generated records.
 
 mod awards;

@@ -7,7 +7,7 @@ use native.Mathlib.Omega.{arith}
 use lib.ListN.{length, length-drop}
 use borrow.Author.Needs.{needs}
 use Rattle.awarding.proofs.Writing.{Writing, writing-first, writing-passed, writing-room, writing-taken, writing-end}
-use Rattle.awarding.proofs.Tails.{tail-is}
+use Rattle.numbers.specs.Tails.{tail-is}
 use Rattle.awarding.proofs.write_awards.Statement.{statement}
 use Rattle.awarding.proofs.write_awards.Tie as tie
 

@@ -3,6 +3,7 @@ use native.Mathlib.Omega.{arith}
 use lib.Seq.{sets-eq}
 use lib.ListN.{length-set}
 use borrow.Author.Needs.{needs}
+use Rattle.numbers.specs.Tails.{laid}
 use Rattle.rules.specs.Settling.{recordOf}
 use Rattle.awarding.proofs.write_record.Statement.{statement}
 use Rattle.awarding.proofs.write_record.Tie as tie
@@ -41,6 +42,7 @@ same-length : tie.Need-same-length
 same-length c = search needs
 
 returns : tie.Need-returns
+unfolding laid
 returns c = sets-eq (recordOf (c .args .project) (c .args .developer) (c .args .level)) (c .args .out .now) 0 (c .pre)
 
 pub write-record-spec : {M : Type 1} → statement M

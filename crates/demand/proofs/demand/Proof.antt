@@ -1,5 +1,5 @@
 -- `demand` answers as `demandAnswer`: past the first test the settings are within bounds, past the second the price is in range.
-use mathlib.Core.Path.{_≡_, sym, _∙_}
+use mathlib.Core.Path.{sym, _∙_}
 use Rattle.curve.specs.Demand.{InBounds, InRange}
 use Rattle.curve.specs.Range.{in-bounds, in-range}
 use Rattle.demand.proofs.Fits.{accepted, refused-settings, refused-price}

@@ -1,7 +1,7 @@
 -- `price_in_range` is the test `inRange`.
 use native.Mathlib.Omega.{arith}
 use mathlib.Core.Path.{_≡_, sym}
-use mathlib.Core.Bool.{true, false}
+use mathlib.Core.Bool.{false}
 use Rattle.curve.specs.Demand.{InRange, inRange}
 use Rattle.curve.specs.Range.{in-range-test, out-of-range}
 use borrow.Author.Needs.{needs}

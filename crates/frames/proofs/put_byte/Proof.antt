@@ -1,7 +1,7 @@
 -- One byte set is that byte and the rest.
 use borrow.Author.Needs.{needs}
 use lib.Seq.{set-split}
-use Rattle.format.specs.Hex.{laid}
+use Rattle.numbers.specs.Tails.{laid}
 use Rattle.frames.proofs.put_byte.Statement.{statement}
 use Rattle.frames.proofs.put_byte.Tie as tie
 

@@ -1,5 +1,5 @@
 -- `demand` hands on the quantity, or 2^64 - 1 for refusal 1: each case of the enum, by its number and value.
-use mathlib.Core.Path.{_≡_, sym, ap, _∙_}
+use mathlib.Core.Path.{sym, ap, _∙_}
 use Rattle.demand.specs.Answers.{answerOf}
 use Rattle.host.specs.Host.{hostNumber}
 use borrow.Author.Needs.{needs}

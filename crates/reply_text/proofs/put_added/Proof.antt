@@ -4,7 +4,7 @@ use mathlib.Core.List.{List, []}
 use Prim.Native.Nat.{ℕ}
 use native.Mathlib.Omega.{arith}
 use lib.ListN.{length}
-use Rattle.format.specs.Hex.{laid}
+use Rattle.numbers.specs.Tails.{laid}
 use Rattle.format.specs.HexLaws.{length-digits}
 use Rattle.reply_text.specs.TextLaws.{shown-refused, shown-closing, shown-settling, shown-other}
 use borrow.Author.Needs.{needs}

@@ -94,7 +94,7 @@ module _ (t : ℕ) where
       (omega (arith, s .pre .0, k .row, k .below, k .end), rest-ready (s .pre .1) (r .if1 .left) (s .args .demand) (omega (arith, c .if3 .left)) (omega (arith, c .before .if2 .taken)))
 
   passed : (c : lts.Joined2 (called t) (at-measure t) explore.Post) → let s = row-of (c .before) .before .before .args in
-      With (s .levels .now) (s .ends .now) (s .i) (s .at) (s .acc) (s .index) (s .found) (s .demand) (c .if2 .passed)
+      With (s .levels .now) (s .ends .now) (s .i) (s .at) (s .base) (s .index) (s .found) (s .demand) (c .if2 .passed)
   passed c =
       let r = row-of (c .before) in
       let s = r .before .before in

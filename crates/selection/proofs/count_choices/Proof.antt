@@ -6,10 +6,10 @@ use Rattle.selection.proofs.count_choices.Statement.{statement}
 use Rattle.selection.proofs.count_choices.Tie as tie
 
 abbrev Inv-loop : tie.InvT-loop
-Inv-loop ends most n₀ at₀ i₀ n at i = Tally ends n at i
+Inv-loop ends limit n₀ at₀ i₀ n at i = Tally ends n at i
 
 abbrev μ-loop : tie.MeasureT-loop
-μ-loop ends most n₀ at₀ i₀ n at i = 32 - i
+μ-loop ends limit n₀ at₀ i₀ n at i = 32 - i
 
 loop-holds : tie.Need-loop-holds Inv-loop μ-loop
 loop-holds c = tally-first _ (c .pre .1)

@@ -1,5 +1,4 @@
 -- `select` answers as `selectedOf`: past the first test the table is laid out, past the second the choices are few enough to go through.
-use native.Mathlib.Omega.{arith}
 use borrow.Author.Tests.{not-true, not-false}
 use Rattle.selection.specs.Places.{Laid, Long}
 use Rattle.selection.proofs.Selecting.{Counted, not-laid, too-many, first-place, ready, in-list, chosen}
@@ -13,11 +12,11 @@ long c = search needs
 laid : (c : tie.Else1) → let t = c .before .before .before .before .before .before .args .t in Laid (t .levels) 0 (t .ends)
 laid c = c .before .is-laid .ensures .0 (not-false _ (c .if1 .left))
 
-counted : (c : tie.After-count-choices) → let s = c .before .before .before .before .before .before .before .before .before .args in Counted (s .t) (s .limit) (c .before .before .most-of .result) (c .count-choices .result)
+counted : (c : tie.After-count-choices) → let s = c .before .before .before .before .before .before .before .before .args in Counted (s .t) (s .limit) (c .count-choices .result)
 counted c = record {
-  long = long (c .before .before .before .before .before);
-  laid = laid (c .before .before .before);
-  most-is = c .before .before .most-of .ensures;
+  long = long (c .before .before .before .before);
+  laid = laid (c .before .before);
+  capped = c .before .before .before .before .before .before .before .before .pre;
   counts = c .count-choices .ensures;
 }
 
@@ -37,11 +36,8 @@ refused-requires c κs = search needs
 returns : tie.Need-returns
 returns c = rw (c .refused .ensures) (not-laid _ (c .before .before .is-laid .ensures) (not-true _ (c .before .if1 .taken)))
 
-most-of-requires : tie.Need-most-of-requires
-most-of-requires c κs = search needs
-
 count-choices-requires : tie.Need-count-choices-requires
-count-choices-requires c κs = (long (c .before .before .before .before) .1, laid (c .before .before) .0, omega (arith, c .before .most-of .ensures))
+count-choices-requires c κs = (long (c .before .before .before) .1, laid (c .before) .0, c .before .before .before .before .before .before .before .pre)
 
 refused-requires-2 : tie.Need-refused-requires-2
 refused-requires-2 c κs = search needs
@@ -78,7 +74,6 @@ select-spec =
     is-laid-requires
     refused-requires
     returns
-    most-of-requires
     count-choices-requires
     refused-requires-2
     returns-2

@@ -1,28 +1,38 @@
 -- Settling: each refusal in its order, then the records of the award. What the parts ensure is gathered once, in `computed`.
-use mathlib.Core.Path.{_≡_, sym, subst}
 use native.Mathlib.Omega.{arith}
 use borrow.Author.Needs.{needs}
-use Rattle.settling.specs.declared.Settled.{Settled}
-use Rattle.settling.specs.Settles.{Settles}
 use Rattle.settling.proofs.Settling.{Computed, settle-phase, settle-over, settle-no-room, settle-accepted}
 use Rattle.settling.proofs.settle.Statement.{statement}
 use Rattle.settling.proofs.settle.Tie as tie
 
-computed : (c : tie.After-select) → Computed (c .before .before .before .before .before .before .before .before .before .before .before .before .before .before .args .auction) (c .before .before .before .before .before .before .before .before .before .before .before .before .before .before .args .limit) (c .before .before .before .before .before .before .closing-price .result) (c .before .demand-at .result) (c .before .before .before .before .before .lows-at .result) (c .before .before .before .lows-at2 .result) (c .select .result)
-computed c = record {
-  phase = c .before .before .before .before .before .before .before .before .before .before .before .if1 .left;
-  highest = c .before .before .before .before .before .before .before .highest-levels .result;
-  next = c .before .before .before .before .above .result;
-  table = c .before .before .table-of .result;
-  highests = c .before .before .before .before .before .before .before .highest-levels .ensures;
-  price = c .before .before .before .before .before .before .closing-price .ensures;
-  lows-at = c .before .before .before .before .before .lows-at .ensures;
-  above = c .before .before .before .before .above .ensures;
-  highs-at = c .before .before .before .lows-at2 .ensures;
-  tabled = c .before .before .table-of .ensures;
-  demand-at = c .before .demand-at .ensures .0;
-  selects = c .select .ensures;
-}
+-- the ways back from the call of `select`: to that of `lows_at` for the highs, and to that of `closing_price`
+abbrev highs : tie.After-select → tie.After-lows-at2
+highs c = c .before .before .before .before
+
+abbrev priced : tie.After-select → tie.After-closing-price
+priced c = highs c .before .before .before
+
+computed :
+    (c : tie.After-select) →
+    let s = priced c .before .before .before .before .before .before .before .before .args in
+    Computed (s .auction) (s .limit) (priced c .closing-price .result) (c .before .before .demand-at .result) (highs c .before .before .lows-at .result) (highs c .lows-at2 .result) (c .select .result)
+computed c =
+    let h = highs c in
+    let p = priced c in
+    record {
+      phase = p .before .before .before .before .before .if1 .left;
+      highest = p .before .highest-levels .result;
+      next = h .before .above .result;
+      table = c .before .before .before .table-of .result;
+      highests = p .before .highest-levels .ensures;
+      price = p .closing-price .ensures;
+      lows-at = h .before .before .lows-at .ensures;
+      above = h .before .above .ensures;
+      highs-at = h .lows-at2 .ensures;
+      tabled = c .before .before .before .table-of .ensures;
+      demand-at = c .before .before .demand-at .ensures .0;
+      selects = rw (c .before .capped-limit .ensures) at (c .select .ensures);
+    }
 
 refused-requires : tie.Need-refused-requires
 refused-requires c κs = search needs
@@ -51,8 +61,11 @@ table-of-requires c κs = search needs
 demand-at-requires : tie.Need-demand-at-requires
 demand-at-requires c κs = search needs
 
+capped-limit-requires : tie.Need-capped-limit-requires
+capped-limit-requires c κs = search needs
+
 select-requires : tie.Need-select-requires
-select-requires c κs = search needs
+select-requires c κs = omega (arith, c .capped-limit .ensures)
 
 refused-requires-2 : tie.Need-refused-requires-2
 refused-requires-2 c κs = search needs
@@ -70,7 +83,10 @@ refused-requires-3 : tie.Need-refused-requires-3
 refused-requires-3 c κs = search needs
 
 returns-3 : tie.Need-returns-3
-returns-3 c = rw (c .refused3 .ensures) (settle-no-room _ _ _ _ _ _ _ (computed (c .before .before .before .before .before .before)) _ (c .before .before .before .before .if2 .left) _ (c .before .before .count-awards .ensures .0) (c .before .if3 .taken))
+returns-3 c =
+    let n = c .before .before in
+    rw (c .refused3 .ensures)
+    (settle-no-room _ _ _ _ _ _ _ (computed (n .before .before .before .before)) _ (n .before .before .if2 .left) _ (n .count-awards .ensures .0) (c .before .if3 .taken))
 
 winners-requires : tie.Need-winners-requires
 winners-requires c κs = search needs
@@ -82,7 +98,10 @@ same-length : tie.Need-same-length
 same-length c = search needs
 
 returns-4 : tie.Need-returns-4
-returns-4 c = settle-accepted _ _ _ _ _ _ _ (computed (c .before .before .before .before .before .before .before .before .before .before .before .before)) _ (c .before .before .before .before .before .before .before .before .before .before .if2 .left) _ (c .before .before .before .before .before .before .before .before .count-awards .ensures .0) (c .before .before .before .before .before .before .before .if3 .left) _ _ (c .before .before .before .before .winners .ensures) (c .before .before .write-awards .ensures)
+returns-4 c =
+    let w = c .before .before .before .before in
+    let n = w .before .before .before .before in
+    settle-accepted _ _ _ _ _ _ _ (computed (n .before .before .before .before)) _ (n .before .before .if2 .left) _ (n .count-awards .ensures .0) (w .before .before .before .if3 .left) _ _ (w .winners .ensures) (c .before .before .write-awards .ensures)
 
 pub settle-spec : {M : Type 1} → statement M
 settle-spec =
@@ -97,6 +116,7 @@ settle-spec =
     lows-at-requires-2
     table-of-requires
     demand-at-requires
+    capped-limit-requires
     select-requires
     refused-requires-2
     returns-2

@@ -3,7 +3,7 @@ use Prim.Native.Nat.{_-_}
 use native.Mathlib.Omega.{arith}
 use borrow.Author.Needs.{needs}
 use mir.Syntax.{w8, w32}
-use Rattle.supply.proofs.Words.{words-length, words-below}
+use Rattle.supply.specs.Words.{words-length}
 use Rattle.supply.proofs.Greatest.{Raising, raising-first, raising-again, raising-end}
 use Rattle.supply.proofs.greatest_by_project.Statement.{statement}
 use Rattle.supply.proofs.greatest_by_project.Tie as tie
@@ -20,17 +20,32 @@ loop-holds c = raising-first _ _ (words-length w8 32 (c .args .t1) _ (c .good .0
 array-read-k : tie.Need-array-read-k Inv-loop μ-loop
 array-read-k c = search needs
 
-cast-k : tie.Need-cast-k Inv-loop μ-loop
-cast-k c = omega (arith, words-below w8 32 (c .before .before .args .t1) _ (c .before .before .good .0) (omega arith) (c .before .loop .i))
+place-requires : tie.Need-place-requires Inv-loop μ-loop
+place-requires c κs = search needs
 
-mul-q : tie.Need-mul-q Inv-loop μ-loop
-mul-q c = search needs
+mul-counted : tie.Need-mul-counted Inv-loop μ-loop
+mul-counted c = search needs
 
-array-read-q : tie.Need-array-read-q Inv-loop μ-loop
-array-read-q c = search needs
+array-read-counted : tie.Need-array-read-counted Inv-loop μ-loop
+array-read-counted c = search needs
 
-raised-requires : tie.Need-raised-requires Inv-loop μ-loop
-raised-requires c κs = search needs
+counted-requires : tie.Need-counted-requires Inv-loop μ-loop
+counted-requires c κs = search needs
+
+mul-greater : tie.Need-mul-greater Inv-loop μ-loop
+mul-greater c = omega (arith, c .before .place .ensures .1)
+
+array-read-greater : tie.Need-array-read-greater Inv-loop μ-loop
+array-read-greater c = c .before .place .ensures .1
+
+greater-requires : tie.Need-greater-requires Inv-loop μ-loop
+greater-requires c κs = search needs
+
+mul-best : tie.Need-mul-best Inv-loop μ-loop
+mul-best c = omega (arith, c .before .before .place .ensures .1)
+
+array-write-best : tie.Need-array-write-best Inv-loop μ-loop
+array-write-best c = c .before .before .place .ensures .1
 
 add-i : tie.Need-add-i Inv-loop μ-loop
 add-i c = search needs
@@ -39,7 +54,7 @@ loop-less : tie.Need-loop-less Inv-loop μ-loop
 loop-less c = search needs
 
 loop-again : tie.Need-loop-again Inv-loop μ-loop
-loop-again c = raising-again _ _ _ _ (c .before .before .loop .inv) _ (c .before .loop-test .taken) (c .raised .ensures)
+loop-again c = raising-again _ _ _ _ (c .before .before .before .before .loop .inv) _ _ _ (c .before .before .before .loop-test .taken) (c .before .before .place .ensures .0) (c .before .counted .ensures) (c .greater .ensures)
 
 returns : tie.Need-returns Inv-loop μ-loop
 returns c = raising-end _ _ _ _ (c .before .loop .inv) (c .loop-test .left)
@@ -52,10 +67,15 @@ greatest-by-project-spec =
     μ-loop
     loop-holds
     array-read-k
-    cast-k
-    mul-q
-    array-read-q
-    raised-requires
+    place-requires
+    mul-counted
+    array-read-counted
+    counted-requires
+    mul-greater
+    array-read-greater
+    greater-requires
+    mul-best
+    array-write-best
     add-i
     loop-less
     loop-again

@@ -3,7 +3,7 @@ use Prim.Native.Nat.{_-_}
 use mathlib.Core.Logic.{⊎-elim}
 use borrow.Author.Needs.{needs}
 use mir.Syntax.{w8}
-use Rattle.supply.proofs.Words.{words-length}
+use Rattle.supply.specs.Words.{words-length}
 use Rattle.supply.proofs.Joining.{Joining, joining-first, joining-other, joining-again, joining-kind, joining-beside, joining-end}
 use Rattle.supply.proofs.may_join.Statement.{statement}
 use Rattle.supply.proofs.may_join.Tie as tie

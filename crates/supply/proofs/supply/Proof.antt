@@ -7,7 +7,7 @@ use lib.ListN.{getD}
 use mir.Syntax.{w32}
 use Rattle.numbers.specs.Lists.{total}
 use Rattle.supply.specs.ByProject.{supplyOf}
-use Rattle.supply.proofs.Words.{words-length, words-below}
+use Rattle.supply.specs.Words.{words-length, words-below}
 use Rattle.supply.proofs.Summing.{Summing, summing-first, summing-again, summing-end}
 use Rattle.supply.proofs.supply.Statement.{statement}
 use Rattle.supply.proofs.supply.Tie as tie

@@ -1,4 +1,4 @@
-//! Runs the engine's demand call beside the second implementation.
+//! Runs the engine's demand call beside the independent implementation.
 //! One line a group of inputs: how many were compared, and `ok` or the first difference.
 //! The exit status is 0 only if no group differs.
 
@@ -6,7 +6,10 @@
 mod engine;
 
 use independent::random::Random;
-use independent::{demand, demand_by_scan, host_number, Answer, BEYOND_BOUNDS};
+use independent::report::verdict;
+use independent::sample::MARKED_CASES;
+use independent::{demand, demand_by_scan, host_number, Answer};
+use independent::{BEYOND_BOUNDS, HIGHEST_CE, HIGHEST_M2};
 use std::process::ExitCode;
 
 /// The call's arguments in its order: CE, D, M1, M2, p.
@@ -14,18 +17,11 @@ type Call = [u64; 5];
 
 const REFUSED: Answer = Err(BEYOND_BOUNDS);
 
-const HIGHEST_CE: u64 = 500_000;
-const HIGHEST_M2: u64 = 100_000_000_000;
-
 fn main() -> ExitCode {
     // Each group is reported when it is done, also behind one that differs.
     let fixed = FIXED.map(|group| group().report());
     let generated = GENERATED.map(|(name, generate)| generated(name, generate).report());
-    if fixed.iter().chain(&generated).all(|&agrees| agrees) {
-        ExitCode::SUCCESS
-    } else {
-        ExitCode::FAILURE
-    }
+    verdict(fixed.iter().chain(&generated))
 }
 
 const FIXED: [fn() -> Group; 6] = [
@@ -70,7 +66,7 @@ impl Group {
         }
     }
 
-    /// Compares the engine with the second implementation's answer to the same call.
+    /// Compares the engine with the independent implementation's answer to the same call.
     fn compare(&mut self, call: Call, independent: Answer) {
         let [ce, d, m1, m2, p] = call;
         let engine = engine::demand(ce, d, m1, m2, p);
@@ -128,19 +124,8 @@ fn answer([ce, d, m1, m2, p]: Call) -> Answer {
 /// The paper's ten, with its numbers.
 fn marked_cases() -> Group {
     let mut group = Group::new("marked cases");
-    for (p, quantity) in [
-        (40_000, 900),
-        (30_001, 950),
-        (30_000, 950),
-        (29_999, 951),
-        (25_999, 971),
-        (20_000, 1_000),
-        (19_999, 1_001),
-        (19_950, 1_001),
-        (19_949, 1_002),
-        (10_000, 1_200),
-    ] {
-        group.compare_stated([20_000, 1_000, 900, 1_200, p], Ok(quantity));
+    for (call, quantity) in MARKED_CASES {
+        group.compare_stated(call, Ok(quantity));
     }
     group
 }

@@ -1,4 +1,4 @@
-//! Runs the engine's replay call beside the second implementation.
+//! Runs the engine's replay call beside the independent implementation.
 //! Each record is replayed into buffers that are one byte too short, exact, and longer; every
 //! byte of them, and of their surroundings, is compared.
 //! One line a group of records: their replies by kind and answer, and `ok` or the first
@@ -8,9 +8,9 @@
 mod engine;
 
 use independent::random::Random;
-use independent::records::{edges, record};
+use independent::records::{edges, record, Records};
 use independent::replay::{replay, write_replies};
-use independent::report::Group;
+use independent::report::{verdict, Group};
 use independent::sample;
 use std::process::ExitCode;
 
@@ -18,16 +18,10 @@ fn main() -> ExitCode {
     // Each group is reported when it is done, also behind one that differs.
     let stated = STATED.map(|group| group().report());
     let compared = COMPARED.map(|(name, records)| compared(name, records).report());
-    if stated.iter().chain(&compared).all(|&agrees| agrees) {
-        ExitCode::SUCCESS
-    } else {
-        ExitCode::FAILURE
-    }
+    verdict(stated.iter().chain(&compared))
 }
 
 const STATED: [fn() -> Group; 2] = [sample_record, twelve_numbers];
-
-type Records = fn() -> Vec<Vec<u8>>;
 
 const COMPARED: [(&str, Records); 7] = [
     ("edges of lines", edges::lines),
@@ -35,7 +29,7 @@ const COMPARED: [(&str, Records); 7] = [
     ("sizes of records", edges::record_sizes),
     ("sizes of replies", edges::reply_sizes),
     ("largest books", edges::largest_books),
-    // The seeds whose shares the tests of the second implementation look at.
+    // The seeds whose shares the tests of the independent implementation look at.
     ("generated", || (0..20_000).map(record).collect()),
     ("few different bytes", || {
         (0..5_000).map(few_different_bytes).collect()
@@ -50,7 +44,7 @@ fn compared(name: &'static str, records: Records) -> Group {
     group
 }
 
-/// Compares the engine with the second implementation's replies to the same record.
+/// Compares the engine with the independent implementation's replies to the same record.
 fn compare(group: &mut Group, record: &[u8]) {
     let independent = replay(record);
     group.count(&independent);

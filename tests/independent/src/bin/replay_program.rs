@@ -1,11 +1,11 @@
 //! Runs the program `replay`, whose path is the argument, and compares what it prints with the
-//! second implementation, byte for byte.
+//! independent implementation, byte for byte.
 //! One line a group of records: what was printed by kind and answer, and `ok` or the first
 //! difference. The exit status is 0 only if no group differs.
 
-use independent::records::{edges, record};
+use independent::records::{edges, record, Records};
 use independent::replay::printed;
-use independent::report::Group;
+use independent::report::{verdict, Group};
 use independent::sample;
 use std::io::{self, Write};
 use std::process::{Command, ExitCode, Output, Stdio};
@@ -28,14 +28,8 @@ fn main() -> ExitCode {
         }
         group.report()
     });
-    if groups.iter().all(|&agrees| agrees) {
-        ExitCode::SUCCESS
-    } else {
-        ExitCode::FAILURE
-    }
+    verdict(&groups)
 }
-
-type Records = fn() -> Vec<Vec<u8>>;
 
 /// Groups of records, and the bytes of standard input that arrive at once.
 const GROUPS: [(&str, Records, usize); 6] = [

@@ -1,13 +1,16 @@
-//! Settles the books of the engine's program `settlements` by the second implementation; they are
-//! taken in as they stand there. It prints the same lines: one a settling, with its number, P,
+//! Settles the books of the engine's program `settlements` by the independent implementation; they
+//! are taken in as they stand there. It prints the same lines: one a settling, with its number, P,
 //! Dem(P), the award's total, the numbers of choices, of covering ones and of award records, and
 //! the lent buffer.
 
+use calls::{close, offer, open, register, set_up};
 use independent::auction::{Auction, EXISTING, NEW};
 use independent::settling::Settlement;
 use lists::{offer_none, offer_one, offer_two};
 use lists::{register_eight, register_existing, register_one, register_three, register_two};
 
+#[path = "../calls.rs"]
+mod calls;
 #[path = "../../../../crates/settlements/src/choices.rt"]
 mod choices;
 #[path = "../../../../crates/settlements/src/developers.rt"]
@@ -32,40 +35,13 @@ fn book(name: &[u8]) {
     println!("# {}", String::from_utf8_lossy(name));
 }
 
-fn set_up(mut auction: Auction, ce: u64, d: u64, m1: u64, m2: u64, a: u64) -> Auction {
-    let accepted = auction.set_up(ce, d, m1, m2, a);
-    accepted.expect("a book's set-up");
-    auction
+/// Every call of a book is accepted.
+fn answered(call: &str, answer: Result<(), u8>) {
+    assert_eq!(answer, Ok(()), "a book's {call}");
 }
 
-fn register(
-    mut auction: Auction,
-    project: u8,
-    developer: u8,
-    kind: u8,
-    study: u32,
-    day: u32,
-    levels: &[u32],
-) -> Auction {
-    let accepted = auction.register(project, developer, kind, study, day, levels);
-    accepted.expect("a book's registration");
-    auction
-}
-
-fn open(mut auction: Auction, c: u32) -> Auction {
-    auction.open(c).expect("a book's opening");
-    auction
-}
-
-fn offer(mut auction: Auction, developer: u8, prices: &[u32], levels: &[u32]) -> Auction {
-    let accepted = auction.offer(developer, prices, levels);
-    accepted.expect("a book's offer");
-    auction
-}
-
-fn close(mut auction: Auction) -> Auction {
-    auction.close().expect("a book's closing");
-    auction
+fn closed(answer: Result<i64, u8>) {
+    answer.expect("a book's closing");
 }
 
 /// Settles with the first `lent` bytes of a buffer of 200.

@@ -1,10 +1,9 @@
 //! Sound settings and registrations, with a demand that the registered plants can meet.
 
 use crate::auction::{Auction, EXISTING, MOST_LEVELS, NEW, NUMBERS};
-use crate::demand;
-use crate::demand::HIGHEST_M2;
 use crate::random::Random;
 use crate::replay::{make, Call};
+use crate::{demand, HIGHEST_M2};
 
 /// What stands before the first round of an auction that can open it.
 pub struct Book {

@@ -18,8 +18,8 @@ supply-requires c κs = search needs
 demand-at-requires : tie.Need-demand-at-requires
 demand-at-requires c κs = search needs
 
-less-requires : tie.Need-less-requires
-less-requires c κs = search needs
+excess-of-requires : tie.Need-excess-of-requires
+excess-of-requires c κs = search needs
 
 phase-after-requires : tie.Need-phase-after-requires
 phase-after-requires c κs = search needs
@@ -34,7 +34,7 @@ returns-2 c =
       supply-is = supply .ensures .0;
       demand-is = demand .ensures .0;
       phase-is = c .phase-after .ensures;
-      excess-is = difference-back (supply .result) (demand .result) (omega arith) (omega arith) (c .before .before .less .result) (c .before .before .less .ensures);
+      excess-is = difference-back (supply .result) (demand .result) (omega arith) (omega arith) (c .before .before .excess-of .result) (c .before .before .excess-of .ensures);
     })
 
 pub close-spec : {M : Type 1} → statement M
@@ -45,6 +45,6 @@ close-spec =
     with-offers-applied-requires
     supply-requires
     demand-at-requires
-    less-requires
+    excess-of-requires
     phase-after-requires
     returns-2)

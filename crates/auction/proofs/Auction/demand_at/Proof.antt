@@ -3,7 +3,7 @@ use mathlib.Core.Path.{sym, ap, _∙_}
 use borrow.Author.Needs.{needs}
 use Rattle.curve.specs.Answer.{Answer}
 use Rattle.demand.specs.Answers.{answerOf}
-use Rattle.auction.specs.Called.{demandBy}
+use Rattle.auction.specs.Tests.{demandBy}
 use Rattle.auction.proofs.SettingUp.{demand-bounded}
 use Rattle.auction.proofs.Auction.demand_at.Statement.{statement}
 use Rattle.auction.proofs.Auction.demand_at.Tie as tie

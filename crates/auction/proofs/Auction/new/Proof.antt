@@ -1,5 +1,5 @@
 -- A fresh auction holds the empty ledger: every array is a repeat of what stands for nobody.
-use mathlib.Core.Path.{_≡_, refl}
+use mathlib.Core.Path.{refl}
 use borrow.Author.Needs.{needs}
 use Rattle.rules.specs.Rounds.{stepAll, ledger}
 use Rattle.levels.specs.Held.{heldLevels}

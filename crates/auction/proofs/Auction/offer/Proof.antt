@@ -1,103 +1,120 @@
 -- An offer: the checks in their order, then the steps held behind the withdrawals.
 use Prim.Native.Nat.{_≤_}
 use mathlib.Core.Path.{_≡_, sym, _∙_}
+use mathlib.Core.Bool.{true}
 use native.Mathlib.Omega.{arith}
 use borrow.Author.Needs.{needs}
 use borrow.Author.Tests.{not-true, not-false}
-use Rattle.auction.proofs.Offering.{Allowed, offer-phase, offer-number-low, offer-number-high, offer-kind, offer-second, offer-lengths, offer-long, offer-prices, offer-levels, offer-taken}
+use Rattle.auction.specs.Tests.{mayOfferBy}
+use Rattle.auction.proofs.Offering.{offerer-number, offer-phase, offer-barred, offer-second, offer-prices, offer-levels, offer-taken}
 use Rattle.auction.proofs.Auction.offer.Statement.{statement}
 use Rattle.auction.proofs.Auction.offer.Tie as tie
 
-allowed : (c : tie.Else4) → Allowed (c .before .before .before .before .before .before .before .args .t1) (c .before .before .before .before .before .before .before .args .developer)
-allowed c = record {
-  phase = c .before .before .before .before .if1 .left;
-  low = c .before .before .before .if2 .left;
-  high = c .before .before .if3 .left;
-  kind = c .if4 .left;
-}
+-- past the test of the developer
+allowed : (c : tie.Else2) → let s = c .before .before .before .before .before .args in mayOfferBy (s .t1) (s .developer) ≡ true
+allowed c = sym (c .before .may-offer .ensures) ∙ not-false _ (c .if2 .left)
+
+bounds : (c : tie.Else2) → let n = c .before .before .before .before .before .args .developer in (1 ≤ n) × (n ≤ 32)
+bounds c = offerer-number _ _ (allowed c)
+
+-- the ways back to that test, from the test of the prices and from that of the levels
+abbrev priced : tie.Else4 → tie.Else2
+priced c = c .before .before .before .before .before
+
+abbrev lowered : tie.After-lowers → tie.Else4
+lowered c = c .before .before .before
+
+refused-requires : tie.Need-refused-requires
+refused-requires c κs = search needs
 
 returns : tie.Need-returns
-returns c = offer-phase _ _ _ _ (c .if1 .taken)
+returns c = rw (c .refused .ensures) (offer-phase _ _ _ _ (c .before .if1 .taken))
+
+may-offer-requires : tie.Need-may-offer-requires
+may-offer-requires c κs = search needs
+
+refused-requires-2 : tie.Need-refused-requires-2
+refused-requires-2 c κs = search needs
 
 returns-2 : tie.Need-returns-2
-returns-2 c = offer-number-low _ _ _ _ (c .before .if1 .left) (c .if2 .taken)
+returns-2 c = rw (c .refused2 .ensures) (offer-barred _ _ _ _ (c .before .before .before .if1 .left) (sym (c .before .before .may-offer .ensures) ∙ not-true _ (c .before .if2 .taken)))
 
-returns-3 : tie.Need-returns-3
-returns-3 c = offer-number-high _ _ _ _ (c .before .before .if1 .left) (c .before .if2 .left) (c .if3 .taken)
+sub-i : tie.Need-sub-i
+sub-i c = let b = bounds c in omega arith
 
 cast-i : tie.Need-cast-i
 cast-i c = search needs
-
-element-copy-out-if4 : tie.Need-element-copy-out-if4
-element-copy-out-if4 c = search needs
-
-returns-4 : tie.Need-returns-4
-returns-4 c = offer-kind _ _ _ _ (c .before .before .before .before .if1 .left) (c .before .before .before .if2 .left) (c .before .before .if3 .left) (c .if4 .taken)
 
 mul-history : tie.Need-mul-history
 mul-history c = search needs
 
 element-copy-out-history : tie.Need-element-copy-out-history
-element-copy-out-history c = search needs
+element-copy-out-history c = let b = bounds c in omega arith
 
-returns-5 : tie.Need-returns-5
-returns-5 c = offer-second _ _ _ _ (allowed (c .before .before .before)) _ (c .if5 .taken)
+refused-requires-3 : tie.Need-refused-requires-3
+refused-requires-3 c κs = search needs
 
-returns-6 : tie.Need-returns-6
-returns-6 c = offer-lengths _ _ _ _ (allowed (c .before .before .before .before)) _ (c .before .if5 .left) (c .if6 .taken)
+returns-3 : tie.Need-returns-3
+returns-3 c =
+    let x = c .before .before .before .before in
+    rw (c .refused3 .ensures) (offer-second _ _ _ _ (x .before .before .if1 .left) (allowed x) _ (c .before .if3 .taken))
 
-returns-7 : tie.Need-returns-7
-returns-7 c = offer-long _ _ _ _ (allowed (c .before .before .before .before .before)) _ (c .before .before .if5 .left) (c .before .if6 .left) (c .if7 .taken)
+prices-ok-requires : tie.Need-prices-ok-requires
+prices-ok-requires c κs = search needs
 
-prices-fall-requires : tie.Need-prices-fall-requires
-prices-fall-requires c κs = search needs
+refused-requires-4 : tie.Need-refused-requires-4
+refused-requires-4 c κs = search needs
 
-returns-8 : tie.Need-returns-8
-returns-8 c =
-    offer-prices _ _ _ _ (allowed (c .before .before .before .before .before .before .before)) _ (c .before .before .before .before .if5 .left) (c .before .before .before .if6 .left) (c .before .before .if7 .left)
-    (sym (c .before .prices-fall .ensures) ∙ not-true _ (c .if8 .taken))
+returns-4 : tie.Need-returns-4
+returns-4 c =
+    let x = c .before .before .before .before .before .before in
+    rw (c .refused4 .ensures)
+    (offer-prices _ _ _ _ (x .before .before .if1 .left) (allowed x) _ (c .before .before .before .if3 .left)
+    (sym (c .before .before .prices-ok .ensures) ∙ not-true _ (c .before .if4 .taken)))
 
 mul-declared : tie.Need-mul-declared
 mul-declared c = search needs
 
 element-copy-out-declared : tie.Need-element-copy-out-declared
-element-copy-out-declared c = search needs
+element-copy-out-declared c = let b = bounds (priced c) in omega arith
 
 mul-lowers : tie.Need-mul-lowers
 mul-lowers c = search needs
 
 element-copy-out-lowers : tie.Need-element-copy-out-lowers
-element-copy-out-lowers c = search needs
+element-copy-out-lowers c = let b = bounds (priced (c .before)) in omega arith
 
 lowers-requires : tie.Need-lowers-requires
 lowers-requires c κs = search needs
 
-returns-9 : tie.Need-returns-9
-returns-9 c =
-    offer-levels _ _ _ _ (allowed (c .before .before .before .before .before .before .before .before .before .before .before)) _ (c .before .before .before .before .before .before .before .before .if5 .left)
-    (c .before .before .before .before .before .before .before .if6 .left)
-    (c .before .before .before .before .before .before .if7 .left)
-    (sym (c .before .before .before .before .before .prices-fall .ensures) ∙ not-false _ (c .before .before .before .before .if8 .left))
+refused-requires-5 : tie.Need-refused-requires-5
+refused-requires-5 c κs = search needs
+
+returns-5 : tie.Need-returns-5
+returns-5 c =
+    let y = lowered (c .before .before) in
+    let x = priced y in
+    rw (c .refused5 .ensures)
+    (offer-levels _ _ _ _ (x .before .before .if1 .left) (allowed x) _ (y .before .before .if3 .left) (sym (y .before .prices-ok .ensures) ∙ not-false _ (y .if4 .left))
     _
-    (sym (c .before .lowers .ensures) ∙ not-true _ (c .if9 .taken))
+    (sym (c .before .before .lowers .ensures) ∙ not-true _ (c .before .if5 .taken)))
 
 offer-requires : tie.Need-offer-requires
 offer-requires c κs = search needs
 
-mul-t23 : tie.Need-mul-t23
-mul-t23 c = search needs
+mul-t16 : tie.Need-mul-t16
+mul-t16 c = search needs
 
 element-set-from-next : tie.Need-element-set-from-next
-element-set-from-next c = search needs
+element-set-from-next c = let b = bounds (priced (lowered (c .before .before))) in omega arith
 
-returns-10 : tie.Need-returns-10
-returns-10 c =
-    offer-taken _ _ _ _ (allowed (c .before .before .before .before .before .before .before .before .before .before .before .before)) _ (c .before .before .before .before .before .before .before .before .before .if5 .left)
-    (c .before .before .before .before .before .before .before .before .if6 .left)
-    (c .before .before .before .before .before .before .before .if7 .left)
-    (sym (c .before .before .before .before .before .before .prices-fall .ensures) ∙ not-false _ (c .before .before .before .before .before .if8 .left))
+returns-6 : tie.Need-returns-6
+returns-6 c =
+    let y = lowered (c .before .before) in
+    let x = priced y in
+    offer-taken _ _ _ _ (x .before .before .if1 .left) (allowed x) _ (y .before .before .if3 .left) (sym (y .before .prices-ok .ensures) ∙ not-false _ (y .if4 .left))
     _
-    (sym (c .before .before .lowers .ensures) ∙ not-false _ (c .before .if9 .left))
+    (sym (c .before .before .lowers .ensures) ∙ not-false _ (c .before .if5 .left))
     _
     (c .offer .ensures)
 
@@ -105,26 +122,28 @@ pub offer-spec : {M : Type 1} → statement M
 offer-spec =
     tie.close
     (tie.spec
+    refused-requires
     returns
+    may-offer-requires
+    refused-requires-2
     returns-2
-    returns-3
+    sub-i
     cast-i
-    element-copy-out-if4
-    returns-4
     mul-history
     element-copy-out-history
-    returns-5
-    returns-6
-    returns-7
-    prices-fall-requires
-    returns-8
+    refused-requires-3
+    returns-3
+    prices-ok-requires
+    refused-requires-4
+    returns-4
     mul-declared
     element-copy-out-declared
     mul-lowers
     element-copy-out-lowers
     lowers-requires
-    returns-9
+    refused-requires-5
+    returns-5
     offer-requires
-    mul-t23
+    mul-t16
     element-set-from-next
-    returns-10)
+    returns-6)

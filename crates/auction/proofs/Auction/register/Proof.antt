@@ -5,31 +5,40 @@ use mathlib.Core.Bool.{true}
 use native.Mathlib.Omega.{arith}
 use borrow.Author.Needs.{needs}
 use borrow.Author.Tests.{not-true, not-false}
-use Rattle.auction.specs.Called.{numbersFree}
+use Rattle.auction.specs.Tests.{numbersFree}
 use Rattle.auction.proofs.Registering.{free-number, register-phase, register-numbers, register-declaration, register-taken}
 use Rattle.auction.proofs.Auction.register.Statement.{statement}
 use Rattle.auction.proofs.Auction.register.Tie as tie
 
-free : (c : tie.Else2) → numbersFree (c .before .before .before .before .before .before .before .args .self .projects) (c .before .before .before .before .before .before .before .args .project) (c .before .before .before .before .before .before .before .args .developer) ≡ true
+free : (c : tie.Else2) → let s = c .before .before .before .before .before .before .before .args in numbersFree (s .self .projects) (s .project) (s .developer) ≡ true
 free c = sym (c .before .numbers-ok .ensures) ∙ not-false _ (c .if2 .left)
 
-bounds : (c : tie.Else2) → (1 ≤ c .before .before .before .before .before .before .before .args .developer) × (c .before .before .before .before .before .before .before .args .developer ≤ 32)
+bounds : (c : tie.Else2) → let s = c .before .before .before .before .before .before .before .args in (1 ≤ s .developer) × (s .developer ≤ 32)
 bounds c = free-number _ _ _ (free c)
 
+refused-requires : tie.Need-refused-requires
+refused-requires c κs = search needs
+
 returns : tie.Need-returns
-returns c = register-phase _ _ _ _ _ _ _ (c .if1 .taken)
+returns c = rw (c .refused .ensures) (register-phase _ _ _ _ _ _ _ (c .before .if1 .taken))
 
 numbers-ok-requires : tie.Need-numbers-ok-requires
 numbers-ok-requires c κs = search needs
 
+refused-requires-2 : tie.Need-refused-requires-2
+refused-requires-2 c κs = search needs
+
 returns-2 : tie.Need-returns-2
-returns-2 c = register-numbers _ _ _ _ _ _ _ (c .before .before .before .before .if1 .left) (sym (c .before .numbers-ok .ensures) ∙ not-true _ (c .if2 .taken))
+returns-2 c = rw (c .refused2 .ensures) (register-numbers _ _ _ _ _ _ _ (c .before .before .before .before .before .if1 .left) (sym (c .before .before .numbers-ok .ensures) ∙ not-true _ (c .before .if2 .taken)))
 
 declaration-ok-requires : tie.Need-declaration-ok-requires
 declaration-ok-requires c κs = search needs
 
+refused-requires-3 : tie.Need-refused-requires-3
+refused-requires-3 c κs = search needs
+
 returns-3 : tie.Need-returns-3
-returns-3 c = register-declaration _ _ _ _ _ _ _ (c .before .before .before .before .before .before .if1 .left) (free (c .before .before)) (sym (c .before .declaration-ok .ensures) ∙ not-true _ (c .if3 .taken))
+returns-3 c = rw (c .refused3 .ensures) (register-declaration _ _ _ _ _ _ _ (c .before .before .before .before .before .before .before .if1 .left) (free (c .before .before .before)) (sym (c .before .before .declaration-ok .ensures) ∙ not-true _ (c .before .if3 .taken)))
 
 sub-i : tie.Need-sub-i
 sub-i c = let b = bounds (c .before .before) in omega arith
@@ -80,10 +89,13 @@ pub register-spec : {M : Type 1} → statement M
 register-spec =
     tie.close
     (tie.spec
+    refused-requires
     returns
     numbers-ok-requires
+    refused-requires-2
     returns-2
     declaration-ok-requires
+    refused-requires-3
     returns-3
     sub-i
     cast-i

@@ -1,5 +1,5 @@
 -- True past the first opening; else the supply of the quantities against Dem(A).
-use mathlib.Core.Path.{_≡_, ap₂}
+use mathlib.Core.Path.{ap₂}
 use Prim.Native.Nat.{ℕ}
 use lib.Dec.{leb}
 use borrow.Author.Needs.{needs}

@@ -1,4 +1,4 @@
--- Bytes laid over the tail of a buffer, behind what was laid over its start.
+-- Bytes laid over a buffer's start, and texts laid one behind the other, each into the tail of the buffer that is left.
 use Prim.Native.Nat.{ℕ, _+_, _-_, _≤_}
 use mathlib.Core.Path.{_≡_, sym, ap, ap₂, _∙_}
 use mathlib.Core.List.{List, [], _++_, append-assoc, append-nil}
@@ -6,7 +6,14 @@ use native.Mathlib.Omega.{arith}
 use lib.ListN.{length, take, drop, length-append, length-drop, drop-of-length-le}
 use lib.Seq.{take-at, drop-at, take-all, drop-drop, length-take-le, take-add, take-append-seam, drop-append-seam, take-length}
 use borrow.Rule.Slice.PartMut.{putMid, midOf}
-use Rattle.awarding.specs.Awarding.{laid}
+
+-- a text over a buffer's start: the bytes behind it stay
+unfoldable pub laid : List ℕ → List ℕ → List ℕ
+laid text old = text ++ drop (length text) old
+
+pub length-laid : (t o : List ℕ) → length t ≤ length o → length (laid t o) ≡ length o
+unfolding laid
+length-laid t o h = omega (arith, length-append t (drop (length t) o), length-drop (length t) o)
 
 -- the tail that is lent
 pub tail-is : (a : ℕ) (xs : List ℕ) → midOf a (length xs - a) xs ≡ drop a xs
@@ -19,9 +26,9 @@ tail-back a xs ys =
     ∙ ap (λ (l : List ℕ). take a xs ++ l) (append-nil ys)
 
 -- what a buffer holds once t was laid over the tail behind s
-grow :
-    (s t o xs ys : List ℕ) (a : ℕ) → xs ≡ laid s o → a ≡ length s → ys ≡ laid t (midOf a (length xs - a) xs) →
-    putMid a (length xs - a) xs ys ≡ laid (s ++ t) o
+pub grow : (s t o xs ys : List ℕ) (a : ℕ) → xs ≡ laid s o → a ≡ length s → ys ≡ laid t (midOf a (length xs - a) xs)
+    → putMid a (length xs - a) xs ys ≡ laid (s ++ t) o
+unfolding laid
 grow s t o xs ys a ex ea ey =
     let d : drop a xs ≡ drop (length s) o = ap (drop a) ex ∙ drop-at s (drop (length s) o) a (sym ea) in
     let y : ys ≡ t ++ drop (length s + length t) o =
@@ -30,13 +37,14 @@ grow s t o xs ys a ex ea ey =
     tail-back a xs ys ∙ ap₂ _++_ p y ∙ sym (append-assoc s t (drop (length s + length t) o))
     ∙ ap (λ (n : ℕ). (s ++ t) ++ drop n o) (sym (length-append s t))
 
--- the buffer xs, o at first, holds the first `used` bytes of text; rest is what is left of it
+-- the buffer xs, o at first, holds the first `used` bytes of a text; rest is what is left of it
 pub record Filled (text o xs rest : List ℕ) (used : ℕ) : Type 0 where
   pub inside : used ≤ length text
   pub left : drop used text ≡ rest
   pub holds : xs ≡ laid (take used text) o
 
 module _ (text o xs rest : List ℕ) (used : ℕ) where
+  -- one part more, laid over the tail
   pub filled-more :
       (t : List ℕ) (ys : List ℕ) → Filled text o xs (t ++ rest) used → ys ≡ laid t (midOf used (length xs - used) xs) →
       Filled text o (putMid used (length xs - used) xs ys) rest (used + length t)
@@ -51,7 +59,8 @@ module _ (text o xs rest : List ℕ) (used : ℕ) where
         holds = grow (take used text) t o xs ys used (f .holds) (sym lp) e ∙ ap (λ (l : List ℕ). laid l o) (sym p);
       }
 
-  pub filled-all : Filled text o xs rest used → rest ≡ [] → xs ≡ laid text o
+  -- nothing left
+  pub filled-all : Filled text o xs rest used → rest ≡ [] → (used ≡ length text) × (xs ≡ laid text o)
   filled-all f e =
       let n : used ≡ length text = omega (arith, ap length (f .left ∙ e), length-drop used text, f .inside) in
-      f .holds ∙ ap (λ (l : List ℕ). laid l o) (ap (λ (k : ℕ). take k text) n ∙ take-length text)
+      (n, f .holds ∙ ap (λ (l : List ℕ). laid l o) (ap (λ (k : ℕ). take k text) n ∙ take-length text))
