@@ -174,9 +174,9 @@ impl Auction {
     pub const CHOICE_LIMIT: u32 = 65_536;
 
     // The kinds: an existing plant, a new one (document 01, Registration).
-    pub const EXISTING_PLANT: u8 = 1;
+    pub const EXISTING_PLANT: u8 = supply::EXISTING;
 
-    pub const NEW_PLANT: u8 = 2;
+    pub const NEW_PLANT: u8 = supply::NEW;
 
     // The phases (document 01, Rounds).
     pub const FRESH: u8 = 0;
