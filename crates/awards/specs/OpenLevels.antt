@@ -14,7 +14,7 @@ use Rattle.numbers.specs.Lists.{oneTo, lastOr}
 use Rattle.numbers.specs.ListLaws.{Each, Passing, in-keep, any-true, in-map}
 use Rattle.rules.specs.Ledger.{declaredOrZero, Developer, Ledger}
 use Rattle.rules.specs.Clearing.{high, low, developersOf, greatestOf}
-use Rattle.rules.specs.Award.{openToDeveloper, openTo, declaredBy, openLevels, isEmpty, row, rows}
+use Rattle.rules.specs.Award.{openBetween, openToDeveloper, openTo, declaredBy, openLevels, isEmpty, row, rows}
 use Rattle.rules.specs.CheckLaws.{declared-or-zero}
 use Rattle.rules.specs.Projects.{greatest-of-none, greatest-of-upper, greatest-of-attained}
 use Rattle.sound.specs.Sound.{Sound}
@@ -33,7 +33,7 @@ pub record OpenToDeveloper (p : ℕ) (x : Developer) (v : ℕ) : Type 0 where
   pub high : v ≤ high p x
 
 pub open-to-developer : (p : ℕ) (x : Developer) (v : ℕ) → (openToDeveloper p x v ≡ true) ↔ OpenToDeveloper p x v
-unfolding openToDeveloper
+unfolding openToDeveloper openBetween
 open-to-developer p x v = (
   (λ e. let t = and-true _ (leb v (high p x)) e in let u = and-true (declaredOrZero (x .declared .levels) v) _ (t .0) in
       record { declared = u .0; low = leb-true (low p x) v (u .1); high = leb-true v (high p x) (t .1) }),

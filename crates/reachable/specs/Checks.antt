@@ -4,8 +4,8 @@ use mathlib.Core.Path.{_≡_, refl}
 use mathlib.Core.Bool.{Bool, true, false}
 use mathlib.Core.List.{List}
 use native.Mathlib.Omega.{arith}
-use Rattle.rules.specs.Ledger.{Settings, Declaration, SetUp, Register, Open, Offer, Close, Ledger}
-use Rattle.rules.specs.Refusals.{isFresh, isReady, mayOpen, inRound, settingsOk, numbersOk, declarationOk, closingOk, startCovered, isNone, mayOffer, pricesOk, lowering, check, number}
+use Rattle.rules.specs.Ledger.{Settings, Declaration, Offer, SetUp, Register, Open, Close, Developer, Ledger}
+use Rattle.rules.specs.Refusals.{isFresh, isReady, mayOpen, inRound, settingsOk, numbersOk, declarationOk, closingOk, startCovered, isNone, mayOffer, pricesOk, lowering, check, moveNumber, number}
 pub use Rattle.rules.specs.CheckLaws.{Numbers, numbers-facts, levels-facts, Declared, declaration-facts, closing-facts, may-offer-facts, prices-facts}
 
 pub record SetUpPassed (l : Ledger) (s : Settings) : Type 0 where
@@ -14,7 +14,7 @@ pub record SetUpPassed (l : Ledger) (s : Settings) : Type 0 where
 
 pub record RegisterPassed (l : Ledger) (n : ℕ) (x : Declaration) : Type 0 where
   pub phase : isReady (l .phase) ≡ true
-  pub numbers : numbersOk l (x .project) n ≡ true
+  pub numbers : numbersOk (x .project) n (l .developers n .declared .project) ≡ true
   pub declaration : declarationOk l x ≡ true
 
 pub record OpenPassed (l : Ledger) (c : ℕ) : Type 0 where
@@ -22,12 +22,12 @@ pub record OpenPassed (l : Ledger) (c : ℕ) : Type 0 where
   pub closing : closingOk l c ≡ true
   pub covered : startCovered l ≡ true
 
-pub record OfferPassed (l : Ledger) (n : ℕ) (ps qs : List ℕ) : Type 0 where
+pub record OfferPassed (l : Ledger) (n : ℕ) (x : Developer) (ps qs : List ℕ) : Type 0 where
   pub phase : inRound (l .phase) ≡ true
-  pub developer : mayOffer l n ≡ true
-  pub first : isNone (l .developers n .offer) ≡ true
-  pub prices : pricesOk l ps qs ≡ true
-  pub levels : lowering (l .developers n .declared .levels) (l .developers n .quantity) qs ≡ true
+  pub developer : mayOffer n (x .declared .kind) ≡ true
+  pub first : isNone (x .offer) ≡ true
+  pub prices : pricesOk (l .closing) (l .opening) ps qs ≡ true
+  pub levels : lowering (x .declared .levels) (x .quantity) qs ≡ true
 
 pub record ClosePassed (l : Ledger) : Type 0 where
   pub phase : inRound (l .phase) ≡ true
@@ -47,7 +47,7 @@ pub register-passed : (l : Ledger) (n : ℕ) (x : Declaration) → number l (Reg
 unfolding number
 register-passed l n x e =
     let p = passed (isReady (l .phase)) 1 _ e in
-    let q = passed (numbersOk l (x .project) n) 2 _ (p .1) in
+    let q = passed (numbersOk (x .project) n (l .developers n .declared .project)) 2 _ (p .1) in
     let r = passed (declarationOk l x) 3 _ (q .1) in
     record { phase = p .0; numbers = q .0; declaration = r .0 }
 
@@ -59,14 +59,14 @@ open-passed l c e =
     let r = passed (startCovered l) 8 _ (q .1) in
     record { phase = p .0; closing = q .0; covered = r .0 }
 
-pub offer-passed : (l : Ledger) (n : ℕ) (ps qs : List ℕ) → number l (Offer n ps qs) ≡ 0 → OfferPassed l n ps qs
-unfolding number
-offer-passed l n ps qs e =
+pub offer-passed : (l : Ledger) (n : ℕ) (x : Developer) (ps qs : List ℕ) → moveNumber l n x (Offer ps qs) ≡ 0 → OfferPassed l n x ps qs
+unfolding moveNumber
+offer-passed l n x ps qs e =
     let p = passed (inRound (l .phase)) 1 _ e in
-    let q = passed (mayOffer l n) 2 _ (p .1) in
-    let r = passed (isNone (l .developers n .offer)) 7 _ (q .1) in
-    let s = passed (pricesOk l ps qs) 5 _ (r .1) in
-    let t = passed (lowering (l .developers n .declared .levels) (l .developers n .quantity) qs) 6 _ (s .1) in
+    let q = passed (mayOffer n (x .declared .kind)) 2 _ (p .1) in
+    let r = passed (isNone (x .offer)) 7 _ (q .1) in
+    let s = passed (pricesOk (l .closing) (l .opening) ps qs) 5 _ (r .1) in
+    let t = passed (lowering (x .declared .levels) (x .quantity) qs) 6 _ (s .1) in
     record { phase = p .0; developer = q .0; first = r .0; prices = s .0; levels = t .0 }
 
 pub close-passed : (l : Ledger) → number l Close ≡ 0 → ClosePassed l

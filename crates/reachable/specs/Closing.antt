@@ -7,10 +7,10 @@ use mathlib.Core.List.{List, [], _++_}
 use native.Mathlib.Omega.{arith}
 use native.Mathlib.Nat.{le-refl}
 use Rattle.numbers.specs.Cases.{clash}
-use Rattle.rules.specs.Ledger.{Step, Close, Standing, none, made, Developer, Phase, Round, Ledger}
+use Rattle.rules.specs.Ledger.{Step, Close, Standing, none, made, Developer, Phase, Round, Ledger, withPhase, withDevelopers}
 use Rattle.rules.specs.Clearing.{highest, high}
 use Rattle.rules.specs.Refusals.{isFresh, lowering}
-use Rattle.rules.specs.Rounds.{added, lastLevel, applied, phaseAfter, accepted}
+use Rattle.rules.specs.Rounds.{withdrawsAll, added, lastLevel, applied, phaseAfter, accepted}
 use Rattle.rules.specs.RoundLaws.{last-level-append, by-missing, by-phase-after}
 use Rattle.sound.specs.Sound.{started, appliedTo, levelsOf, Descends, SoundDeveloper, SoundOffer, Stands, RoundPrices, Sound}
 use Rattle.reachable.specs.Checks.{ClosePassed}
@@ -56,7 +56,7 @@ module _ (l : Ledger) (s : Sound l) (p : ClosePassed l) where
   prices = s .prices (ap started round)
 
   abbrev next : Ledger
-  next = record { phase = phaseAfter l; settings = l .settings; opening = l .opening; closing = l .closing; developers = λ n. applied (l .opening) (l .developers n) }
+  next = withPhase (withDevelopers l (λ n. applied (l .opening) (l .developers n))) (phaseAfter l)
 
   before : (x : Developer) → SoundDeveloper (appliedTo (l .phase) l) (l .settings .a) x → SoundDeveloper (l .opening) (l .settings .a) x
   before x d = subst (λ (q : Phase). SoundDeveloper (appliedTo q l) (l .settings .a) x) round d
@@ -65,7 +65,7 @@ module _ (l : Ledger) (s : Sound l) (p : ClosePassed l) where
   applied-held n x h = applied-sound l x prices (before x (h .developer)) (h .offer)
 
   each : (n : ℕ) → Kept next n (applied (l .opening) (l .developers n))
-  unfolding SoundOffer applied added lastLevel
+  unfolding SoundOffer applied added withdrawsAll lastLevel
   each n = ⊎-elim
       (λ e. inl (ap (applied (l .opening)) e))
       (λ h. inr (record {
@@ -77,7 +77,7 @@ module _ (l : Ledger) (s : Sound l) (p : ClosePassed l) where
 
   -- withdrawals at A and below leave the high at A
   high-stays : (n : ℕ) → high (l .settings .a) (applied (l .opening) (l .developers n)) ≡ high (l .settings .a) (l .developers n)
-  unfolding high applied added
+  unfolding high applied added withdrawsAll
   high-stays n = ⊎-elim
       (λ e. subst (λ (d : Developer). high (l .settings .a) (applied (l .opening) d) ≡ high (l .settings .a) d) (sym e) refl)
       (λ h. high-at-start _ _ _ (applied-held n (l .developers n) h) ∙ sym (high-at-start _ _ _ (h .developer)))

@@ -7,10 +7,9 @@ use mathlib.Core.List.{[]}
 use lib.Dec.{eqb}
 use borrow.Author.Tests.{eqb-true}
 use Rattle.numbers.specs.Cases.{clash}
-use Rattle.rules.specs.Ledger.{Standing, none, made, Developer, Phase, Fresh, Ready, Round, Between, Closed, Ledger, nobody}
+use Rattle.rules.specs.Ledger.{Standing, none, made, Developer, Phase, Fresh, Ready, Round, Between, Closed, Ledger, nobody, put, withDevelopers}
 use Rattle.rules.specs.Clearing.{covered}
 use Rattle.rules.specs.Refusals.{isFresh, isReady, mayOpen, inRound}
-use Rattle.rules.specs.Rounds.{put}
 use Rattle.sound.specs.Sound.{started, appliedTo, SoundDeveloper, SoundOffer, Stands, Sound}
 pub use Rattle.clearing.specs.ClosingPrice.{started-not-fresh}
 
@@ -52,9 +51,6 @@ by-put P n x f h g m = go (eqb m n) refl
     go false e = g m
 
 -- ---- the ledger with other developers
-
-abbrev pub withDevelopers : Ledger → (ℕ → Developer) → Ledger
-withDevelopers l f = record { phase = l .phase; settings = l .settings; opening = l .opening; closing = l .closing; developers = f }
 
 applied-to-with : (p : Phase) (l : Ledger) (f : ℕ → Developer) → appliedTo p l ≡ appliedTo p (withDevelopers l f)
 applied-to-with Fresh l f = refl

@@ -5,7 +5,7 @@ pub mod Supplies
 pub mod Held
 pub mod Registering
 pub mod Opening
-pub mod Offering
+pub mod Moving
 pub mod Closing
 pub mod Reachable
 pub mod Counting

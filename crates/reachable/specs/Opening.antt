@@ -6,7 +6,7 @@ use mathlib.Core.Bool.{true, false, cond, not, _||_}
 use native.Mathlib.Omega.{arith}
 use native.Mathlib.Nat.{le-refl}
 use Rattle.numbers.specs.Cases.{clash}
-use Rattle.rules.specs.Ledger.{Open, Standing, none, made, Developer, Round, Ledger}
+use Rattle.rules.specs.Ledger.{Open, Standing, none, made, Developer, Round, Ledger, withPhase, withPrices}
 use Rattle.rules.specs.Clearing.{developersOf, greatestOf, supply, covered}
 use Rattle.rules.specs.Refusals.{isFresh, isReady, inRound, openingPrice, startCovered}
 use Rattle.rules.specs.Rounds.{accepted}
@@ -34,7 +34,7 @@ module _ (l : Ledger) (c : ℕ) (s : Sound l) (p : OpenPassed l c) where
       (l .phase) (p .phase) (p .covered) (s .start-covered)
 
   abbrev next : Ledger
-  next = record { phase = Round; settings = l .settings; opening = openingPrice l; closing = c; developers = l .developers }
+  next = withPhase (withPrices l (openingPrice l) c) Round
 
   offers : (x : Developer) (o : Standing) → SoundOffer l x o → SoundOffer next x o
   unfolding SoundOffer

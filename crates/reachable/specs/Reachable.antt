@@ -5,20 +5,20 @@ use mathlib.Core.Bool.{true, false}
 use mathlib.Core.List.{List, [], _∷_}
 use native.Mathlib.Omega.{arith}
 use Rattle.numbers.specs.Cases.{clash}
-use Rattle.rules.specs.Ledger.{Settings, Call, SetUp, Register, Open, Offer, Close, Phase, Fresh, Ready, Ledger, nobody, start}
+use Rattle.rules.specs.Ledger.{Settings, Call, SetUp, Register, Open, By, Close, Phase, Fresh, Ready, Ledger, start, withPhase, withSettings}
 use Rattle.rules.specs.Refusals.{isFresh, settingsOk, number}
 use Rattle.rules.specs.Rounds.{accepted, step, stepAll, ledger}
 use Rattle.sound.specs.Sound.{started, Sound}
 use Rattle.reachable.specs.Steps.{by-step}
-use Rattle.reachable.specs.Checks.{SetUpPassed, set-up-passed, register-passed, open-passed, offer-passed, close-passed}
+use Rattle.reachable.specs.Checks.{SetUpPassed, set-up-passed, register-passed, open-passed, close-passed}
 use Rattle.reachable.specs.Opening.{sound-open}
 use Rattle.reachable.specs.Registering.{sound-register}
-use Rattle.reachable.specs.Offering.{sound-offer}
+use Rattle.reachable.specs.Moving.{sound-move}
 use Rattle.reachable.specs.Closing.{sound-close}
 
 -- before the first registration
 abbrev blank : Phase → Settings → Ledger
-blank p t = record { phase = p; settings = t; opening = 0; closing = 0; developers = λ _. nobody }
+blank p t = withPhase (withSettings start t) p
 
 sound-blank : (p : Phase) (t : Settings) → (isFresh p ≡ true → blank p t ≡ start) → (isFresh p ≡ false → settingsOk t ≡ true) → started p ≡ false → Sound (blank p t)
 sound-blank p t h g n = record {
@@ -43,10 +43,11 @@ sound-set-up : (l : Ledger) (t : Settings) → Sound l → SetUpPassed l t → S
 sound-set-up l t s p = subst (λ (m : Ledger). Sound (accepted m (SetUp t))) (sym (s .fresh (p .phase))) (set-up-start t (p .settings))
 
 sound-accepted : (l : Ledger) (c : Call) → number l c ≡ 0 → Sound l → Sound (accepted l c)
+unfolding number
 sound-accepted l (SetUp t) e s = sound-set-up l t s (set-up-passed l t e)
 sound-accepted l (Register n x) e s = sound-register l n x s (register-passed l n x e)
 sound-accepted l (Open c) e s = sound-open l c s (open-passed l c e)
-sound-accepted l (Offer n ps qs) e s = sound-offer l n ps qs s (offer-passed l n ps qs e)
+sound-accepted l (By n m) e s = sound-move l n m s e
 sound-accepted l Close e s = sound-close l s (close-passed l e)
 
 pub sound-step : (l : Ledger) (c : Call) → Sound l → Sound (step l c)

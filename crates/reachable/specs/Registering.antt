@@ -9,14 +9,14 @@ use lib.Dec.{eqb}
 use borrow.Author.Tests.{eqb-true}
 use Rattle.numbers.specs.Cases.{and-true, clash}
 use Rattle.numbers.specs.ListLaws.{all-true}
-use Rattle.rules.specs.Ledger.{Declaration, highestDeclared, Register, none, Developer, Ready, Ledger}
+use Rattle.rules.specs.Ledger.{Declaration, Register, Developer, Ready, Ledger, put, withDevelopers, newcomer}
 use Rattle.rules.specs.Clearing.{developersOf}
 use Rattle.rules.specs.Refusals.{isFresh, mayJoin, lowering}
-use Rattle.rules.specs.Rounds.{put, lastLevel, accepted}
+use Rattle.rules.specs.Rounds.{lastLevel, accepted}
 use Rattle.rules.specs.Projects.{in-developers-of}
 use Rattle.sound.specs.Sound.{started, Descends, SoundDeclaration, SoundDeveloper, SoundOffer, Stands, Sound}
 use Rattle.reachable.specs.Checks.{RegisterPassed, Numbers, numbers-facts, Declared, declaration-facts}
-use Rattle.reachable.specs.Held.{is-ready, Kept, by-put, withDevelopers, kept-with, sound-with}
+use Rattle.reachable.specs.Held.{is-ready, Kept, by-put, kept-with, sound-with}
 
 -- a developer with a project is registered
 pub used-number : (l : Ledger) → Sound l → (m : ℕ) → 1 ≤ l .developers m .declared .project → (1 ≤ m) × (m ≤ 32)
@@ -33,16 +33,13 @@ joined-kinds l s k kind m e h g =
     let t = and-true (eqb kind 2) (eqb (l .developers m .declared .kind) 2) (all-true (λ j. eqb kind 2 && eqb (l .developers j .declared .kind) 2) (developersOf l k) e m listed) in
     (eqb-true kind 2 (t .0), eqb-true _ 2 (t .1))
 
-abbrev newcomer : Declaration → Developer
-newcomer x = record { declared = x; quantity = highestDeclared x; withdrawals = []; offer = none }
-
 newcomer-sound : (c a : ℕ) (x : Declaration) → SoundDeclaration x → SoundDeveloper c a (newcomer x)
 unfolding lowering Descends lastLevel
 newcomer-sound c a x d = record { declared = d; falls = refl; prices = tt; quantity = refl; existing = λ e. refl }
 
 module _ (l : Ledger) (n : ℕ) (x : Declaration) (s : Sound l) (p : RegisterPassed l n x) where
-  numbers : Numbers l (x .project) n
-  numbers = numbers-facts l (x .project) n (p .numbers)
+  numbers : Numbers (x .project) n (l .developers n .declared .project)
+  numbers = numbers-facts (x .project) n _ (p .numbers)
 
   declared : Declared l x
   declared = declaration-facts l x (p .declaration)

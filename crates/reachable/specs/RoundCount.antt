@@ -8,7 +8,7 @@ use native.Mathlib.Nat.{add-zero, add-assoc}
 use lib.Dec.{eqb}
 use borrow.Author.Tests.{eqb-true}
 use Rattle.numbers.specs.Cases.{not-true, clash}
-use Rattle.rules.specs.Ledger.{Call, SetUp, Register, Open, Offer, Close, Phase, Ledger, start}
+use Rattle.rules.specs.Ledger.{Call, SetUp, Register, Open, By, Close, Phase, Ledger, start}
 use Rattle.rules.specs.Refusals.{isReady, floor, openingPrice, number}
 use Rattle.rules.specs.Rounds.{accepted, step, stepAll, ledger}
 use Rattle.rules.specs.RoundLaws.{by-phase-after}
@@ -23,7 +23,7 @@ unfoldable pub opened : Ledger → Call → ℕ
 opened l (SetUp s) = 0
 opened l (Register n x) = 0
 opened l (Open c) = cond (eqb (number l (Open c)) 0) 1 0
-opened l (Offer n ps qs) = 0
+opened l (By n m) = 0
 opened l Close = 0
 
 unfoldable pub openingsFrom : Ledger → List Call → ℕ
@@ -64,7 +64,7 @@ so-far-step l (Open c) k h = go (eqb (number l (Open c)) 0) refl
     go : (b : Bool) → eqb (number l (Open c)) 0 ≡ b → SoFar (cond b (accepted l (Open c)) l) (k + cond b 1 0)
     go true e = one-more l c k (eqb-true (number l (Open c)) 0 e) h
     go false e = rw add-zero h
-so-far-step l (Offer n ps qs) k h = still l (Offer n ps qs) k h (λ e. record { none = h .none; room = h .room })
+so-far-step l (By n m) k h = still l (By n m) k h (λ e. record { none = h .none; room = h .room })
 so-far-step l Close k h = still l Close k h (λ e. record {
   none = λ f. absurd (clash (by-phase-after l (λ q. started q ≡ true) refl refl) f);
   room = λ f. h .room (ap started (in-round (l .phase) (close-passed l e .phase)));

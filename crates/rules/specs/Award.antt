@@ -8,9 +8,13 @@ use Rattle.rules.specs.Ledger.{declaredOrZero, Developer, Ledger}
 use Rattle.rules.specs.Clearing.{high, low, developersOf, greatestOf, demandAt}
 use Rattle.choices.specs.Choices.{choices, covering, bestOf}
 
--- open to a developer: declared by it, or 0, and from its own low to its own high at p
+-- open to a developer: declared by it, or 0, and from its own low to its own high
+unfoldable pub openBetween : List ℕ → ℕ → ℕ → ℕ → Bool
+openBetween levels low high v = declaredOrZero levels v && leb low v && leb v high
+
+-- at p
 unfoldable pub openToDeveloper : ℕ → Developer → ℕ → Bool
-openToDeveloper p x v = declaredOrZero (x .declared .levels) v && leb (low p x) v && leb v (high p x)
+openToDeveloper p x v = openBetween (x .declared .levels) (low p x) (high p x) v
 
 -- open, a term of document 01: open to some developer of the project, and not below the project's low
 unfoldable pub openTo : Ledger → ℕ → ℕ → ℕ → Bool

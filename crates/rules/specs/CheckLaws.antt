@@ -14,7 +14,7 @@ use Rattle.numbers.specs.ListLaws.{last-in, member-true}
 use Rattle.curve.specs.Demand.{inBounds, InBounds}
 use Rattle.curve.specs.Range.{in-bounds}
 use Rattle.rules.specs.Ledger.{Settings, Declaration, declaredOrZero, Ledger}
-use Rattle.rules.specs.Refusals.{settingsOk, isNumber, numbersOk, rising, levelsOk, mayJoin, declarationOk, floor, openingPrice, closingOk, mayOffer, falling, pricesOk, lowering}
+use Rattle.rules.specs.Refusals.{settingsOk, isNumber, numbersOk, isKind, rising, levelsOk, mayJoin, declarationOk, floor, openingPrice, closingOk, mayOffer, falling, pricesOk, lowering}
 
 -- ---- set-up
 
@@ -35,21 +35,21 @@ in-settings s e =
 pub is-number : (n : ℕ) → isNumber n ≡ true → (1 ≤ n) × (n ≤ 32)
 is-number n e = let t = and-true (leb 1 n) (leb n 32) e in (leb-true 1 n (t .0), leb-true n 32 (t .1))
 
-pub record Numbers (l : Ledger) (k n : ℕ) : Type 0 where
+pub record Numbers (k n project : ℕ) : Type 0 where
   pub project-low : 1 ≤ k
   pub project-high : k ≤ 32
   pub number-low : 1 ≤ n
   pub number-high : n ≤ 32
-  pub unused : l .developers n .declared .project ≡ 0
+  pub unused : project ≡ 0
 
-pub numbers-facts : (l : Ledger) (k n : ℕ) → numbersOk l k n ≡ true → Numbers l k n
+pub numbers-facts : (k n project : ℕ) → numbersOk k n project ≡ true → Numbers k n project
 unfolding numbersOk
-numbers-facts l k n e =
-    let t = and-true (isNumber k && isNumber n) _ e in
+numbers-facts k n project e =
+    let t = and-true (isNumber k && isNumber n) (eqb project 0) e in
     let u = and-true (isNumber k) (isNumber n) (t .0) in
     let v = is-number k (u .0) in
     let w = is-number n (u .1) in
-    record { project-low = v .0; project-high = v .1; number-low = w .0; number-high = w .1; unused = eqb-true _ 0 (t .1) }
+    record { project-low = v .0; project-high = v .1; number-low = w .0; number-high = w .1; unused = eqb-true project 0 (t .1) }
 
 pub record Levels (ls : List ℕ) : Type 0 where
   pub some : 1 ≤ length ls
@@ -96,8 +96,8 @@ pub record Declared (l : Ledger) (x : Declaration) : Type 0 where
 pub declaration-facts : (l : Ledger) (x : Declaration) → declarationOk l x ≡ true → Declared l x
 unfolding declarationOk
 declaration-facts l x e =
-    let t = and-true ((eqb (x .kind) 1 || eqb (x .kind) 2) && levelsOk (x .levels)) _ e in
-    let u = and-true (eqb (x .kind) 1 || eqb (x .kind) 2) (levelsOk (x .levels)) (t .0) in
+    let t = and-true (isKind (x .kind) && levelsOk (x .levels)) _ e in
+    let u = and-true (isKind (x .kind)) (levelsOk (x .levels)) (t .0) in
     record { kind = ⊎-map (eqb-true (x .kind) 1) (eqb-true (x .kind) 2) (or-true (eqb (x .kind) 1) _ (u .0)); levels = u .1; joins = t .1 }
 
 -- ---- opening
@@ -110,20 +110,21 @@ closing-facts l c e =
 
 -- ---- offers
 
-pub may-offer-facts : (l : Ledger) (n : ℕ) → mayOffer l n ≡ true → (1 ≤ n) × (n ≤ 32) × (l .developers n .declared .kind ≡ 2)
-may-offer-facts l n e =
-    let t = and-true (isNumber n) (eqb (l .developers n .declared .kind) 2) e in
+pub may-offer-facts : (n kind : ℕ) → mayOffer n kind ≡ true → (1 ≤ n) × (n ≤ 32) × (kind ≡ 2)
+unfolding mayOffer
+may-offer-facts n kind e =
+    let t = and-true (isNumber n) (eqb kind 2) e in
     let u = is-number n (t .0) in
-    (u .0, u .1, eqb-true _ 2 (t .1))
+    (u .0, u .1, eqb-true kind 2 (t .1))
 
-pub record Prices (l : Ledger) (ps qs : List ℕ) : Type 0 where
+pub record Prices (c o : ℕ) (ps qs : List ℕ) : Type 0 where
   pub same : length ps ≡ length qs
   pub few : length ps ≤ 8
-  pub falls : falling (l .closing) (l .opening) ps ≡ true
+  pub falls : falling c o ps ≡ true
 
-pub prices-facts : (l : Ledger) (ps qs : List ℕ) → pricesOk l ps qs ≡ true → Prices l ps qs
+pub prices-facts : (c o : ℕ) (ps qs : List ℕ) → pricesOk c o ps qs ≡ true → Prices c o ps qs
 unfolding pricesOk
-prices-facts l ps qs e =
+prices-facts c o ps qs e =
     let t = and-true (eqb (length ps) (length qs) && leb (length ps) 8) _ e in
     let u = and-true (eqb (length ps) (length qs)) (leb (length ps) 8) (t .0) in
     record { same = eqb-true (length ps) (length qs) (u .0); few = leb-true (length ps) 8 (u .1); falls = t .1 }

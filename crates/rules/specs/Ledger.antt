@@ -1,6 +1,6 @@
 -- The calls, and what the ledger holds (document 01, Registration, Rounds and Closing price and award). Nothing here is the engine's.
 use Prim.Native.Nat.{ℕ}
-use mathlib.Core.Bool.{Bool, _||_}
+use mathlib.Core.Bool.{Bool, cond, _||_}
 use mathlib.Core.List.{List, []}
 use lib.Dec.{eqb}
 use Rattle.numbers.specs.Lists.{lastOr, member}
@@ -35,13 +35,16 @@ pub record Step : Type 0 where
   pub price : ℕ
   pub level : ℕ
 
--- The calls, with any arguments, absurd ones too. A registration and an offer name the developer; an offer lists prices and levels,
--- of any lengths
+-- What a registered developer does for itself: it makes an offer, of prices and levels, of any lengths
+pub data Move : Type 0 where
+  Offer : List ℕ → List ℕ → Move
+
+-- The calls, with any arguments, absurd ones too. A registration and a move name the developer
 pub data Call : Type 0 where
   SetUp : Settings → Call
   Register : ℕ → Declaration → Call
   Open : ℕ → Call
-  Offer : ℕ → List ℕ → List ℕ → Call
+  By : ℕ → Move → Call
   Close : Call
 
 -- the offer of a developer in the open round; one of no steps is an offer too
@@ -92,3 +95,32 @@ start = record {
   closing = 0;
   developers = λ _. nobody;
 }
+
+-- ---- the same with one part replaced
+
+-- developer n is x, the others stay
+abbrev pub put : ℕ → Developer → (ℕ → Developer) → ℕ → Developer
+put n x f m = cond (eqb m n) x (f m)
+
+abbrev pub withPhase : Ledger → Phase → Ledger
+withPhase l p = record { phase = p; settings = l .settings; opening = l .opening; closing = l .closing; developers = l .developers }
+
+abbrev pub withSettings : Ledger → Settings → Ledger
+withSettings l s = record { phase = l .phase; settings = s; opening = l .opening; closing = l .closing; developers = l .developers }
+
+-- a round's opening price and C
+abbrev pub withPrices : Ledger → ℕ → ℕ → Ledger
+withPrices l o c = record { phase = l .phase; settings = l .settings; opening = o; closing = c; developers = l .developers }
+
+abbrev pub withDevelopers : Ledger → (ℕ → Developer) → Ledger
+withDevelopers l f = record { phase = l .phase; settings = l .settings; opening = l .opening; closing = l .closing; developers = f }
+
+abbrev pub withDeveloper : Ledger → ℕ → Developer → Ledger
+withDeveloper l n x = withDevelopers l (put n x (l .developers))
+
+abbrev pub withOffer : Developer → Standing → Developer
+withOffer x o = record { declared = x .declared; quantity = x .quantity; withdrawals = x .withdrawals; offer = o }
+
+-- a developer at its registration
+abbrev pub newcomer : Declaration → Developer
+newcomer x = record { declared = x; quantity = highestDeclared x; withdrawals = []; offer = none }

@@ -6,7 +6,7 @@ use lib.Dec.{leb, ltb, eqb}
 use lib.ListN.{length}
 use Rattle.numbers.specs.Lists.{all}
 use Rattle.curve.specs.Demand.{inBounds}
-use Rattle.rules.specs.Ledger.{Settings, Declaration, declaredOrZero, Call, SetUp, Register, Open, Offer, Close, Standing, none, made, Developer, Phase, Fresh, Ready, Round, Between, Closed, Ledger}
+use Rattle.rules.specs.Ledger.{Settings, Declaration, declaredOrZero, Move, Offer, Call, SetUp, Register, Open, By, Close, Standing, none, made, Developer, Phase, Fresh, Ready, Round, Between, Closed, Ledger}
 use Rattle.rules.specs.Clearing.{developersOf, covered}
 
 -- ---- the phase that accepts a call (document 01, Rounds)
@@ -63,13 +63,13 @@ settingsOk s = inBounds (s .ce) (s .d) (s .m1) (s .m2) && ltb (s .ce / 2) (s .a)
 abbrev pub isNumber : ℕ → Bool
 isNumber n = leb 1 n && leb n 32
 
--- nobody is registered under the number: a registered developer has a project, 1 to 32
-abbrev pub unused : Developer → Bool
-unused x = eqb (x .declared .project) 0
+-- project k and developer n have numbers 1 to 32, and the developer's is not used: the project under which it is registered is 0
+unfoldable pub numbersOk : ℕ → ℕ → ℕ → Bool
+numbersOk k n project = isNumber k && isNumber n && eqb project 0
 
--- project and developer have numbers 1 to 32, and the developer's is not used
-unfoldable pub numbersOk : Ledger → ℕ → ℕ → Bool
-numbersOk l k n = isNumber k && isNumber n && unused (l .developers n)
+-- an existing plant, or a new one
+abbrev pub isKind : ℕ → Bool
+isKind kind = eqb kind 1 || eqb kind 2
 
 -- strictly rising from above v, at most 10^9
 unfoldable pub rising : ℕ → List ℕ → Bool
@@ -86,7 +86,7 @@ mayJoin l k kind = all (λ m. eqb kind 2 && eqb (l .developers m .declared .kind
 
 -- kind 1 or 2, good levels, and a project that the developer may join
 unfoldable pub declarationOk : Ledger → Declaration → Bool
-declarationOk l x = (eqb (x .kind) 1 || eqb (x .kind) 2) && levelsOk (x .levels) && mayJoin l (x .project) (x .kind)
+declarationOk l x = isKind (x .kind) && levelsOk (x .levels) && mayJoin l (x .project) (x .kind)
 
 -- ---- opening (document 01, Rounds)
 
@@ -114,17 +114,17 @@ isNone none = true
 isNone (made ss) = false
 
 -- a developer of kind 2 alone makes offers
-abbrev pub mayOffer : Ledger → ℕ → Bool
-mayOffer l n = isNumber n && eqb (l .developers n .declared .kind) 2
+unfoldable pub mayOffer : ℕ → ℕ → Bool
+mayOffer n kind = isNumber n && eqb kind 2
 
 -- prices fall strictly from below o, and are at least c
 unfoldable pub falling : ℕ → ℕ → List ℕ → Bool
 falling c o [] = true
 falling c o (p ∷ ps) = leb c p && ltb p o && falling c p ps
 
--- price and level lists of equal length, at most 8 steps, prices from C to the opening price less 1
-unfoldable pub pricesOk : Ledger → List ℕ → List ℕ → Bool
-pricesOk l ps qs = eqb (length ps) (length qs) && leb (length ps) 8 && falling (l .closing) (l .opening) ps
+-- price and level lists of equal length, at most 8 steps, prices from c to o less 1: of an offer, from C to the opening price less 1
+unfoldable pub pricesOk : ℕ → ℕ → List ℕ → List ℕ → Bool
+pricesOk c o ps qs = eqb (length ps) (length qs) && leb (length ps) 8 && falling c o ps
 
 -- each level is declared or 0, and strictly below the quantity before it (activity rule, 3.10)
 unfoldable pub lowering : List ℕ → ℕ → List ℕ → Bool
@@ -137,21 +137,25 @@ lowering declared q (v ∷ vs) = declaredOrZero declared v && ltb v q && lowerin
 abbrev pub check : Bool → ℕ → ℕ → ℕ
 check passes n next = cond passes next n
 
--- set-up 2, 1; registration 2, 3, 4; opening 2, 5, 9; offer 2, 3, 8, 6, 7; closing 2
+-- of a move of developer n, whose entry is x: no other developer's entry counts. Offer 2, 3, 8, 6, 7
+unfoldable pub moveNumber : Ledger → ℕ → Developer → Move → ℕ
+moveNumber l n x (Offer ps qs) =
+    check (inRound (l .phase)) 2
+    (check (mayOffer n (x .declared .kind)) 3
+    (check (isNone (x .offer)) 8
+    (check (pricesOk (l .closing) (l .opening) ps qs) 6
+    (check (lowering (x .declared .levels) (x .quantity) qs) 7 0))))
+
+-- set-up 2, 1; registration 2, 3, 4; opening 2, 5, 9; closing 2
 unfoldable pub number : Ledger → Call → ℕ
 number l (SetUp s) = check (isFresh (l .phase)) 2 (check (settingsOk s) 1 0)
 number l (Register n x) =
     check (isReady (l .phase)) 2
-    (check (numbersOk l (x .project) n) 3
+    (check (numbersOk (x .project) n (l .developers n .declared .project)) 3
     (check (declarationOk l x) 4 0))
 number l (Open c) =
     check (mayOpen (l .phase)) 2
     (check (closingOk l c) 5
     (check (startCovered l) 9 0))
-number l (Offer n ps qs) =
-    check (inRound (l .phase)) 2
-    (check (mayOffer l n) 3
-    (check (isNone (l .developers n .offer)) 8
-    (check (pricesOk l ps qs) 6
-    (check (lowering (l .developers n .declared .levels) (l .developers n .quantity) qs) 7 0))))
+number l (By n m) = moveNumber l n (l .developers n) m
 number l Close = check (inRound (l .phase)) 2 0

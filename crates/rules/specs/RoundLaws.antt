@@ -11,8 +11,8 @@ use borrow.Author.Tests.{leb-true, le-leb, ltb-true, lt-ltb, eqb-true, eq-eqb}
 use Rattle.numbers.specs.Cases.{and-true, or-true, or-left, or-right}
 use Rattle.rules.specs.Ledger.{Step, Close, Standing, none, made, Developer, Phase, Between, Closed, Ledger}
 use Rattle.rules.specs.Clearing.{developersOf, greatestOf, supply, demandAt}
-use Rattle.rules.specs.Refusals.{inRound, floor}
-use Rattle.rules.specs.Rounds.{added, lastLevel, applied, supplyAfter, phaseAfter, accepted, excess}
+use Rattle.rules.specs.Refusals.{floor}
+use Rattle.rules.specs.Rounds.{withdrawsAll, added, lastLevel, applied, supplyAfter, clears, phaseAfter, accepted, excess}
 
 pub last-level-append : (q : ℕ) (ws vs : List Step) → lastLevel q (ws ++ vs) ≡ lastLevel (lastLevel q ws) vs
 unfolding lastLevel
@@ -23,10 +23,10 @@ last-level-append q (w ∷ ws) vs = last-level-append (w .level) ws vs
 
 -- a missing offer adds a withdrawal to 0 at the opening price o, of a kind 2 developer above 0 alone
 pub by-missing : (P : List Step → Type 0) (o : ℕ) (x : Developer) → (x .declared .kind ≡ 2 → 0 < x .quantity → P (record { price = o; level = 0 } ∷ [])) → ((x .declared .kind ≡ 2 → 0 < x .quantity → ⊥) → P []) → P (added o x none)
-unfolding added
-by-missing P o x h g = go (eqb (x .declared .kind) 2 && ltb 0 (x .quantity)) refl
+unfolding added withdrawsAll
+by-missing P o x h g = go (withdrawsAll (x .declared .kind) (x .quantity)) refl
   where
-    go : (b : Bool) → eqb (x .declared .kind) 2 && ltb 0 (x .quantity) ≡ b → P (cond b (record { price = o; level = 0 } ∷ []) [])
+    go : (b : Bool) → withdrawsAll (x .declared .kind) (x .quantity) ≡ b → P (cond b (record { price = o; level = 0 } ∷ []) [])
     go true e = let t = and-true (eqb (x .declared .kind) 2) (ltb 0 (x .quantity)) e in h (eqb-true _ 2 (t .0)) (ltb-true 0 _ (t .1))
     go false e = g (λ k q. true≢false (rw (eq-eqb (x .declared .kind) 2 k, lt-ltb 0 (x .quantity) q) at e))
 
@@ -84,13 +84,13 @@ module _ (l : Ledger) where
   supply-after-closing = refl
 
   -- the excess and Dem(C) make up that supply
-  pub excess-is-difference : inRound (l .phase) ≡ true → excess l Close +ℤ pos (demandAt l (l .closing)) ≡ pos (supplyAfter l)
+  pub excess-is-difference : excess l +ℤ pos (demandAt l (l .closing)) ≡ pos (supplyAfter l)
   unfolding excess
-  excess-is-difference e = rw e (-ℤ-+ℤ-cancel (pos (supplyAfter l)) (pos (demandAt l (l .closing))))
+  excess-is-difference = -ℤ-+ℤ-cancel (pos (supplyAfter l)) (pos (demandAt l (l .closing)))
 
   -- the auction is closed exactly where supply is at most demand or C is the floor
   pub closed-when : (accepted l Close .phase ≡ Closed) ↔ ((supplyAfter l ≤ demandAt l (l .closing)) ⊎ (l .closing ≡ floor l))
-  unfolding accepted phaseAfter
+  unfolding accepted phaseAfter clears
   closed-when = (decided test refl, (λ h. ap (λ b. cond b Closed Between) (passes h)))
     where
       met : Bool
@@ -108,7 +108,7 @@ module _ (l : Ledger) where
 
   pub by-phase-after : (P : Phase → Type 0) → P Closed → P Between → P (phaseAfter l)
   unfolding phaseAfter
-  by-phase-after P h g = go (leb (supplyAfter l) (demandAt l (l .closing)) || eqb (l .closing) (floor l))
+  by-phase-after P h g = go (clears (supplyAfter l) (demandAt l (l .closing)) (l .closing) (floor l))
     where
       go : (b : Bool) → P (cond b Closed Between)
       go true = h

@@ -1,19 +1,15 @@
 -- What the accepted calls do to the ledger, the ledger of a list of calls, and the answers along it (document 01, Rounds and Closing
 -- price and award).
 use Prim.Native.Nat.{ℕ}
-use mathlib.Core.Bool.{cond, _&&_, _||_}
+use mathlib.Core.Bool.{Bool, cond, _&&_, _||_}
 use mathlib.Core.List.{List, [], _∷_, _++_}
 use lib.Dec.{leb, ltb, eqb}
 use lib.IntN.{ℤ, pos, _-ℤ_}
-use Rattle.rules.specs.Ledger.{highestDeclared, Step, Call, SetUp, Register, Open, Offer, Close, Standing, none, made, Developer, Phase, Ready, Round, Between, Closed, Ledger, start}
+use Rattle.rules.specs.Ledger.{Step, Move, Offer, Call, SetUp, Register, Open, By, Close, Standing, none, made, Developer, Phase, Ready, Round, Between, Closed, Ledger, start, withPhase, withSettings, withPrices, withDevelopers, withDeveloper, withOffer, newcomer}
 use Rattle.rules.specs.Clearing.{supply, demandAt}
-use Rattle.rules.specs.Refusals.{inRound, floor, openingPrice, number}
+use Rattle.rules.specs.Refusals.{floor, openingPrice, number}
 
 -- ---- what an accepted call does (document 01, Rounds and Closing price and award)
-
--- developer n is x, the others stay
-abbrev pub put : ℕ → Developer → (ℕ → Developer) → ℕ → Developer
-put n x f m = cond (eqb m n) x (f m)
 
 -- the steps of an offer's prices and levels
 unfoldable pub steps : List ℕ → List ℕ → List Step
@@ -21,11 +17,15 @@ steps [] qs = []
 steps (p ∷ ps) [] = []
 steps (p ∷ ps) (q ∷ qs) = record { price = p; level = q } ∷ steps ps qs
 
+-- without an offer, a developer of this kind and quantity withdraws all: one of kind 2 that is above 0 (3.7)
+unfoldable pub withdrawsAll : ℕ → ℕ → Bool
+withdrawsAll kind q = eqb kind 2 && ltb 0 q
+
 -- what closing adds to a developer's withdrawals: the steps of its offer, or all at the opening price for a kind 2 developer without one
 -- and above 0 (3.7)
 unfoldable pub added : ℕ → Developer → Standing → List Step
 added o x (made ss) = ss
-added o x none = cond (eqb (x .declared .kind) 2 && ltb 0 (x .quantity)) (record { price = o; level = 0 } ∷ []) []
+added o x none = cond (withdrawsAll (x .declared .kind) (x .quantity)) (record { price = o; level = 0 } ∷ []) []
 
 -- the last level, or q of none
 unfoldable pub lastLevel : ℕ → List Step → ℕ
@@ -45,52 +45,24 @@ applied o x = record {
 unfoldable pub supplyAfter : Ledger → ℕ
 supplyAfter l = supply (λ x. applied (l .opening) x .quantity) l
 
--- the auction is closed if the excess is 0 or less, or C is the floor
+-- the auction is closed if the excess of supply over demand is 0 or less, or C is the floor
+unfoldable pub clears : ℕ → ℕ → ℕ → ℕ → Bool
+clears supply demand c floor = leb supply demand || eqb c floor
+
 unfoldable pub phaseAfter : Ledger → Phase
-phaseAfter l = cond (leb (supplyAfter l) (demandAt l (l .closing)) || eqb (l .closing) (floor l)) Closed Between
+phaseAfter l = cond (clears (supplyAfter l) (demandAt l (l .closing)) (l .closing) (floor l)) Closed Between
+
+-- a developer after an accepted move of its own: an offer stores its steps
+unfoldable pub moved : Developer → Move → Developer
+moved x (Offer ps qs) = withOffer x (made (steps ps qs))
 
 -- the ledger after an accepted call
 unfoldable pub accepted : Ledger → Call → Ledger
-accepted l (SetUp s) = record {
-  phase = Ready;
-  settings = s;
-  opening = l .opening;
-  closing = l .closing;
-  developers = l .developers;
-}
-accepted l (Register n x) = record {
-  phase = l .phase;
-  settings = l .settings;
-  opening = l .opening;
-  closing = l .closing;
-  developers = put n (record { declared = x; quantity = highestDeclared x; withdrawals = []; offer = none }) (l .developers);
-}
-accepted l (Open c) = record {
-  phase = Round;
-  settings = l .settings;
-  opening = openingPrice l;
-  closing = c;
-  developers = l .developers;
-}
-accepted l (Offer n ps qs) = record {
-  phase = l .phase;
-  settings = l .settings;
-  opening = l .opening;
-  closing = l .closing;
-  developers = put n (record {
-    declared = l .developers n .declared;
-    quantity = l .developers n .quantity;
-    withdrawals = l .developers n .withdrawals;
-    offer = made (steps ps qs);
-  }) (l .developers);
-}
-accepted l Close = record {
-  phase = phaseAfter l;
-  settings = l .settings;
-  opening = l .opening;
-  closing = l .closing;
-  developers = λ n. applied (l .opening) (l .developers n);
-}
+accepted l (SetUp s) = withPhase (withSettings l s) Ready
+accepted l (Register n x) = withDeveloper l n (newcomer x)
+accepted l (Open c) = withPhase (withPrices l (openingPrice l) c) Round
+accepted l (By n m) = withDeveloper l n (moved (l .developers n) m)
+accepted l Close = withPhase (withDevelopers l (λ n. applied (l .opening) (l .developers n))) (phaseAfter l)
 
 -- ---- the ledger of a list of calls (document 01, Closing price and award)
 
@@ -108,22 +80,32 @@ ledger cs = stepAll start cs
 
 -- ---- the answers (document 01, Rounds)
 
--- the excess that an accepted closing answers: supply after the withdrawals at C less Dem(C); every other answer has 0
-unfoldable pub excess : Ledger → Call → ℤ
-excess l (SetUp s) = pos 0
-excess l (Register n x) = pos 0
-excess l (Open c) = pos 0
-excess l (Offer n ps qs) = pos 0
-excess l Close = cond (inRound (l .phase)) (pos (supplyAfter l) -ℤ pos (demandAt l (l .closing))) (pos 0)
-
--- a call's whole answer, and those to a list of calls
+-- a call's whole answer
 pub record Answered : Type 0 where
   pub number : ℕ
   pub excess : ℤ
 
-unfoldable pub answer : Ledger → Call → Answered
-answer l c = record { number = number l c; excess = excess l c }
+-- a number, and 0 in every other place
+abbrev pub numberAlone : ℕ → Answered
+numberAlone n = record { number = n; excess = pos 0 }
 
+-- the excess that a closing answers: supply after the withdrawals at C less Dem(C)
+unfoldable pub excess : Ledger → ℤ
+excess l = pos (supplyAfter l) -ℤ pos (demandAt l (l .closing))
+
+-- what an accepted call answers
+unfoldable pub granted : Ledger → Call → Answered
+granted l (SetUp s) = numberAlone 0
+granted l (Register n x) = numberAlone 0
+granted l (Open c) = numberAlone 0
+granted l (By n m) = numberAlone 0
+granted l Close = record { number = 0; excess = excess l }
+
+-- a refusal returns its number with every other number 0 (document 01, The twelve numbers)
+unfoldable pub answer : Ledger → Call → Answered
+answer l c = cond (eqb (number l c) 0) (granted l c) (numberAlone (number l c))
+
+-- the answers to a list of calls
 unfoldable pub answersFrom : Ledger → List Call → List Answered
 answersFrom l [] = []
 answersFrom l (c ∷ cs) = answer l c ∷ answersFrom (step l c) cs

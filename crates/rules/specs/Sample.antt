@@ -8,12 +8,12 @@ use Rattle.numbers.specs.Lists.{oneTo, keep, total, greatest, lastOr, any, all}
 use Rattle.numbers.specs.Least.{leastFrom}
 use Rattle.curve.specs.Demand.{dem, inBounds}
 use Rattle.curve.specs.Marked.{MarkedCases, marked-cases}
-use Rattle.rules.specs.Ledger.{Call, SetUp, Register, Open, Offer, Close, Closed}
+use Rattle.rules.specs.Ledger.{Offer, Call, SetUp, Register, Open, By, Close, Closed}
 use Rattle.rules.specs.Clearing.{after, high, low, developersOf, greatestOf, supply, covered, closingPrice}
-use Rattle.rules.specs.Refusals.{settingsOk, numbersOk, rising, levelsOk, mayJoin, declarationOk, openingPrice, closingOk, startCovered, falling, pricesOk, lowering, number}
-use Rattle.rules.specs.Rounds.{steps, added, lastLevel, applied, supplyAfter, phaseAfter, accepted, step, stepAll, ledger, excess, answer, answersFrom, answers}
+use Rattle.rules.specs.Refusals.{settingsOk, numbersOk, rising, levelsOk, mayJoin, declarationOk, openingPrice, closingOk, startCovered, mayOffer, falling, pricesOk, lowering, moveNumber, number}
+use Rattle.rules.specs.Rounds.{steps, withdrawsAll, added, lastLevel, applied, supplyAfter, clears, phaseAfter, moved, accepted, step, stepAll, ledger, excess, granted, answer, answersFrom, answers}
 use Rattle.choices.specs.Choices.{spread, choices, covering, larger, before, best, bestOf}
-use Rattle.rules.specs.Award.{openToDeveloper, openTo, insert, insertAll, declaredBy, openLevels, row, rows, admissible, coveringChoices, award, preferred, mostPreferred, firstPreferred, winner}
+use Rattle.rules.specs.Award.{openBetween, openToDeveloper, openTo, insert, insertAll, declaredBy, openLevels, row, rows, admissible, coveringChoices, award, preferred, mostPreferred, firstPreferred, winner}
 use Rattle.rules.specs.Settling.{recordsFrom, records, settlingNumber, settlementAt, settlement}
 
 abbrev pub sample : List Call
@@ -24,9 +24,9 @@ sample =
     ∷ Register 3 (record { project = 2; kind = 2; study = 500; day = 20; levels = 200 ∷ [] })
     ∷ Register 4 (record { project = 3; kind = 2; study = 0; day = 0; levels = 150 ∷ [] })
     ∷ Open 25000
-    ∷ Offer 2 (26000 ∷ []) (100 ∷ [])
-    ∷ Offer 3 (26000 ∷ []) (0 ∷ [])
-    ∷ Offer 4 (26000 ∷ []) (0 ∷ [])
+    ∷ By 2 (Offer (26000 ∷ []) (100 ∷ []))
+    ∷ By 3 (Offer (26000 ∷ []) (0 ∷ []))
+    ∷ By 4 (Offer (26000 ∷ []) (0 ∷ []))
     ∷ Close
     ∷ []
 
@@ -52,9 +52,9 @@ SampleSettled =
 pub shown-jointly : MarkedCases × SampleSettled
 unfolding oneTo keep total greatest lastOr any all leastFrom dem inBounds
     after high low developersOf greatestOf supply covered closingPrice
-    settingsOk numbersOk rising levelsOk mayJoin declarationOk openingPrice closingOk startCovered falling pricesOk lowering number
-    steps added lastLevel applied supplyAfter phaseAfter accepted step stepAll ledger excess answer answersFrom answers
+    settingsOk numbersOk rising levelsOk mayJoin declarationOk openingPrice closingOk startCovered mayOffer falling pricesOk lowering moveNumber number
+    steps withdrawsAll added lastLevel applied supplyAfter clears phaseAfter moved accepted step stepAll ledger excess granted answer answersFrom answers
     spread choices covering larger before best bestOf
-    openToDeveloper openTo insert insertAll declaredBy openLevels row rows admissible coveringChoices award preferred mostPreferred firstPreferred winner
+    openBetween openToDeveloper openTo insert insertAll declaredBy openLevels row rows admissible coveringChoices award preferred mostPreferred firstPreferred winner
     recordsFrom records settlingNumber settlementAt settlement
 shown-jointly = (marked-cases, (refl, refl, refl, refl, refl, refl))

@@ -1,0 +1,91 @@
+-- An accepted move of a developer keeps the ledger sound: it changes that developer's entry alone, and of it neither the declaration nor
+-- the withdrawals.
+use Prim.Native.Nat.{ℕ}
+use mathlib.Core.Path.{_≡_, refl, ap, subst, _∙_}
+use mathlib.Core.Logic.{inr, ⊎-elim}
+use mathlib.Core.Bool.{true, false}
+use mathlib.Core.List.{List, []}
+use native.Mathlib.Omega.{arith}
+use Rattle.rules.specs.Ledger.{Declaration, Step, Move, Offer, By, made, Developer, Round, Ledger, put, withDeveloper, withOffer}
+use Rattle.rules.specs.Clearing.{high}
+use Rattle.rules.specs.Refusals.{isFresh, moveNumber}
+use Rattle.rules.specs.Rounds.{steps, moved, accepted}
+use Rattle.sound.specs.Sound.{started, SoundDeveloper, SoundSteps, SoundOffer, Stands, Registered, Sound}
+use Rattle.sound.specs.StepLaws.{steps-prices, steps-levels, steps-length}
+use Rattle.reachable.specs.Checks.{OfferPassed, offer-passed, may-offer-facts, prices-facts}
+use Rattle.reachable.specs.Supplies.{covered-same}
+use Rattle.reachable.specs.Held.{in-round, Kept, by-put, developer-with, kept-with, sound-with}
+
+-- ---- any move: y in the place of developer n's entry
+
+-- with the same declaration and withdrawals, and a sound entry
+pub record Moved (l : Ledger) (n : ℕ) (y : Developer) : Type 0 where
+  pub declared : y .declared ≡ l .developers n .declared
+  pub withdrawals : y .withdrawals ≡ l .developers n .withdrawals
+  pub stands : Stands (withDeveloper l n y) n y
+
+module _ (l : Ledger) (n : ℕ) (y : Developer) (s : Sound l) (f : isFresh (l .phase) ≡ false) (k : Moved l n y) where
+  abbrev next : ℕ → Developer
+  next = put n y (l .developers)
+
+  declared-stays : (m : ℕ) → next m .declared ≡ l .developers m .declared
+  declared-stays = by-put (λ m d. d .declared ≡ l .developers m .declared) n y (l .developers) (k .declared) (λ m. refl)
+
+  withdrawals-stay : (m : ℕ) → next m .withdrawals ≡ l .developers m .withdrawals
+  withdrawals-stay = by-put (λ m d. d .withdrawals ≡ l .developers m .withdrawals) n y (l .developers) (k .withdrawals) (λ m. refl)
+
+  high-stays : (p m : ℕ) → high p (next m) ≡ high p (l .developers m)
+  unfolding high
+  high-stays p m = rw (declared-stays m, withdrawals-stay m)
+
+  pub sound-entry : Sound (withDeveloper l n y)
+  sound-entry = sound-with l next s f (record {
+    idle = λ e m. withdrawals-stay m ∙ s .idle e m;
+    start-covered = λ e. covered-same (withDeveloper l n y) l (l .settings .a) refl (λ m. ap (λ (d : Declaration). d .project) (declared-stays m)) (high-stays (l .settings .a)) ∙ s .start-covered e;
+    each = by-put (Kept (withDeveloper l n y)) n y (l .developers) (inr (k .stands)) (λ m. kept-with l next m (l .developers m) (s .each m));
+    alone = λ m j. rw (declared-stays m, declared-stays j) (s .alone m j);
+  })
+
+-- ---- an offer
+
+offering-sound : (c a : ℕ) (x : Developer) (ss : List Step) → SoundDeveloper c a x → SoundDeveloper c a (withOffer x (made ss))
+offering-sound c a x ss d = record { declared = d .declared; falls = d .falls; prices = d .prices; quantity = d .quantity; existing = d .existing }
+
+module _ (l : Ledger) (n : ℕ) (ps qs : List ℕ) (s : Sound l) (p : OfferPassed l n (l .developers n) ps qs) where
+  abbrev offering : Developer
+  offering = withOffer (l .developers n) (made (steps ps qs))
+
+  given : SoundSteps (withDeveloper l n offering) offering (steps ps qs)
+  given =
+      let f = prices-facts _ _ ps qs (p .prices) in
+      record {
+        round = p .phase;
+        kind = may-offer-facts n _ (p .developer) .2;
+        few = omega (arith, steps-length ps qs (f .same));
+        prices = rw (steps-prices ps qs (f .same)) (f .falls);
+        levels = rw (steps-levels ps qs (f .same)) (p .levels);
+      }
+
+  registered : Registered l n
+  registered = ⊎-elim
+      (λ e. let z : l .developers n .declared .kind ≡ 0 = ap (λ (d : Developer). d .declared .kind) e in absurd (omega (arith, may-offer-facts n _ (p .developer))))
+      (λ h. h) (s .each n)
+
+  offer-moved : Moved l n offering
+  unfolding SoundOffer
+  offer-moved = record {
+    declared = refl;
+    withdrawals = refl;
+    stands = record {
+      number-low = registered .number-low;
+      number-high = registered .number-high;
+      developer = offering-sound _ _ (l .developers n) (steps ps qs) (developer-with l (put n offering (l .developers)) (l .developers n) (registered .developer));
+      offer = given;
+    };
+  }
+
+pub sound-move : (l : Ledger) (n : ℕ) (m : Move) → Sound l → moveNumber l n (l .developers n) m ≡ 0 → Sound (accepted l (By n m))
+unfolding accepted moved
+sound-move l n (Offer ps qs) s e =
+    let p = offer-passed l n (l .developers n) ps qs e in
+    sound-entry l n _ s (ap isFresh (in-round (l .phase) (p .phase))) (offer-moved l n ps qs s p)
