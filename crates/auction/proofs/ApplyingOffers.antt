@@ -9,22 +9,21 @@ use native.Mathlib.Numerals.{add-one}
 use lib.ListN.{length, getD, set, length-append}
 use borrow.Author.Tests.{eq-eqb, ne-eqb}
 use Rattle.numbers.specs.Cases.{le-or-lt}
-use Rattle.rules.specs.Ledger.{Step, Standing, none, made, Developer, Ledger, nobody}
-use Rattle.rules.specs.Clearing.{highest}
-use Rattle.rules.specs.Rounds.{put, added, lastLevel, applied}
+use Rattle.rules.specs.Ledger.{Step, Standing, none, made, Developer, Ledger, nobody, put, withDevelopers}
+use Rattle.rules.specs.Clearing.{ofEach, highest}
+use Rattle.rules.specs.Rounds.{withdrawsAll, added, lastLevel, applied}
 use Rattle.sound.specs.Sound.{Registered, Sound}
 use Rattle.reachable.specs.Histories.{last-level-append, lowering-append}
 use Rattle.reachable.specs.Bounds.{falls-few}
 use Rattle.reachable.specs.Closing.{added-lowers}
-use Rattle.reachable.specs.Held.{by-put, withDevelopers}
-use Rattle.levels.specs.Held.{heldLevels}
+use Rattle.reachable.specs.Held.{by-put}
 use Rattle.history.specs.Held.{held, additions, Applied, LastLevel}
 use Rattle.history.specs.declared.History.{History}
 use Rattle.auction.specs.declared.Auction.{Auction}
-use Rattle.auction.specs.Holds.{ofEach, auctionOf, Holding}
+use Rattle.auction.specs.Holds.{auctionOf, Holding}
 use Rattle.auction.specs.Called.{OffersApplied}
-use Rattle.auction.specs.Tests.{withdrawsAll}
-use Rattle.auction.specs.Places.{numbered-at, put-stores, put-keeps}
+use Rattle.auction.specs.Parts.{withCourses, courses-held}
+use Rattle.auction.specs.Places.{numbered-at, put-stores}
 
 -- ---- one developer
 
@@ -39,7 +38,7 @@ last-level-again q [] = refl
 last-level-again q (w ∷ ws) = refl
 
 applicable : (l : Ledger) → Sound l → (n : ℕ) → Applicable (l .opening) (l .developers n)
-unfolding added lastLevel
+unfolding added withdrawsAll lastLevel
 applicable l s n = ⊎-elim
     (λ e. rw e (record { few = omega arith; last = refl }))
     held-so
@@ -71,19 +70,7 @@ module _ (o : ℕ) (x : Developer) (f : Applicable o x) (r : History) where
 
 -- the auction with the history r and the quantity q at place i
 abbrev pub stored : Auction → ℕ → History → ℕ → Auction
-stored a i r q = record {
-  phase = a .phase;
-  settings = a .settings;
-  opening = a .opening;
-  closing = a .closing;
-  projects = a .projects;
-  kinds = a .kinds;
-  studies = a .studies;
-  days = a .days;
-  quantities = set (a .quantities) i q;
-  declared = a .declared;
-  histories = set (a .histories) i r;
-}
+stored a i r q = withCourses a (set (a .quantities) i q) (set (a .histories) i r)
 
 -- developer n applied
 abbrev appliedAt : ℕ → ℕ → (ℕ → Developer) → ℕ → Developer
@@ -96,27 +83,15 @@ module _ (l : Ledger) (i o : ℕ) (w : i < 32) (f : Applicable o (l .developers 
   stores : {A : Type 0} (g : Developer → A) (v : A) → v ≡ g (applied o x) → set (ofEach g l) i v ≡ ofEach g (withDevelopers l (appliedAt o (suc i) (l .developers)))
   stores g v e = put-stores g l i (applied o x) v w e
 
-  keeps : {A : Type 0} (g : Developer → A) → g (applied o x) ≡ g x → ofEach g l ≡ ofEach g (withDevelopers l (appliedAt o (suc i) (l .developers)))
-  keeps g e = sym (put-keeps g l (suc i) (applied o x) e)
-
   apply-one :
       (a : Auction) (d : History) (missing : Bool) → a ≡ auctionOf l →
       missing ≡ withdrawsAll (getD (a .kinds) i 0) (getD (a .quantities) i 0) → Applied (getD (a .histories) i d) missing o r → LastLevel r (getD (a .quantities) i 0) q →
       stored a i r q ≡ auctionOf (withDevelopers l (appliedAt o (suc i) (l .developers)))
   unfolding auctionOf applied
-  apply-one a d missing h e hs hq = λ j. record {
-    phase = h j .phase;
-    settings = h j .settings;
-    opening = h j .opening;
-    closing = h j .closing;
-    projects = (ap (λ (b : Auction). b .projects) h ∙ keeps (λ y. y .declared .project) refl) j;
-    kinds = (ap (λ (b : Auction). b .kinds) h ∙ keeps (λ y. y .declared .kind) refl) j;
-    studies = (ap (λ (b : Auction). b .studies) h ∙ keeps (λ y. y .declared .study) refl) j;
-    days = (ap (λ (b : Auction). b .days) h ∙ keeps (λ y. y .declared .day) refl) j;
-    quantities = (ap (λ (b : Auction). set (b .quantities) i q) h ∙ stores (λ y. y .quantity) q quantity-next) j;
-    declared = (ap (λ (b : Auction). b .declared) h ∙ keeps (λ y. heldLevels (y .declared .levels)) refl) j;
-    histories = (ap (λ (b : Auction). set (b .histories) i r) h ∙ stores (λ y. held (y .withdrawals) (y .offer)) r history-next) j;
-  }
+  apply-one a d missing h e hs hq =
+      courses-held a l (suc i) (applied o x) h refl
+      (ap (λ (b : Auction). set (b .quantities) i q) h ∙ stores (λ y. y .quantity) q quantity-next)
+      (ap (λ (b : Auction). set (b .histories) i r) h ∙ stores (λ y. held (y .withdrawals) (y .offer)) r history-next)
     where
       kind : getD (a .kinds) i 0 ≡ x .declared .kind
       kind = ap (λ (b : Auction). getD (b .kinds) i 0) h ∙ numbered-at _ i 0 w
@@ -155,12 +130,12 @@ module _ (o : ℕ) (f : ℕ → Developer) where
       (le-or-lt n i)
 
   unmoved : (i n : ℕ) → f n ≡ nobody → appliedUpTo o i f n ≡ nobody
-  unfolding appliedUpTo applied added lastLevel
+  unfolding appliedUpTo applied added withdrawsAll lastLevel
   unmoved zero n e = e
   unmoved (suc i) n e = by-put (λ m y. f m ≡ nobody → y ≡ nobody) (suc i) _ _ (λ z. ap (applied o) (unmoved i (suc i) z)) (unmoved i) n e
 
 all-applied : (l : Ledger) → Sound l → (n : ℕ) → appliedUpTo (l .opening) 32 (l .developers) n ≡ applied (l .opening) (l .developers n)
-unfolding applied added lastLevel
+unfolding applied added withdrawsAll lastLevel
 all-applied l s n = ⊎-elim
     (λ e. unmoved (l .opening) (l .developers) 32 n e ∙ sym (ap (applied (l .opening)) e))
     (λ r. by-then (l .opening) (l .developers) 32 n (r .number-low) (r .number-high))

@@ -1,15 +1,14 @@
 -- Closing a round: refused unless one is open; else the offers are applied, the excess is supply less Dem(C), and the phase follows from it.
 use Prim.Native.Nat.{ℕ, _/_}
-use mathlib.Core.Path.{_≡_, refl, ap, _∙_}
-use mathlib.Core.Bool.{Bool, true, false, cond, _||_}
+use mathlib.Core.Path.{_≡_, refl, ap, ap₂, _∙_}
+use mathlib.Core.Bool.{Bool, true, false, cond}
 use native.Mathlib.Omega.{arith}
-use lib.Dec.{eqb, leb}
 use lib.IntN.{ℤ, pos, _-ℤ_}
 use borrow.Author.Tests.{eq-eqb, ne-eqb}
-use Rattle.rules.specs.Ledger.{Close, Round, Between, Closed, Ledger}
+use Rattle.rules.specs.Ledger.{Close, Round, Between, Closed, Ledger, withDevelopers}
 use Rattle.rules.specs.Clearing.{demandAt}
 use Rattle.rules.specs.Refusals.{isFresh, inRound, floor, number}
-use Rattle.rules.specs.Rounds.{applied, supplyAfter, phaseAfter, accepted, excess}
+use Rattle.rules.specs.Rounds.{applied, supplyAfter, clears, phaseAfter, accepted, excess, Answered, granted}
 use Rattle.sound.specs.Sound.{started, Sound}
 use Rattle.reachable.specs.Held.{in-round}
 use Rattle.rules.specs.CheckLaws.{in-settings}
@@ -19,12 +18,13 @@ use Rattle.supply.specs.ByProjectLaws.{supply-of}
 use Rattle.auction.specs.declared.Auction.{Auction}
 use Rattle.auction.specs.Holds.{phaseNumber, auctionOf}
 use Rattle.auction.specs.Called.{Called, OffersApplied}
+use Rattle.auction.specs.Parts.{withClock, clock-held}
 use Rattle.auction.specs.Tests.{demandBy, phaseNumberAfter}
-use Rattle.auction.proofs.Calls.{refused, Taken, taken}
+use Rattle.auction.proofs.Calls.{Refused, refused, Taken, taken}
 use Rattle.auction.proofs.Phases.{round-is}
 use Rattle.auction.specs.Demands.{demand-is}
 
-pub close-phase : (a : Auction) → (a .phase ≡ 2 → ⊥) → Called Close a a 2 (pos 0)
+pub close-phase : (a : Auction) → (a .phase ≡ 2 → ⊥) → Refused Close a 2
 unfolding number
 close-phase a z = refused Close a 2 (omega arith) (λ l s h. simp (round-is a l h ∙ ne-eqb _ 2 z))
 
@@ -34,25 +34,13 @@ pub record Computed (a b : Auction) (supply demand phase : ℕ) (excess : ℤ) :
   pub applied : OffersApplied a b
   pub supply-is : supply ≡ supplyOf (b .projects) (b .quantities)
   pub demand-is : demand ≡ demandBy (a .settings) (a .closing)
-  pub phase-is : phase ≡ phaseNumberAfter supply demand (a .closing) (a .settings .ce / 2)
+  pub phase-is : phase ≡ phaseNumberAfter (clears supply demand (a .closing) (a .settings .ce / 2))
   pub excess-is : excess ≡ pos supply -ℤ pos demand
 
 module _ (a b : Auction) (q d n : ℕ) (e : ℤ) (k : Computed a b q d n e) where
   -- the auction with the offers applied, in its next phase
   abbrev pub closed : Auction
-  closed = record {
-    phase = n;
-    settings = b .settings;
-    opening = b .opening;
-    closing = b .closing;
-    projects = b .projects;
-    kinds = b .kinds;
-    studies = b .studies;
-    days = b .days;
-    quantities = b .quantities;
-    declared = b .declared;
-    histories = b .histories;
-  }
+  closed = withClock b n (b .settings) (b .opening) (b .closing)
 
   module _ (l : Ledger) (s : Sound l) (h : a ≡ auctionOf l) where
     open-round : inRound (l .phase) ≡ true
@@ -71,31 +59,19 @@ module _ (a b : Auction) (q d n : ℕ) (e : ℤ) (k : Computed a b q d n e) wher
 
     phase-held : n ≡ phaseNumber (phaseAfter l)
     unfolding auctionOf phaseAfter
-    phase-held = k .phase-is ∙ ap (λ (x : Auction). phaseNumberAfter q d (x .closing) (x .settings .ce / 2)) h ∙ rw (supply-held, demand-held) (by-test (leb (supplyAfter l) (demandAt l (l .closing)) || eqb (l .closing) (floor l)))
+    phase-held = k .phase-is ∙ ap (λ (x : Auction). phaseNumberAfter (clears q d (x .closing) (x .settings .ce / 2))) h ∙ rw (supply-held, demand-held) (by-test (clears (supplyAfter l) (demandAt l (l .closing)) (l .closing) (floor l)))
       where
         by-test : (t : Bool) → cond t 4 3 ≡ phaseNumber (cond t Closed Between)
         by-test true = refl
         by-test false = refl
 
-    held-closed : Taken Close closed e l
-    unfolding number excess accepted auctionOf
+    held-closed : Taken Close closed (record { number = 0; excess = e }) l
+    unfolding number granted excess accepted auctionOf
     held-closed = let g = k .applied .right l s h in record {
       number = simp open-round;
-      excess = simp (open-round, k .excess-is, supply-held, demand-held);
-      next = λ i. record {
-        phase = phase-held i;
-        settings = g i .settings;
-        opening = g i .opening;
-        closing = g i .closing;
-        projects = g i .projects;
-        kinds = g i .kinds;
-        studies = g i .studies;
-        days = g i .days;
-        quantities = g i .quantities;
-        declared = g i .declared;
-        histories = g i .histories;
-      };
+      answer = ap (λ (x : ℤ). record { number = 0; excess = x }) (k .excess-is ∙ ap₂ (λ (x y : ℕ). pos x -ℤ pos y) supply-held demand-held);
+      next = clock-held b (withDevelopers l (λ m. applied (l .opening) (l .developers m))) (phaseAfter l) (l .settings) g phase-held (λ i. g i .settings) (λ i. g i .opening) (λ i. g i .closing);
     }
 
-  pub close-taken : Called Close a closed 0 e
-  close-taken = taken Close a closed e held-closed
+  pub close-taken : Called Close a closed (record { number = 0; excess = e })
+  close-taken = taken Close a closed _ refl held-closed

@@ -1,6 +1,5 @@
 mod Calls
 mod Phases
-mod Signed
 mod SettingUp
 mod Registering
 mod Opening

@@ -2,20 +2,17 @@
 use Prim.Native.Nat.{ℕ, _+_, _-_, _≤_, _<_}
 use mathlib.Core.Path.{_≡_, refl, sym, ap, _∙_, subst}
 use mathlib.Core.Bool.{Bool, true, false, cond, _&&_}
-use mathlib.Core.List.{List, map}
+use mathlib.Core.List.{List}
 use mathlib.Core.Logic.{⊎-elim}
 use native.Mathlib.Omega.{arith}
-use lib.Dec.{eqb, leb}
-use lib.IntN.{pos}
+use lib.Dec.{eqb}
 use lib.ListN.{length, getD, set}
 use lib.Seq.{take-append-seam}
 use borrow.Author.Tests.{eq-eqb, ne-eqb}
-use Rattle.numbers.specs.Cases.{and-true}
-use Rattle.numbers.specs.Lists.{oneTo}
-use Rattle.rules.specs.Ledger.{none, made, Developer, Offer, Ledger, nobody}
-use Rattle.rules.specs.Refusals.{inRound, isNumber, mayOffer, isNone, pricesOk, falling, lowering, number}
-use Rattle.rules.specs.CheckLaws.{is-number, prices-facts}
-use Rattle.rules.specs.Rounds.{steps, put, accepted, excess}
+use Rattle.rules.specs.Ledger.{none, made, Developer, Offer, By, Ledger, nobody, withOffer}
+use Rattle.rules.specs.Refusals.{inRound, isNumber, mayOffer, isNone, pricesOk, lowering, moveNumber, number}
+use Rattle.rules.specs.CheckLaws.{is-number, may-offer-facts, prices-facts}
+use Rattle.rules.specs.Rounds.{steps, moved, accepted, numberAlone, granted}
 use Rattle.sound.specs.Sound.{Sound, Registered}
 use Rattle.reachable.specs.Bounds.{offer-fits}
 use Rattle.reachable.specs.Steps.{step-accepted}
@@ -26,20 +23,16 @@ use Rattle.history.specs.Held.{held, offeredNumber, Offered}
 use Rattle.history.specs.HeldLaws.{is-none-by-number, offered-none, steps-length}
 use Rattle.history.specs.declared.History.{History}
 use Rattle.auction.specs.declared.Auction.{Auction}
-use Rattle.auction.specs.Holds.{ofEach, auctionOf}
+use Rattle.auction.specs.Holds.{auctionOf}
 use Rattle.auction.specs.Called.{Called}
-use Rattle.auction.specs.Tests.{mayOfferBy, pricedBy}
-use Rattle.auction.proofs.Calls.{where-true, refused, taken}
+use Rattle.auction.specs.Parts.{withCourses, courses-held}
+use Rattle.auction.proofs.Calls.{where-true, Refused, refused, taken}
 use Rattle.auction.specs.Places.{each-at, put-at, put-keeps}
 use Rattle.auction.proofs.Phases.{round-is}
 
 -- levels that are held are all there
 pub levels-in : (ls : List ℕ) → levelsIn (heldLevels ls) ≡ ls
 levels-in ls = take-append-seam ls _
-
-pub offerer-number : (a : Auction) (n : ℕ) → mayOfferBy a n ≡ true → (1 ≤ n) × (n ≤ 32)
-unfolding mayOfferBy
-offerer-number a n e = is-number n (and-true (isNumber n) _ e .0)
 
 module _ (n : ℕ) (ps qs : List ℕ) (a : Auction) where
   -- what the auction holds of developer n
@@ -63,30 +56,34 @@ module _ (n : ℕ) (ps qs : List ℕ) (a : Auction) where
   in-round : a .phase ≡ 2 → (l : Ledger) → a ≡ auctionOf l → inRound (l .phase) ≡ true
   in-round z l h = round-is a l h ∙ eq-eqb _ 2 z
 
-  may-offer-at : (l : Ledger) → a ≡ auctionOf l → mayOffer l n ≡ mayOfferBy a n
-  unfolding mayOfferBy
+  -- the kind that the auction holds of developer n
+  abbrev kindHeld : ℕ
+  kindHeld = getD (a .kinds) (n - 1) 0
+
+  may-offer-at : (l : Ledger) → a ≡ auctionOf l → mayOffer n (l .developers n .declared .kind) ≡ mayOffer n kindHeld
+  unfolding mayOffer
   may-offer-at l h = where-true (isNumber n) (λ e. let b = is-number n e in ap (λ (k : ℕ). eqb k 2) (sym (kind-at l h (b .0) (b .1))))
 
-  pub offer-phase : (a .phase ≡ 2 → ⊥) → Called (Offer n ps qs) a a 2 (pos 0)
-  unfolding number
+  pub offer-phase : (a .phase ≡ 2 → ⊥) → Refused (By n (Offer ps qs)) a 2
+  unfolding number moveNumber
   offer-phase z = refused _ a 2 (omega arith) (λ l s h. simp (round-is a l h ∙ ne-eqb _ 2 z))
 
-  pub offer-barred : a .phase ≡ 2 → mayOfferBy a n ≡ false → Called (Offer n ps qs) a a 3 (pos 0)
-  unfolding number
+  pub offer-barred : a .phase ≡ 2 → mayOffer n kindHeld ≡ false → Refused (By n (Offer ps qs)) a 3
+  unfolding number moveNumber
   offer-barred z f = refused _ a 3 (omega arith) (λ l s h. simp (in-round z l h, may-offer-at l h ∙ f))
 
-  module _ (z : a .phase ≡ 2) (w : mayOfferBy a n ≡ true) (d : History) where
+  module _ (z : a .phase ≡ 2) (w : mayOffer n kindHeld ≡ true) (d : History) where
     low : 1 ≤ n
-    low = offerer-number a n w .0
+    low = may-offer-facts n _ w .0
 
     high : n ≤ 32
-    high = offerer-number a n w .1
+    high = may-offer-facts n _ w .1
 
     offered-at : (l : Ledger) → a ≡ auctionOf l → offeredNumber (l .developers n .offer) ≡ getD (a .histories) (n - 1) d .offered
     offered-at l h = ap (λ (x : History). x .offered) (sym (history-at l h low high d))
 
-    pub offer-second : 0 < getD (a .histories) (n - 1) d .offered → Called (Offer n ps qs) a a 8 (pos 0)
-    unfolding number
+    pub offer-second : 0 < getD (a .histories) (n - 1) d .offered → Refused (By n (Offer ps qs)) a 8
+    unfolding number moveNumber
     offer-second v = refused _ a 8 (omega arith) (λ l s h. simp (in-round z l h, may-offer-at l h ∙ w, is-none-by-number (l .developers n .offer) ∙ ne-eqb (offeredNumber (l .developers n .offer)) 0 (λ e. let k = offered-at l h in omega arith)))
 
     module _ (none-yet : getD (a .histories) (n - 1) d .offered ≤ 0) where
@@ -96,54 +93,49 @@ module _ (n : ℕ) (ps qs : List ℕ) (a : Auction) where
       first-is : (l : Ledger) → a ≡ auctionOf l → isNone (l .developers n .offer) ≡ true
       first-is l h = is-none-by-number (l .developers n .offer) ∙ eq-eqb _ 0 (offered-at l h ∙ first)
 
-      prices-at : (l : Ledger) → a ≡ auctionOf l → pricesOk l ps qs ≡ pricedBy a ps qs
-      unfolding pricesOk pricedBy auctionOf
-      prices-at l h = ap (λ (x : Auction). eqb (length ps) (length qs) && leb (length ps) 8 && falling (x .closing) (x .opening) ps) (sym h)
+      prices-at : (l : Ledger) → a ≡ auctionOf l → pricesOk (l .closing) (l .opening) ps qs ≡ pricesOk (a .closing) (a .opening) ps qs
+      unfolding auctionOf
+      prices-at l h = ap (λ (x : Auction). pricesOk (x .closing) (x .opening) ps qs) (sym h)
 
-      pub offer-prices : pricedBy a ps qs ≡ false → Called (Offer n ps qs) a a 6 (pos 0)
-      unfolding number
+      pub offer-prices : pricesOk (a .closing) (a .opening) ps qs ≡ false → Refused (By n (Offer ps qs)) a 6
+      unfolding number moveNumber
       offer-prices f = refused _ a 6 (omega arith) (λ l s h. simp (in-round z l h, may-offer-at l h ∙ w, first-is l h, prices-at l h ∙ f))
 
-      module _ (f : pricedBy a ps qs ≡ true) (k : Levels) where
+      module _ (f : pricesOk (a .closing) (a .opening) ps qs ≡ true) (k : Levels) where
         lowering-at : (l : Ledger) → a ≡ auctionOf l → lowering (l .developers n .declared .levels) (l .developers n .quantity) qs ≡ lowering (levelsIn (getD (a .declared) (n - 1) k)) (getD (a .quantities) (n - 1) 0) qs
         lowering-at l h = rw (declared-at l h low high k, quantity-at l h low high, levels-in)
 
-        pub offer-levels : lowering (levelsIn (getD (a .declared) (n - 1) k)) (getD (a .quantities) (n - 1) 0) qs ≡ false → Called (Offer n ps qs) a a 7 (pos 0)
-        unfolding number
+        pub offer-levels : lowering (levelsIn (getD (a .declared) (n - 1) k)) (getD (a .quantities) (n - 1) 0) qs ≡ false → Refused (By n (Offer ps qs)) a 7
+        unfolding number moveNumber
         offer-levels g = refused _ a 7 (omega arith) (λ l s h. simp (in-round z l h, may-offer-at l h ∙ w, first-is l h, prices-at l h ∙ f, lowering-at l h ∙ g))
 
         module _ (g : lowering (levelsIn (getD (a .declared) (n - 1) k)) (getD (a .quantities) (n - 1) 0) qs ≡ true) (r : History) (o : Offered (getD (a .histories) (n - 1) d) ps qs r) where
-          passes : (l : Ledger) → a ≡ auctionOf l → number l (Offer n ps qs) ≡ 0
-          unfolding number
+          passes : (l : Ledger) → a ≡ auctionOf l → number l (By n (Offer ps qs)) ≡ 0
+          unfolding number moveNumber
           passes l h = simp (in-round z l h, may-offer-at l h ∙ w, first-is l h, prices-at l h ∙ f, lowering-at l h ∙ g)
 
           -- the developer with the offer
           abbrev entry : Ledger → Developer
-          entry l = record {
-            declared = l .developers n .declared;
-            quantity = l .developers n .quantity;
-            withdrawals = l .developers n .withdrawals;
-            offer = made (steps ps qs);
-          }
+          entry l = withOffer (l .developers n) (made (steps ps qs))
 
           as-long : (l : Ledger) → a ≡ auctionOf l → length ps ≡ length qs
-          as-long l h = prices-facts l ps qs (prices-at l h ∙ f) .same
+          as-long l h = prices-facts _ _ ps qs (prices-at l h ∙ f) .same
 
           -- the ledger with the offer is sound, so there is room for its steps
           room : (l : Ledger) → Sound l → a ≡ auctionOf l → length (l .developers n .withdrawals) + length ps ≤ 8
-          unfolding accepted
+          unfolding accepted moved
           room l s h = ⊎-elim (λ z. absurd (nobody-offers z)) (λ q. omega (arith, fits q, steps-length ps qs (as-long l h))) (after .each n)
             where
-              after : Sound (accepted l (Offer n ps qs))
-              after = rw (step-accepted l (Offer n ps qs) (passes l h)) at (sound-step l (Offer n ps qs) s)
+              after : Sound (accepted l (By n (Offer ps qs)))
+              after = rw (step-accepted l (By n (Offer ps qs)) (passes l h)) at (sound-step l (By n (Offer ps qs)) s)
 
-              here : accepted l (Offer n ps qs) .developers n ≡ entry l
+              here : accepted l (By n (Offer ps qs)) .developers n ≡ entry l
               here = ap (λ (b : Bool). cond b (entry l) (l .developers n)) (eq-eqb n n refl)
 
-              nobody-offers : accepted l (Offer n ps qs) .developers n ≡ nobody → ⊥
+              nobody-offers : accepted l (By n (Offer ps qs)) .developers n ≡ nobody → ⊥
               nobody-offers q = let y : made (steps ps qs) ≡ none = ap (λ (x : Developer). x .offer) (sym here ∙ q) in let q : _≡_ {A = ℕ} 0 1 = cc in omega arith
 
-              fits : Registered (accepted l (Offer n ps qs)) n → length (l .developers n .withdrawals) + length (steps ps qs) ≤ 8
+              fits : Registered (accepted l (By n (Offer ps qs))) n → length (l .developers n .withdrawals) + length (steps ps qs) ≤ 8
               fits q = subst (λ (x : Developer). length (x .withdrawals) + length (steps ps qs) ≤ 8) here (offer-fits q (ap (λ (x : Developer). x .offer) here))
 
           history-next : (l : Ledger) → Sound l → a ≡ auctionOf l → r ≡ held (l .developers n .withdrawals) (made (steps ps qs))
@@ -155,40 +147,14 @@ module _ (n : ℕ) (ps qs : List ℕ) (a : Auction) where
 
           -- the auction with the offer standing
           abbrev pub offering : Auction
-          offering = record {
-            phase = a .phase;
-            settings = a .settings;
-            opening = a .opening;
-            closing = a .closing;
-            projects = a .projects;
-            kinds = a .kinds;
-            studies = a .studies;
-            days = a .days;
-            quantities = a .quantities;
-            declared = a .declared;
-            histories = set (a .histories) (n - 1) r;
-          }
+          offering = withCourses a (a .quantities) (set (a .histories) (n - 1) r)
 
-          -- what the offer leaves as it was
-          keeps : {A : Type 0} (f : Developer → A) (l : Ledger) → f (entry l) ≡ f (l .developers n) → ofEach f l ≡ map (λ m. f (put n (entry l) (l .developers) m)) (oneTo 32)
-          keeps f l q = sym (put-keeps f l n (entry l) q)
-
-          pub offer-taken : Called (Offer n ps qs) a offering 0 (pos 0)
-          unfolding excess accepted auctionOf
-          offer-taken = taken _ a offering (pos 0) (λ l s h. record {
+          pub offer-taken : Called (By n (Offer ps qs)) a offering (numberAlone 0)
+          unfolding granted accepted moved auctionOf
+          offer-taken = taken _ a offering _ refl (λ l s h. record {
             number = passes l h;
-            excess = refl;
-            next = λ i. record {
-              phase = h i .phase;
-              settings = h i .settings;
-              opening = h i .opening;
-              closing = h i .closing;
-              projects = (ap (λ (x : Auction). x .projects) h ∙ keeps (λ x. x .declared .project) l refl) i;
-              kinds = (ap (λ (x : Auction). x .kinds) h ∙ keeps (λ x. x .declared .kind) l refl) i;
-              studies = (ap (λ (x : Auction). x .studies) h ∙ keeps (λ x. x .declared .study) l refl) i;
-              days = (ap (λ (x : Auction). x .days) h ∙ keeps (λ x. x .declared .day) l refl) i;
-              quantities = (ap (λ (x : Auction). x .quantities) h ∙ keeps (λ x. x .quantity) l refl) i;
-              declared = (ap (λ (x : Auction). x .declared) h ∙ keeps (λ x. heldLevels (x .declared .levels)) l refl) i;
-              histories = (ap (λ (x : Auction). set (x .histories) (n - 1) r) h ∙ put-at (λ x. held (x .withdrawals) (x .offer)) l n (entry l) r low high (history-next l s h)) i;
-            };
+            answer = refl;
+            next = courses-held a l n (entry l) h refl
+                (ap (λ (x : Auction). x .quantities) h ∙ sym (put-keeps (λ x. x .quantity) l n (entry l) refl))
+                (ap (λ (x : Auction). set (x .histories) (n - 1) r) h ∙ put-at (λ x. held (x .withdrawals) (x .offer)) l n (entry l) r low high (history-next l s h));
           })

@@ -4,12 +4,11 @@ use mathlib.Core.Path.{_≡_, refl, sym, ap, _∙_}
 use mathlib.Core.Bool.{Bool, true, false, cond, not, _||_}
 use native.Mathlib.Omega.{arith}
 use lib.Dec.{eqb, leb}
-use lib.IntN.{pos}
 use borrow.Author.Tests.{le-leb, lt-leb, lt-ltb, le-ltb}
 use Rattle.rules.specs.Ledger.{Open, Phase, Fresh, Ready, Round, Between, Closed, Ledger}
 use Rattle.rules.specs.Clearing.{after, high, supply, demandAt, covered}
 use Rattle.rules.specs.Refusals.{isFresh, isReady, floor, openingPrice, closingOk, startCovered, number}
-use Rattle.rules.specs.Rounds.{lastLevel, accepted, excess}
+use Rattle.rules.specs.Rounds.{lastLevel, accepted, numberAlone, granted}
 use Rattle.sound.specs.Sound.{Sound, started}
 use Rattle.rules.specs.CheckLaws.{in-settings}
 use Rattle.reachable.specs.Bounds.{a-in-range}
@@ -20,8 +19,9 @@ use Rattle.supply.specs.ByProjectLaws.{supply-of}
 use Rattle.auction.specs.declared.Auction.{Auction}
 use Rattle.auction.specs.Holds.{auctionOf, Holding}
 use Rattle.auction.specs.Called.{Called}
+use Rattle.auction.specs.Parts.{withClock, clock-held}
 use Rattle.auction.specs.Tests.{demandBy, mayOpenBy, openingBy, coveredBy}
-use Rattle.auction.proofs.Calls.{refused, taken}
+use Rattle.auction.proofs.Calls.{Refused, refused, taken}
 use Rattle.auction.proofs.Phases.{ready-is, may-open-is}
 use Rattle.auction.specs.Demands.{demand-is}
 
@@ -50,12 +50,12 @@ ready-not-fresh Between e = refl
 ready-not-fresh Closed e = refl
 
 module _ (c : ℕ) (a : Auction) where
-  pub open-phase : mayOpenBy (a .phase) ≡ false → Called (Open c) a a 2 (pos 0)
+  pub open-phase : mayOpenBy (a .phase) ≡ false → Refused (Open c) a 2
   unfolding number
   open-phase z = refused _ a 2 (omega arith) (λ l s h. simp (may-open-is a l h ∙ z))
 
   module _ (z : mayOpenBy (a .phase) ≡ true) where
-    bad-price : Holding a (λ l. closingOk l c ≡ false) → Called (Open c) a a 5 (pos 0)
+    bad-price : Holding a (λ l. closingOk l c ≡ false) → Refused (Open c) a 5
     unfolding number
     bad-price f = refused _ a 5 (omega arith) (λ l s h. simp (may-open-is a l h ∙ z, f l s h))
 
@@ -63,7 +63,7 @@ module _ (c : ℕ) (a : Auction) where
     unfolding auctionOf
     floor-at l h = ap (λ (x : Auction). x .settings .ce / 2) (sym h)
 
-    pub open-below-floor : c < a .settings .ce / 2 → Called (Open c) a a 5 (pos 0)
+    pub open-below-floor : c < a .settings .ce / 2 → Refused (Open c) a 5
     unfolding closingOk
     open-below-floor v = bad-price (λ l s h. simp (lt-leb (floor l) c (let e = floor-at l h in omega arith)))
 
@@ -72,7 +72,7 @@ module _ (c : ℕ) (a : Auction) where
       unfolding openingPrice auctionOf
       opening-at l h = ap (λ (b : Bool). cond b (l .settings .a) (l .closing)) (ready-is a l h) ∙ ap (λ (x : Auction). cond (eqb (a .phase) 1) (x .settings .a) (x .closing)) (sym h) ∙ sym e
 
-      pub open-not-below : o ≤ c → Called (Open c) a a 5 (pos 0)
+      pub open-not-below : o ≤ c → Refused (Open c) a 5
       unfolding closingOk
       open-not-below w = bad-price (λ l s h. simp (le-leb (floor l) c (let f = floor-at l h in omega arith), le-ltb c (openingPrice l) (let f = opening-at l h in omega arith)))
 
@@ -97,42 +97,18 @@ module _ (c : ℕ) (a : Auction) where
             go true e b′ f = rw (← f, e) (covered-at l s h e)
             go false e b′ f = rw (← f, e)
 
-        pub open-uncovered : coveredBy a ≡ false → Called (Open c) a a 9 (pos 0)
+        pub open-uncovered : coveredBy a ≡ false → Refused (Open c) a 9
         unfolding number
         open-uncovered g = refused _ a 9 (omega arith) (λ l s h. simp (may-open-is a l h ∙ z, price-at l h, start-at l s h ∙ g))
 
         -- the auction with the round open
         abbrev pub opened : Auction
-        opened = record {
-          phase = 2;
-          settings = a .settings;
-          opening = o;
-          closing = c;
-          projects = a .projects;
-          kinds = a .kinds;
-          studies = a .studies;
-          days = a .days;
-          quantities = a .quantities;
-          declared = a .declared;
-          histories = a .histories;
-        }
+        opened = withClock a 2 (a .settings) o c
 
-        pub open-taken : coveredBy a ≡ true → Called (Open c) a opened 0 (pos 0)
-        unfolding number excess accepted auctionOf
-        open-taken g = taken _ a opened (pos 0) (λ l s h. record {
+        pub open-taken : coveredBy a ≡ true → Called (Open c) a opened (numberAlone 0)
+        unfolding number granted accepted auctionOf
+        open-taken g = taken _ a opened _ refl (λ l s h. record {
           number = simp (may-open-is a l h ∙ z, price-at l h, start-at l s h ∙ g);
-          excess = refl;
-          next = λ i. record {
-            phase = 2;
-            settings = h i .settings;
-            opening = sym (opening-at l h) i;
-            closing = c;
-            projects = h i .projects;
-            kinds = h i .kinds;
-            studies = h i .studies;
-            days = h i .days;
-            quantities = h i .quantities;
-            declared = h i .declared;
-            histories = h i .histories;
-          };
+          answer = refl;
+          next = clock-held a l Round (l .settings) h refl (λ i. h i .settings) (sym (opening-at l h)) refl;
         })

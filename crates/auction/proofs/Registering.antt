@@ -2,43 +2,37 @@
 use Prim.Native.Nat.{ℕ, _-_, _≤_}
 use mathlib.Core.Path.{_≡_, refl, sym, ap, _∙_}
 use mathlib.Core.Logic.{⊎-elim}
-use mathlib.Core.Bool.{true, false, _&&_}
+use mathlib.Core.Bool.{Bool, true, false, _&&_}
 use mathlib.Core.List.{List, [], map}
 use native.Mathlib.Omega.{arith}
 use lib.Dec.{eqb}
-use lib.IntN.{pos}
-use lib.ListN.{length, set}
+use lib.ListN.{length, getD, set}
 use borrow.Author.Tests.{eq-eqb, ne-eqb}
 use Rattle.numbers.specs.Cases.{and-true}
-use Rattle.numbers.specs.Lists.{oneTo, lastOr}
-use Rattle.rules.specs.Ledger.{Declaration, Call, none, Developer, Ledger, nobody}
-use Rattle.rules.specs.Refusals.{isNumber, numbersOk, declarationOk, check, number}
+use Rattle.numbers.specs.Lists.{oneTo}
+use Rattle.rules.specs.Ledger.{Declaration, Call, none, Developer, Ledger, nobody, put, newcomer}
+use Rattle.rules.specs.Clearing.{ofEach}
+use Rattle.rules.specs.Refusals.{isNumber, numbersOk, isKind, levelsOk, declarationOk, check, number}
 use Rattle.rules.specs.CheckLaws.{is-number}
-use Rattle.rules.specs.Rounds.{put, accepted, excess}
+use Rattle.rules.specs.Rounds.{accepted, numberAlone, granted}
 use Rattle.sound.specs.Sound.{Sound}
 use Rattle.reachable.specs.Checks.{RegisterPassed, register-passed, Numbers, numbers-facts, declaration-facts, levels-facts}
 use Rattle.levels.specs.declared.Levels.{Levels}
 use Rattle.levels.specs.Held.{heldLevels, Copied, Highest}
 use Rattle.history.specs.Held.{held}
+use Rattle.supply.specs.ByProject.{joins}
 use Rattle.supply.specs.ByProjectLaws.{joins-of}
 use Rattle.auction.specs.declared.Auction.{Auction}
-use Rattle.auction.specs.Holds.{ofEach, auctionOf, Holding}
+use Rattle.auction.specs.Holds.{auctionOf, Holding}
 use Rattle.auction.specs.Called.{Called, registers}
-use Rattle.auction.specs.Tests.{numbersFree, declarable}
 use Rattle.auction.specs.Places.{each-at, put-at, put-keeps}
-use Rattle.auction.proofs.Calls.{where-true, refused, taken}
+use Rattle.auction.proofs.Calls.{where-true, Refused, refused, taken}
 use Rattle.auction.proofs.Phases.{ready-is}
 
 -- ---- the tests
 
-pub free-number : (projects : List ℕ) (k n : ℕ) → numbersFree projects k n ≡ true → (1 ≤ n) × (n ≤ 32)
-unfolding numbersFree
-free-number projects k n e =
-    let t = and-true (isNumber k && isNumber n) _ e in
-    is-number n (and-true (isNumber k) (isNumber n) (t .0) .1)
-
-numbers-held : (l : Ledger) (k n : ℕ) → numbersFree (ofEach (λ x. x .declared .project) l) k n ≡ numbersOk l k n
-unfolding numbersFree numbersOk
+numbers-held : (l : Ledger) (k n : ℕ) → numbersOk k n (getD (ofEach (λ x. x .declared .project) l) (n - 1) 0) ≡ numbersOk k n (l .developers n .declared .project)
+unfolding numbersOk
 numbers-held l k n = where-true (isNumber k && isNumber n) (λ e.
     let b = is-number n (and-true (isNumber k) (isNumber n) e .1) in
     ap (λ (m : ℕ). eqb m 0) (each-at (λ x. x .declared .project) l n 0 (b .0) (b .1)))
@@ -53,27 +47,33 @@ module _ (a : Auction) (k n kind study day : ℕ) (ls : List ℕ) where
   abbrev declaration : Declaration
   declaration = record { project = k; kind = kind; study = study; day = day; levels = ls }
 
-  abbrev newcomer : Developer
-  newcomer = record { declared = declaration; quantity = lastOr 0 ls; withdrawals = []; offer = none }
+  abbrev new : Developer
+  new = newcomer declaration
 
   abbrev call : Call
   call = registers k n kind study day ls
 
-  -- the ledger's number, by what the auction holds
+  -- the ledger's tests and number, by what the auction holds
+  abbrev numbersPass : Bool
+  numbersPass = numbersOk k n (getD (a .projects) (n - 1) 0)
+
+  abbrev declarationPasses : Bool
+  declarationPasses = isKind kind && levelsOk ls && joins (a .projects) (a .kinds) k kind
+
   abbrev numberBy : ℕ
-  numberBy = check (eqb (a .phase) 1) 2 (check (numbersFree (a .projects) k n) 3 (check (declarable (a .projects) (a .kinds) k kind ls) 4 0))
+  numberBy = check (eqb (a .phase) 1) 2 (check numbersPass 3 (check declarationPasses 4 0))
 
   number-held : Holding a (λ l. numberBy ≡ number l call)
-  unfolding number auctionOf declarable declarationOk
+  unfolding number auctionOf declarationOk
   number-held l s h = rw (← ready-is a l h, h, joins-of l k kind, numbers-held l k n)
 
-  pub register-phase : (a .phase ≡ 1 → ⊥) → Called call a a 2 (pos 0)
+  pub register-phase : (a .phase ≡ 1 → ⊥) → Refused call a 2
   register-phase z = refused _ a 2 (omega arith) (λ l s h. simp (ne-eqb _ 1 z) at (number-held l s h))
 
-  pub register-numbers : a .phase ≡ 1 → numbersFree (a .projects) k n ≡ false → Called call a a 3 (pos 0)
+  pub register-numbers : a .phase ≡ 1 → numbersPass ≡ false → Refused call a 3
   register-numbers z f = refused _ a 3 (omega arith) (λ l s h. simp (eq-eqb _ 1 z, f) at (number-held l s h))
 
-  pub register-declaration : a .phase ≡ 1 → numbersFree (a .projects) k n ≡ true → declarable (a .projects) (a .kinds) k kind ls ≡ false → Called call a a 4 (pos 0)
+  pub register-declaration : a .phase ≡ 1 → numbersPass ≡ true → declarationPasses ≡ false → Refused call a 4
   register-declaration z f g = refused _ a 4 (omega arith) (λ l s h. simp (eq-eqb _ 1 z, f, g) at (number-held l s h))
 
   -- the auction with the newcomer, whose levels are held as v with the highest q
@@ -106,14 +106,14 @@ module _ (a : Auction) (k n kind study day : ℕ) (ls : List ℕ) where
       days = stored (λ x. x .declared .day) (λ j. h j .days) refl i;
       quantities = stored (λ x. x .quantity) (λ j. h j .quantities) (highest .right ls levels few) i;
       declared = stored (λ x. heldLevels (x .declared .levels)) (λ j. h j .declared) levels i;
-      histories = (ap (λ (x : Auction). x .histories) h ∙ sym (put-keeps (λ x. held (x .withdrawals) (x .offer)) l n newcomer kept)) i;
+      histories = (ap (λ (x : Auction). x .histories) h ∙ sym (put-keeps (λ x. held (x .withdrawals) (x .offer)) l n new kept)) i;
     }
       where
         passed : RegisterPassed l n declaration
         passed = register-passed l n declaration e
 
-        numbers : Numbers l k n
-        numbers = numbers-facts l k n (passed .numbers)
+        numbers : Numbers k n (l .developers n .declared .project)
+        numbers = numbers-facts k n _ (passed .numbers)
 
         few : length ls ≤ 8
         few = levels-facts ls (declaration-facts l declaration (passed .declaration) .levels) .few
@@ -124,11 +124,11 @@ module _ (a : Auction) (k n kind study day : ℕ) (ls : List ℕ) where
         kept : held [] none ≡ held (l .developers n .withdrawals) (l .developers n .offer)
         kept = ap (λ (x : Developer). held (x .withdrawals) (x .offer)) (sym (unused-nobody s n (numbers .unused)))
 
-        stored : {A : Type 0} (f : Developer → A) {xs : List A} {w : A} → xs ≡ ofEach f l → w ≡ f newcomer → set xs (n - 1) w ≡ map (λ m. f (put n newcomer (l .developers) m)) (oneTo 32)
-        stored f {xs} {w} d g = ap (λ ys. set ys (n - 1) w) d ∙ put-at f l n newcomer w (numbers .number-low) (numbers .number-high) g
+        stored : {A : Type 0} (f : Developer → A) {xs : List A} {w : A} → xs ≡ ofEach f l → w ≡ f new → set xs (n - 1) w ≡ map (λ m. f (put n new (l .developers) m)) (oneTo 32)
+        stored f {xs} {w} d g = ap (λ ys. set ys (n - 1) w) d ∙ put-at f l n new w (numbers .number-low) (numbers .number-high) g
 
-    pub register-taken : a .phase ≡ 1 → numbersFree (a .projects) k n ≡ true → declarable (a .projects) (a .kinds) k kind ls ≡ true → Called call a (registered v q) 0 (pos 0)
-    unfolding excess
-    register-taken z f g = taken _ a (registered v q) (pos 0) (λ l s h.
+    pub register-taken : a .phase ≡ 1 → numbersPass ≡ true → declarationPasses ≡ true → Called call a (registered v q) (numberAlone 0)
+    unfolding granted
+    register-taken z f g = taken _ a (registered v q) _ refl (λ l s h.
         let e : number l call ≡ 0 = sym (simp (eq-eqb _ 1 z, f, g) at (number-held l s h)) in
-        record { number = e; excess = refl; next = holds l s h e })
+        record { number = e; answer = refl; next = holds l s h e })

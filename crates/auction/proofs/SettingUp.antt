@@ -3,18 +3,19 @@ use Prim.Native.Nat.{ℕ, _≤_}
 use mathlib.Core.Path.{_≡_, refl, _∙_}
 use mathlib.Core.Bool.{Bool, true, false, cond, _&&_}
 use native.Mathlib.Omega.{arith}
-use lib.IntN.{pos}
 use borrow.Author.Tests.{ne-eqb, eq-eqb}
 use Rattle.numbers.specs.Cases.{and-true}
 use Rattle.curve.specs.Demand.{dem, inBounds, inRange}
 use Rattle.curve.specs.Range.{in-bounds, in-range, dem-range}
 use Rattle.curve.specs.Answer.{Answer, demandAnswer}
+use Rattle.rules.specs.Ledger.{settingsOf, Ready}
 use Rattle.rules.specs.Refusals.{settingsOk, number}
-use Rattle.rules.specs.Rounds.{accepted, excess}
+use Rattle.rules.specs.Rounds.{accepted, numberAlone, granted}
 use Rattle.auction.specs.declared.Auction.{Auction}
 use Rattle.auction.specs.Holds.{auctionOf}
-use Rattle.auction.specs.Called.{Called, settingsOf, setsUp}
-use Rattle.auction.proofs.Calls.{refused, taken}
+use Rattle.auction.specs.Called.{Called, setsUp}
+use Rattle.auction.specs.Parts.{withClock, settingsHeld, clock-held}
+use Rattle.auction.proofs.Calls.{Refused, refused, taken}
 use Rattle.auction.proofs.Phases.{fresh-is}
 
 -- ---- demand
@@ -37,46 +38,22 @@ demand-bounded ce d m1 m2 p e = (e, omega (arith, demand-small ce d m1 m2 p))
 -- ---- set-up
 
 module _ (a : Auction) (ce d m1 m2 a₀ : ℕ) where
-  pub set-up-phase : (a .phase ≡ 0 → ⊥) → Called (setsUp ce d m1 m2 a₀) a a 2 (pos 0)
+  pub set-up-phase : (a .phase ≡ 0 → ⊥) → Refused (setsUp ce d m1 m2 a₀) a 2
   unfolding number
   set-up-phase z = refused _ a 2 (omega arith) (λ l s h. simp (fresh-is a l h ∙ ne-eqb _ 0 z))
 
-  pub set-up-settings : a .phase ≡ 0 → settingsOk (settingsOf ce d m1 m2 a₀) ≡ false → Called (setsUp ce d m1 m2 a₀) a a 1 (pos 0)
+  pub set-up-settings : a .phase ≡ 0 → settingsOk (settingsOf ce d m1 m2 a₀) ≡ false → Refused (setsUp ce d m1 m2 a₀) a 1
   unfolding number
   set-up-settings z f = refused _ a 1 (omega arith) (λ l s h. simp (fresh-is a l h ∙ eq-eqb _ 0 z, f))
 
   -- the auction with the settings, set up
   abbrev pub setUp : Auction
-  setUp = record {
-    phase = 1;
-    settings = record { ce = ce; d = d; m1 = m1; m2 = m2; a = a₀ };
-    opening = a .opening;
-    closing = a .closing;
-    projects = a .projects;
-    kinds = a .kinds;
-    studies = a .studies;
-    days = a .days;
-    quantities = a .quantities;
-    declared = a .declared;
-    histories = a .histories;
-  }
+  setUp = withClock a 1 (settingsHeld (settingsOf ce d m1 m2 a₀)) (a .opening) (a .closing)
 
-  pub set-up-taken : a .phase ≡ 0 → settingsOk (settingsOf ce d m1 m2 a₀) ≡ true → Called (setsUp ce d m1 m2 a₀) a setUp 0 (pos 0)
-  unfolding number excess accepted auctionOf
-  set-up-taken z f = taken _ a setUp (pos 0) (λ l s h. record {
+  pub set-up-taken : a .phase ≡ 0 → settingsOk (settingsOf ce d m1 m2 a₀) ≡ true → Called (setsUp ce d m1 m2 a₀) a setUp (numberAlone 0)
+  unfolding number granted accepted auctionOf
+  set-up-taken z f = taken _ a setUp _ refl (λ l s h. record {
     number = simp (fresh-is a l h ∙ eq-eqb _ 0 z, f);
-    excess = refl;
-    next = λ i. record {
-      phase = 1;
-      settings = record { ce = ce; d = d; m1 = m1; m2 = m2; a = a₀ };
-      opening = h i .opening;
-      closing = h i .closing;
-      projects = h i .projects;
-      kinds = h i .kinds;
-      studies = h i .studies;
-      days = h i .days;
-      quantities = h i .quantities;
-      declared = h i .declared;
-      histories = h i .histories;
-    };
+    answer = refl;
+    next = clock-held a l Ready (settingsOf ce d m1 m2 a₀) h refl refl (λ i. h i .opening) (λ i. h i .closing);
   })

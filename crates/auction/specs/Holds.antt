@@ -1,9 +1,8 @@
 -- The one auction that holds a ledger: developer n stands at place n - 1 of each array, what is not used is zero.
 use Prim.Native.Nat.{ℕ}
 use mathlib.Core.Path.{_≡_}
-use mathlib.Core.List.{List, map}
-use Rattle.numbers.specs.Lists.{oneTo}
-use Rattle.rules.specs.Ledger.{Developer, Phase, Fresh, Ready, Round, Between, Closed, Ledger}
+use Rattle.rules.specs.Ledger.{Phase, Fresh, Ready, Round, Between, Closed, Ledger}
+use Rattle.rules.specs.Clearing.{ofEach}
 use Rattle.sound.specs.Sound.{Sound}
 use Rattle.levels.specs.Held.{heldLevels}
 use Rattle.history.specs.Held.{held}
@@ -15,10 +14,6 @@ phaseNumber Ready = 1
 phaseNumber Round = 2
 phaseNumber Between = 3
 phaseNumber Closed = 4
-
--- of each developer, 1 to 32
-abbrev pub ofEach : {A : Type 0} → (Developer → A) → Ledger → List A
-ofEach f l = map (λ n. f (l .developers n)) (oneTo 32)
 
 unfoldable pub auctionOf : Ledger → Auction
 auctionOf l = record {

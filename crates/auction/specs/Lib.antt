@@ -2,4 +2,5 @@ pub mod Holds
 pub mod Called
 pub mod Tests
 pub mod Places
+pub mod Parts
 pub mod Demands

@@ -12,9 +12,8 @@ use borrow.Author.Tests.{eqb-true, eqb-false}
 use Rattle.numbers.specs.Cases.{le-or-lt}
 use Rattle.numbers.specs.Lists.{oneTo}
 use Rattle.numbers.specs.ListLaws.{length-one-to, one-to-nth}
-use Rattle.rules.specs.Ledger.{Developer, Ledger, nobody, start}
-use Rattle.rules.specs.Rounds.{put}
-use Rattle.auction.specs.Holds.{ofEach}
+use Rattle.rules.specs.Ledger.{Developer, Ledger, nobody, start, put}
+use Rattle.rules.specs.Clearing.{ofEach}
 
 module _ {A : Type 0} where
   -- of any function of the developers' numbers

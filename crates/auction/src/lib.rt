@@ -2,14 +2,12 @@
 // document 01, for every list of calls (specs/Called.antt).
 ghost use mathlib.Core.Path.{_≡_};
 ghost use mathlib.Core.List.{[]};
-ghost use Prim.Native.Nat.{min, _≤_, _<_, _^_};
-ghost use lib.IntN.{pos, _-ℤ_};
-ghost use Rattle.rules.specs.Ledger.{Open, Offer};
-ghost use Rattle.rules.specs.Refusals.{settingsOk, isNumber};
+ghost use Prim.Native.Nat.{_≤_};
+ghost use Rattle.rules.specs.Ledger.{Open, By, Offer};
 ghost use Rattle.rules.specs.Rounds.{ledger};
 ghost use Rattle.auction.specs.Holds.{auctionOf};
-ghost use Rattle.auction.specs.Called.{Answered, Closes, settingsOf, setsUp, registers, refusedBy, OffersApplied};
-ghost use Rattle.auction.specs.Tests.{isKind, numbersFree, declarable, demandBy, mayOpenBy, openingBy, coveredBy, mayOfferBy, pricedBy, withdrawsAll, phaseNumberAfter};
+ghost use Rattle.auction.specs.Called.{AnswersNumber, AnswersExcess, setsUp, registers, refusedBy, OffersApplied};
+ghost use Rattle.auction.specs.Tests.{demandBy, mayOpenBy, openingBy, coveredBy, phaseNumberAfter};
 use demand::Demanded;
 use history::History;
 use levels::Levels;
@@ -51,79 +49,6 @@ pub struct Closing {
     pub auction: Auction,
 }
 
-// Whether the settings are within their bounds and A is above CE/2 and at most 2 CE.
-fn settings_ok(ce: u64, d: u64, m1: u64, m2: u64, a: u64) -> bool
-    ensures { λ r. ⌜ r ≡ settingsOk (settingsOf ce d m1 m2 a) ⌝ }
-{
-    if !demand::settings_in_bounds(ce, d, m1, m2) {
-        return false;
-    }
-    if a <= ce / 2 {
-        return false;
-    }
-    // no price is above it, so A fits 32 bits
-    if a > Auction::TOP_PRICE as u64 {
-        return false;
-    }
-    if 2 * ce < a {
-        return false;
-    }
-    true
-}
-
-// Whether n is the number of a project or a developer.
-fn is_number(n: u8) -> bool
-    ensures { λ r. ⌜ r ≡ isNumber n ⌝ }
-{
-    if n < 1 {
-        return false;
-    }
-    n <= Auction::MOST_DEVELOPERS
-}
-
-// Whether project and developer have numbers 1 to 32 and the developer's is not used.
-fn numbers_ok(projects: [u8; 32], project: u8, developer: u8) -> bool
-    ensures { λ r. ⌜ r ≡ numbersFree projects project developer ⌝ }
-{
-    if !is_number(project) {
-        return false;
-    }
-    if !is_number(developer) {
-        return false;
-    }
-    let i = (developer - 1) as usize;
-    projects[i] == 0
-}
-
-// Whether a kind is one of the two.
-fn is_kind(kind: u8) -> bool
-    ensures { λ r. ⌜ r ≡ isKind kind ⌝ }
-{
-    if kind == Auction::EXISTING_PLANT {
-        return true;
-    }
-    kind == Auction::NEW_PLANT
-}
-
-// Whether the kind and the levels are sound, and a developer of this kind may join the project.
-fn declaration_ok(
-    projects: [u8; 32],
-    kinds: [u8; 32],
-    project: u8,
-    kind: u8,
-    levels: &[u32],
-) -> bool
-    ensures { λ r. ⌜ r ≡ declarable projects kinds project kind (now (levels .entry)) ⌝ }
-{
-    if !is_kind(kind) {
-        return false;
-    }
-    if !levels::levels_ok(levels) {
-        return false;
-    }
-    supply::may_join(projects, kinds, project, kind)
-}
-
 // Whether an opening is accepted in this phase.
 fn may_open(phase: u8) -> bool
     ensures { λ r. ⌜ r ≡ mayOpenBy phase ⌝ }
@@ -134,44 +59,23 @@ fn may_open(phase: u8) -> bool
     phase == Auction::BETWEEN
 }
 
-// The phase once a round is closed: closed if there is no excess or C is the floor.
-fn phase_after(supply: u64, demand: u64, closing: u32, floor: u32) -> u8
-    ensures { λ r. ⌜ r ≡ phaseNumberAfter supply demand closing floor ⌝ }
+// The phase once a round is closed.
+fn phase_after(cleared: bool) -> u8
+    ensures { λ r. ⌜ r ≡ phaseNumberAfter cleared ⌝ }
 {
-    if supply <= demand {
-        return Auction::CLOSED;
-    }
-    if closing == floor {
+    if cleared {
         return Auction::CLOSED;
     }
     Auction::BETWEEN
 }
 
-// Whether a developer without an offer withdraws: one of kind 2 that is above 0.
-fn withdraws(kind: u8, quantity: u32) -> bool
-    ensures { λ r. ⌜ r ≡ withdrawsAll kind quantity ⌝ }
-{
-    if kind != Auction::NEW_PLANT {
-        return false;
-    }
-    0 < quantity
-}
-
-// The excess: supply less demand, signed.
-fn excess_of(supply: u64, demand: u64) -> i64
-    requires { ⌜ (supply < 2 ^ 62) × (demand < 2 ^ 62) ⌝ }
-    ensures { λ r. ⌜ r ≡ pos supply -ℤ pos demand ⌝ }
-{
-    supply as i64 - demand as i64
-}
-
 impl Auction {
     // Projects and developers have numbers 1 to 32 (document 01, Registration).
-    pub const MOST_DEVELOPERS: u8 = 32;
+    pub const MOST_DEVELOPERS: u8 = checks::MOST_DEVELOPERS;
     // The highest price that an auction can have: 2 CE at the largest CE (document 01, Demand).
-    pub const TOP_PRICE: u32 = 1_000_000;
+    pub const TOP_PRICE: u32 = checks::TOP_PRICE;
     // The most choices that a settling counts (document 01, Closing price and award).
-    pub const CHOICE_LIMIT: u32 = 65_536;
+    pub const CHOICE_LIMIT: u32 = checks::CHOICE_LIMIT;
 
     // The kinds: an existing plant, a new one (document 01, Registration).
     pub const EXISTING_PLANT: u8 = supply::EXISTING;
@@ -231,12 +135,12 @@ impl Auction {
 
     // Set-up. Checks: 2, 1.
     pub fn set_up(self, ce: u64, d: u64, m1: u64, m2: u64, a: u64) -> Answer
-        ensures { λ r. ⌜ Answered (setsUp ce d m1 m2 a) self r ⌝ }
+        ensures { λ r. ⌜ AnswersNumber (setsUp ce d m1 m2 a) self r ⌝ }
     {
         if self.phase != Auction::FRESH {
             return self.refused(2);
         }
-        if !settings_ok(ce, d, m1, m2, a) {
+        if !checks::settings_ok(ce, d, m1, m2, a) {
             return self.refused(1);
         }
         let settings = Settings {
@@ -265,17 +169,17 @@ impl Auction {
         day: u32,
         levels: &[u32],
     ) -> Answer
-        ensures { λ r. ⌜ Answered (registers project developer kind study day (now (levels .entry))) self r ⌝ }
+        ensures { λ r. ⌜ AnswersNumber (registers project developer kind study day (now (levels .entry))) self r ⌝ }
     {
         if self.phase != Auction::READY {
             return self.refused(2);
         }
         let projects = self.projects;
         let kinds = self.kinds;
-        if !numbers_ok(projects, project, developer) {
+        if !checks::numbers_ok(projects, project, developer) {
             return self.refused(3);
         }
-        if !declaration_ok(projects, kinds, project, kind, levels) {
+        if !checks::declaration_ok(projects, kinds, project, kind, levels) {
             return self.refused(4);
         }
         let i = (developer - 1) as usize;
@@ -329,7 +233,7 @@ impl Auction {
 
     // Checks: 2, 5, 9.
     pub fn open(self, c: u32) -> Answer
-        ensures { λ r. ⌜ Answered (Open c) self r ⌝ }
+        ensures { λ r. ⌜ AnswersNumber (Open c) self r ⌝ }
     {
         if !may_open(self.phase) {
             return self.refused(2);
@@ -354,38 +258,15 @@ impl Auction {
         }
     }
 
-    // Whether a developer may offer: it has a number and is of kind 2.
-    fn may_offer(self, developer: u8) -> bool
-        ensures { λ r. ⌜ r ≡ mayOfferBy self developer ⌝ }
-    {
-        if !is_number(developer) {
-            return false;
-        }
-        let i = (developer - 1) as usize;
-        self.kinds[i] == Auction::NEW_PLANT
-    }
-
-    // Whether an offer has as many prices as levels, at most 8, and the prices fall from the opening price to C.
-    fn prices_ok(self, prices: &[u32], levels: &[u32]) -> bool
-        ensures { λ r. ⌜ r ≡ pricedBy self (now (prices .entry)) (now (levels .entry)) ⌝ }
-    {
-        if prices.len() != levels.len() {
-            return false;
-        }
-        if History::MOST < prices.len() {
-            return false;
-        }
-        history::prices_fall(self.closing, self.opening, prices)
-    }
-
     // Checks: 2, 3, 8, 6, 7; all prices before any level.
     pub fn offer(self, developer: u8, prices: &[u32], levels: &[u32]) -> Answer
-        ensures { λ r. ⌜ Answered (Offer developer (now (prices .entry)) (now (levels .entry))) self r ⌝ }
+        ensures { λ r. ⌜ AnswersNumber (By developer (Offer (now (prices .entry)) (now (levels .entry)))) self r ⌝ }
     {
         if self.phase != Auction::ROUND {
             return self.refused(2);
         }
-        if !self.may_offer(developer) {
+        let kinds = self.kinds;
+        if !checks::may_offer(kinds, developer) {
             return self.refused(3);
         }
         let i = (developer - 1) as usize;
@@ -393,7 +274,7 @@ impl Auction {
         if 0 < history.offered {
             return self.refused(8);
         }
-        if !self.prices_ok(prices, levels) {
+        if !checks::prices_ok(self.closing, self.opening, prices, levels) {
             return self.refused(6);
         }
         let declared = self.declared[i];
@@ -417,7 +298,7 @@ impl Auction {
         for i in 0..32 {
             let h = next.histories[i];
             let q = next.quantities[i];
-            let missing = withdraws(next.kinds[i], q);
+            let missing = checks::withdraws(next.kinds[i], q);
             let applied = h.close(missing, opening);
             next.histories[i] = applied;
             next.quantities[i] = applied.last_level(q);
@@ -427,7 +308,7 @@ impl Auction {
 
     // Checks: 2. The answer is the excess at C.
     pub fn close(self) -> Closing
-        ensures { λ r. ⌜ Closes self r ⌝ }
+        ensures { λ r. ⌜ AnswersExcess self r ⌝ }
     {
         if self.phase != Auction::ROUND {
             return Closing {
@@ -442,22 +323,13 @@ impl Auction {
         let closing = self.closing;
         let supply = supply::supply(projects, quantities);
         let demand = self.demand_at(closing);
-        let excess = excess_of(supply, demand);
-        next.phase = phase_after(supply, demand, closing, self.settings.ce / 2);
+        let excess = checks::excess_of(supply, demand);
+        let cleared = checks::clears(supply, demand, closing, self.settings.ce / 2);
+        next.phase = phase_after(cleared);
         Closing {
             number: 0,
             excess: excess,
             auction: next,
         }
-    }
-
-    // The limit of a settling: above 65,536 it means 65,536 (document 01, Closing price and award).
-    pub fn capped_limit(limit: u32) -> u64
-        ensures { λ r. ⌜ r ≡ min limit 65536 ⌝ }
-    {
-        if limit <= Auction::CHOICE_LIMIT {
-            return limit as u64;
-        }
-        Auction::CHOICE_LIMIT as u64
     }
 }

@@ -1,4 +1,4 @@
--- One call more: what a refused and an accepted call make of the ledger, and the ledger and the answers of a list with one call more.
+-- One call more: what a refused and an accepted call make of the ledger and answer, and the ledger and the answers of a list with one call more.
 use mathlib.Core.Path.{_≡_, refl, ap}
 use mathlib.Core.Bool.{Bool, true, false, cond}
 use mathlib.Core.List.{List, [], _∷_, _++_}
@@ -6,7 +6,7 @@ use lib.Dec.{eqb}
 use borrow.Author.Tests.{eqb-true, eq-eqb, ne-eqb}
 use Rattle.rules.specs.Ledger.{Call, Ledger, start}
 use Rattle.rules.specs.Refusals.{number}
-use Rattle.rules.specs.Rounds.{accepted, step, stepAll, ledger, Answered, answer, answersFrom, answers}
+use Rattle.rules.specs.Rounds.{accepted, step, stepAll, ledger, Answered, numberAlone, granted, answer, answersFrom, answers}
 
 pub step-refused : (l : Ledger) (c : Call) → (number l c ≡ 0 → ⊥) → step l c ≡ l
 unfolding step
@@ -15,6 +15,14 @@ step-refused l c h = ap (λ (t : Bool). cond t (accepted l c) l) (ne-eqb (number
 pub step-accepted : (l : Ledger) (c : Call) → number l c ≡ 0 → step l c ≡ accepted l c
 unfolding step
 step-accepted l c e = ap (λ (t : Bool). cond t (accepted l c) l) (eq-eqb (number l c) 0 e)
+
+pub answer-refused : (l : Ledger) (c : Call) → (number l c ≡ 0 → ⊥) → answer l c ≡ numberAlone (number l c)
+unfolding answer
+answer-refused l c h = ap (λ (t : Bool). cond t (granted l c) (numberAlone (number l c))) (ne-eqb (number l c) 0 h)
+
+pub answer-accepted : (l : Ledger) (c : Call) → number l c ≡ 0 → answer l c ≡ granted l c
+unfolding answer
+answer-accepted l c e = ap (λ (t : Bool). cond t (granted l c) (numberAlone (number l c))) (eq-eqb (number l c) 0 e)
 
 -- what holds of the ledger, and after the call if it is accepted, holds after the call
 pub by-step : (P : Ledger → Type 0) (l : Ledger) (c : Call) → P l → (number l c ≡ 0 → P (accepted l c)) → P (step l c)

@@ -13,6 +13,9 @@ pub record Settings : Type 0 where
   pub m2 : ℕ
   pub a : ℕ
 
+abbrev pub settingsOf : ℕ → ℕ → ℕ → ℕ → ℕ → Settings
+settingsOf ce d m1 m2 a = record { ce = ce; d = d; m1 = m1; m2 = m2; a = a }
+
 -- what a registration declares (document 01, Registration): the project, the kind of plant (1 existing, 2 new), study value, start day,
 -- levels
 pub record Declaration : Type 0 where

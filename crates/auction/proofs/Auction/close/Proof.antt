@@ -1,7 +1,9 @@
 -- Refused unless a round is open; else the offers are applied, and supply, demand at C, excess and phase are the ledger's.
+use mathlib.Core.Path.{ap, _∙_}
 use native.Mathlib.Omega.{arith}
 use borrow.Author.Needs.{needs}
-use Rattle.auction.proofs.Signed.{difference-back}
+use Rattle.checks.specs.Signed.{difference-back}
+use Rattle.auction.specs.Tests.{phaseNumberAfter}
 use Rattle.auction.proofs.ClosingRound.{close-phase, close-taken}
 use Rattle.auction.proofs.Auction.close.Statement.{statement}
 use Rattle.auction.proofs.Auction.close.Tie as tie
@@ -21,20 +23,26 @@ demand-at-requires c κs = search needs
 excess-of-requires : tie.Need-excess-of-requires
 excess-of-requires c κs = search needs
 
+clears-requires : tie.Need-clears-requires
+clears-requires c κs = search needs
+
 phase-after-requires : tie.Need-phase-after-requires
 phase-after-requires c κs = search needs
 
 returns-2 : tie.Need-returns-2
 returns-2 c =
-    let supply = c .before .before .before .before .supply in
-    let demand = c .before .before .before .demand-at in
+    let tested = c .before .clears in
+    let excess = c .before .before .before .excess-of in
+    let demand = c .before .before .before .before .demand-at in
+    let supply = c .before .before .before .before .before .supply in
+    let offers = c .before .before .before .before .before .before .before .before in
     close-taken _ _ _ _ _ _ (record {
-      round = c .before .before .before .before .before .before .before .before .if1 .left;
-      applied = c .before .before .before .before .before .before .before .with-offers-applied .ensures;
+      round = offers .before .if1 .left;
+      applied = offers .with-offers-applied .ensures;
       supply-is = supply .ensures .0;
       demand-is = demand .ensures .0;
-      phase-is = c .phase-after .ensures;
-      excess-is = difference-back (supply .result) (demand .result) (omega arith) (omega arith) (c .before .before .excess-of .result) (c .before .before .excess-of .ensures);
+      phase-is = c .phase-after .ensures ∙ ap phaseNumberAfter (tested .ensures);
+      excess-is = difference-back (supply .result) (demand .result) (omega arith) (omega arith) (excess .result) (excess .ensures);
     })
 
 pub close-spec : {M : Type 1} → statement M
@@ -46,5 +54,6 @@ close-spec =
     supply-requires
     demand-at-requires
     excess-of-requires
+    clears-requires
     phase-after-requires
     returns-2)

@@ -1,21 +1,26 @@
 -- An offer: the checks in their order, then the steps held behind the withdrawals.
-use Prim.Native.Nat.{_≤_}
+use Prim.Native.Nat.{_-_, _≤_}
 use mathlib.Core.Path.{_≡_, sym, _∙_}
 use mathlib.Core.Bool.{true}
 use native.Mathlib.Omega.{arith}
+use lib.ListN.{getD}
 use borrow.Author.Needs.{needs}
 use borrow.Author.Tests.{not-true, not-false}
-use Rattle.auction.specs.Tests.{mayOfferBy}
-use Rattle.auction.proofs.Offering.{offerer-number, offer-phase, offer-barred, offer-second, offer-prices, offer-levels, offer-taken}
+use Rattle.rules.specs.Refusals.{mayOffer}
+use Rattle.rules.specs.CheckLaws.{may-offer-facts}
+use Rattle.auction.proofs.Offering.{offer-phase, offer-barred, offer-second, offer-prices, offer-levels, offer-taken}
 use Rattle.auction.proofs.Auction.offer.Statement.{statement}
 use Rattle.auction.proofs.Auction.offer.Tie as tie
 
--- past the test of the developer
-allowed : (c : tie.Else2) → let s = c .before .before .before .before .before .args in mayOfferBy (s .t1) (s .developer) ≡ true
+-- past the test of the developer, and the way back to that of the phase
+abbrev in-round : tie.Else2 → tie.Else1
+in-round c = c .before .before .before
+
+allowed : (c : tie.Else2) → let s = in-round c .before .before .before .args in mayOffer (s .developer) (getD (s .t1 .kinds) (s .developer - 1) 0) ≡ true
 allowed c = sym (c .before .may-offer .ensures) ∙ not-false _ (c .if2 .left)
 
-bounds : (c : tie.Else2) → let n = c .before .before .before .before .before .args .developer in (1 ≤ n) × (n ≤ 32)
-bounds c = offerer-number _ _ (allowed c)
+bounds : (c : tie.Else2) → let n = in-round c .before .before .before .args .developer in (1 ≤ n) × (n ≤ 32)
+bounds c = let f = may-offer-facts _ _ (allowed c) in (f .0, f .1)
 
 -- the ways back to that test, from the test of the prices and from that of the levels
 abbrev priced : tie.Else4 → tie.Else2
@@ -37,7 +42,7 @@ refused-requires-2 : tie.Need-refused-requires-2
 refused-requires-2 c κs = search needs
 
 returns-2 : tie.Need-returns-2
-returns-2 c = rw (c .refused2 .ensures) (offer-barred _ _ _ _ (c .before .before .before .if1 .left) (sym (c .before .before .may-offer .ensures) ∙ not-true _ (c .before .if2 .taken)))
+returns-2 c = rw (c .refused2 .ensures) (offer-barred _ _ _ _ (c .before .before .before .before .if1 .left) (sym (c .before .before .may-offer .ensures) ∙ not-true _ (c .before .if2 .taken)))
 
 sub-i : tie.Need-sub-i
 sub-i c = let b = bounds c in omega arith
@@ -57,7 +62,7 @@ refused-requires-3 c κs = search needs
 returns-3 : tie.Need-returns-3
 returns-3 c =
     let x = c .before .before .before .before in
-    rw (c .refused3 .ensures) (offer-second _ _ _ _ (x .before .before .if1 .left) (allowed x) _ (c .before .if3 .taken))
+    rw (c .refused3 .ensures) (offer-second _ _ _ _ (in-round x .if1 .left) (allowed x) _ (c .before .if3 .taken))
 
 prices-ok-requires : tie.Need-prices-ok-requires
 prices-ok-requires c κs = search needs
@@ -69,7 +74,7 @@ returns-4 : tie.Need-returns-4
 returns-4 c =
     let x = c .before .before .before .before .before .before in
     rw (c .refused4 .ensures)
-    (offer-prices _ _ _ _ (x .before .before .if1 .left) (allowed x) _ (c .before .before .before .if3 .left)
+    (offer-prices _ _ _ _ (in-round x .if1 .left) (allowed x) _ (c .before .before .before .if3 .left)
     (sym (c .before .before .prices-ok .ensures) ∙ not-true _ (c .before .if4 .taken)))
 
 mul-declared : tie.Need-mul-declared
@@ -95,7 +100,7 @@ returns-5 c =
     let y = lowered (c .before .before) in
     let x = priced y in
     rw (c .refused5 .ensures)
-    (offer-levels _ _ _ _ (x .before .before .if1 .left) (allowed x) _ (y .before .before .if3 .left) (sym (y .before .prices-ok .ensures) ∙ not-false _ (y .if4 .left))
+    (offer-levels _ _ _ _ (in-round x .if1 .left) (allowed x) _ (y .before .before .if3 .left) (sym (y .before .prices-ok .ensures) ∙ not-false _ (y .if4 .left))
     _
     (sym (c .before .before .lowers .ensures) ∙ not-true _ (c .before .if5 .taken)))
 
@@ -112,7 +117,7 @@ returns-6 : tie.Need-returns-6
 returns-6 c =
     let y = lowered (c .before .before) in
     let x = priced y in
-    offer-taken _ _ _ _ (x .before .before .if1 .left) (allowed x) _ (y .before .before .if3 .left) (sym (y .before .prices-ok .ensures) ∙ not-false _ (y .if4 .left))
+    offer-taken _ _ _ _ (in-round x .if1 .left) (allowed x) _ (y .before .before .if3 .left) (sym (y .before .prices-ok .ensures) ∙ not-false _ (y .if4 .left))
     _
     (sym (c .before .before .lowers .ensures) ∙ not-false _ (c .before .if5 .left))
     _

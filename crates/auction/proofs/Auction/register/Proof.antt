@@ -1,20 +1,22 @@
 -- Registration: refused in another phase, by its numbers or by its declaration; else the newcomer is stored at its place.
-use Prim.Native.Nat.{_≤_}
+use Prim.Native.Nat.{_-_}
 use mathlib.Core.Path.{_≡_, sym, _∙_}
 use mathlib.Core.Bool.{true}
 use native.Mathlib.Omega.{arith}
+use lib.ListN.{getD}
 use borrow.Author.Needs.{needs}
 use borrow.Author.Tests.{not-true, not-false}
-use Rattle.auction.specs.Tests.{numbersFree}
-use Rattle.auction.proofs.Registering.{free-number, register-phase, register-numbers, register-declaration, register-taken}
+use Rattle.rules.specs.Refusals.{numbersOk}
+use Rattle.rules.specs.CheckLaws.{Numbers, numbers-facts}
+use Rattle.auction.proofs.Registering.{register-phase, register-numbers, register-declaration, register-taken}
 use Rattle.auction.proofs.Auction.register.Statement.{statement}
 use Rattle.auction.proofs.Auction.register.Tie as tie
 
-free : (c : tie.Else2) → let s = c .before .before .before .before .before .before .before .args in numbersFree (s .self .projects) (s .project) (s .developer) ≡ true
+free : (c : tie.Else2) → let s = c .before .before .before .before .before .before .before .args in numbersOk (s .project) (s .developer) (getD (s .self .projects) (s .developer - 1) 0) ≡ true
 free c = sym (c .before .numbers-ok .ensures) ∙ not-false _ (c .if2 .left)
 
-bounds : (c : tie.Else2) → let s = c .before .before .before .before .before .before .before .args in (1 ≤ s .developer) × (s .developer ≤ 32)
-bounds c = free-number _ _ _ (free c)
+bounds : (c : tie.Else2) → let s = c .before .before .before .before .before .before .before .args in Numbers (s .project) (s .developer) (getD (s .self .projects) (s .developer - 1) 0)
+bounds c = numbers-facts _ _ _ (free c)
 
 refused-requires : tie.Need-refused-requires
 refused-requires c κs = search needs

@@ -6,7 +6,7 @@ use borrow.Author.Needs.{needs}
 use borrow.Author.Tests.{not-true, not-false}
 use Rattle.rules.specs.Refusals.{settingsOk}
 use Rattle.rules.specs.CheckLaws.{in-settings}
-use Rattle.auction.specs.Called.{settingsOf}
+use Rattle.rules.specs.Ledger.{settingsOf}
 use Rattle.auction.proofs.SettingUp.{set-up-phase, set-up-settings, set-up-taken}
 use Rattle.auction.proofs.Auction.set_up.Statement.{statement}
 use Rattle.auction.proofs.Auction.set_up.Tie as tie

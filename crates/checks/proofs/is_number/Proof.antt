@@ -1,7 +1,7 @@
 -- From 1 to 32.
 use borrow.Author.Tests.{le-leb, lt-leb}
-use Rattle.auction.proofs.is_number.Statement.{statement}
-use Rattle.auction.proofs.is_number.Tie as tie
+use Rattle.checks.proofs.is_number.Statement.{statement}
+use Rattle.checks.proofs.is_number.Tie as tie
 
 returns : tie.Need-returns
 returns c = simp (lt-leb _ _ (c .if1 .taken))

@@ -1,7 +1,7 @@
 -- Kind 1 or kind 2.
 use borrow.Author.Tests.{eq-eqb, ne-eqb}
-use Rattle.auction.proofs.is_kind.Statement.{statement}
-use Rattle.auction.proofs.is_kind.Tie as tie
+use Rattle.checks.proofs.is_kind.Statement.{statement}
+use Rattle.checks.proofs.is_kind.Tie as tie
 
 returns : tie.Need-returns
 returns c = simp (eq-eqb _ _ (c .if1 .taken))

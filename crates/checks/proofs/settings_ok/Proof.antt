@@ -8,8 +8,8 @@ use borrow.Author.Tests.{not-true, not-false, le-leb, lt-leb, lt-ltb, le-ltb}
 use Rattle.curve.specs.Demand.{InBounds, inBounds}
 use Rattle.curve.specs.Range.{in-bounds}
 use Rattle.rules.specs.Refusals.{settingsOk}
-use Rattle.auction.proofs.settings_ok.Statement.{statement}
-use Rattle.auction.proofs.settings_ok.Tie as tie
+use Rattle.checks.proofs.settings_ok.Statement.{statement}
+use Rattle.checks.proofs.settings_ok.Tie as tie
 
 in-bound : (c : tie.Else1) → let s = c .before .before .args in inBounds (s .ce) (s .d) (s .m1) (s .m2) ≡ true
 in-bound c = sym (c .before .settings-in-bounds .ensures) ∙ not-false _ (c .if1 .left)

@@ -5,11 +5,10 @@ use mathlib.Core.Bool.{true}
 use native.Mathlib.Omega.{arith}
 use borrow.Author.Needs.{needs}
 use borrow.Author.Tests.{not-true, not-false}
-use Rattle.rules.specs.Refusals.{isNumber}
+use Rattle.rules.specs.Refusals.{isNumber, numbersOk}
 use Rattle.rules.specs.CheckLaws.{is-number}
-use Rattle.auction.specs.Tests.{numbersFree}
-use Rattle.auction.proofs.numbers_ok.Statement.{statement}
-use Rattle.auction.proofs.numbers_ok.Tie as tie
+use Rattle.checks.proofs.numbers_ok.Statement.{statement}
+use Rattle.checks.proofs.numbers_ok.Tie as tie
 
 project-number : (c : tie.Else1) → isNumber (c .before .before .args .project) ≡ true
 project-number c = sym (c .before .is-number .ensures) ∙ not-false _ (c .if1 .left)
@@ -24,14 +23,14 @@ is-number-requires : tie.Need-is-number-requires
 is-number-requires c κs = search needs
 
 returns : tie.Need-returns
-unfolding numbersFree
+unfolding numbersOk
 returns c = simp (sym (c .before .is-number .ensures) ∙ not-true _ (c .if1 .taken))
 
 is-number-requires-2 : tie.Need-is-number-requires-2
 is-number-requires-2 c κs = search needs
 
 returns-2 : tie.Need-returns-2
-unfolding numbersFree
+unfolding numbersOk
 returns-2 c = simp (project-number (c .before .before), sym (c .before .is-number2 .ensures) ∙ not-true _ (c .if2 .taken))
 
 sub-i : tie.Need-sub-i
@@ -44,7 +43,7 @@ array-read-result : tie.Need-array-read-result
 array-read-result c = let b = bounds c in omega arith
 
 returns-3 : tie.Need-returns-3
-unfolding numbersFree
+unfolding numbersOk
 returns-3 c = simp (project-number (c .before .before), developer-number c)
 
 pub numbers-ok-spec : {M : Type 1} → statement M

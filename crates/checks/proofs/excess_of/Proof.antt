@@ -1,9 +1,9 @@
 -- Supply less demand, both below 2^62, signed.
 use mir.Facts.{toZ-ofZ}
 use borrow.Author.Needs.{needs}
-use Rattle.auction.proofs.Signed.{difference, difference-fits}
-use Rattle.auction.proofs.excess_of.Statement.{statement}
-use Rattle.auction.proofs.excess_of.Tie as tie
+use Rattle.checks.specs.Signed.{difference, difference-fits}
+use Rattle.checks.proofs.excess_of.Statement.{statement}
+use Rattle.checks.proofs.excess_of.Tie as tie
 
 cast-result : tie.Need-cast-result
 cast-result c = search needs

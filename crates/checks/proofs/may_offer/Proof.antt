@@ -5,11 +5,10 @@ use mathlib.Core.Bool.{true}
 use native.Mathlib.Omega.{arith}
 use borrow.Author.Needs.{needs}
 use borrow.Author.Tests.{not-true, not-false}
-use Rattle.rules.specs.Refusals.{isNumber}
+use Rattle.rules.specs.Refusals.{isNumber, mayOffer}
 use Rattle.rules.specs.CheckLaws.{is-number}
-use Rattle.auction.specs.Tests.{mayOfferBy}
-use Rattle.auction.proofs.Auction.may_offer.Statement.{statement}
-use Rattle.auction.proofs.Auction.may_offer.Tie as tie
+use Rattle.checks.proofs.may_offer.Statement.{statement}
+use Rattle.checks.proofs.may_offer.Tie as tie
 
 developer-number : (c : tie.Else1) → isNumber (c .before .before .args .developer) ≡ true
 developer-number c = sym (c .before .is-number .ensures) ∙ not-false _ (c .if1 .left)
@@ -21,7 +20,7 @@ is-number-requires : tie.Need-is-number-requires
 is-number-requires c κs = search needs
 
 returns : tie.Need-returns
-unfolding mayOfferBy
+unfolding mayOffer
 returns c = simp (sym (c .before .is-number .ensures) ∙ not-true _ (c .if1 .taken))
 
 sub-i : tie.Need-sub-i
@@ -30,13 +29,13 @@ sub-i c = let b = bounds c in omega arith
 cast-i : tie.Need-cast-i
 cast-i c = search needs
 
-element-copy-out-result : tie.Need-element-copy-out-result
-element-copy-out-result c = let b = bounds c in omega arith
+array-read-result : tie.Need-array-read-result
+array-read-result c = let b = bounds c in omega arith
 
 returns-2 : tie.Need-returns-2
-unfolding mayOfferBy
-returns-2 c = simp (developer-number (c .before))
+unfolding mayOffer
+returns-2 c = simp (developer-number c)
 
 pub may-offer-spec : {M : Type 1} → statement M
 may-offer-spec =
-    tie.close (tie.spec is-number-requires returns sub-i cast-i element-copy-out-result returns-2)
+    tie.close (tie.spec is-number-requires returns sub-i cast-i array-read-result returns-2)

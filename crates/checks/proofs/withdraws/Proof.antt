@@ -1,12 +1,15 @@
 -- One of kind 2 that is above 0.
 use borrow.Author.Tests.{eq-eqb, ne-eqb}
-use Rattle.auction.proofs.withdraws.Statement.{statement}
-use Rattle.auction.proofs.withdraws.Tie as tie
+use Rattle.rules.specs.Rounds.{withdrawsAll}
+use Rattle.checks.proofs.withdraws.Statement.{statement}
+use Rattle.checks.proofs.withdraws.Tie as tie
 
 returns : tie.Need-returns
+unfolding withdrawsAll
 returns c = simp (ne-eqb _ _ (c .if1 .taken))
 
 returns-2 : tie.Need-returns-2
+unfolding withdrawsAll
 returns-2 c = simp (eq-eqb _ _ (c .if1 .left))
 
 pub withdraws-spec : {M : Type 1} → statement M

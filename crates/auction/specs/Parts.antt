@@ -1,0 +1,97 @@
+-- The auction with some of its parts replaced, and the ledger that it then holds: the only laws that name its arrays, besides those of a
+-- registration, which stores to most of them.
+use Prim.Native.Nat.{ℕ}
+use mathlib.Core.Path.{_≡_, refl, sym, ap, _∙_}
+use mathlib.Core.List.{List}
+use Rattle.rules.specs.Ledger.{Declaration, Developer, Phase, Ledger, withPhase, withSettings, withPrices, withDeveloper}
+use Rattle.rules.specs.Ledger as rules
+use Rattle.rules.specs.Clearing.{ofEach}
+use Rattle.levels.specs.Held.{heldLevels}
+use Rattle.history.specs.Held.{held}
+use Rattle.history.specs.declared.History.{History}
+use Rattle.auction.specs.declared.Auction.{Auction}
+use Rattle.auction.specs.declared.Settings.{Settings}
+use Rattle.auction.specs.Holds.{phaseNumber, auctionOf}
+use Rattle.auction.specs.Places.{put-keeps}
+
+-- ---- another phase, settings and prices
+
+abbrev pub withClock : Auction → ℕ → Settings → ℕ → ℕ → Auction
+withClock a phase settings opening closing = record {
+  phase = phase;
+  settings = settings;
+  opening = opening;
+  closing = closing;
+  projects = a .projects;
+  kinds = a .kinds;
+  studies = a .studies;
+  days = a .days;
+  quantities = a .quantities;
+  declared = a .declared;
+  histories = a .histories;
+}
+
+-- the settings as the auction holds them
+abbrev pub settingsHeld : rules.Settings → Settings
+settingsHeld s = record { ce = s .ce; d = s .d; m1 = s .m1; m2 = s .m2; a = s .a }
+
+pub clock-held :
+    (a : Auction) (l : Ledger) (p : Phase) (s : rules.Settings) {n o c o′ c′ : ℕ} {t : Settings} → a ≡ auctionOf l →
+    n ≡ phaseNumber p → t ≡ settingsHeld s → o ≡ o′ → c ≡ c′ →
+    withClock a n t o c ≡ auctionOf (withPhase (withPrices (withSettings l s) o′ c′) p)
+unfolding auctionOf
+clock-held a l p s h en et eo ec = λ i. record {
+  phase = en i;
+  settings = et i;
+  opening = eo i;
+  closing = ec i;
+  projects = h i .projects;
+  kinds = h i .kinds;
+  studies = h i .studies;
+  days = h i .days;
+  quantities = h i .quantities;
+  declared = h i .declared;
+  histories = h i .histories;
+}
+
+-- ---- other quantities and histories: what a developer's offers and a closing change, its registration staying
+
+abbrev pub withCourses : Auction → List ℕ → List History → Auction
+withCourses a quantities histories = record {
+  phase = a .phase;
+  settings = a .settings;
+  opening = a .opening;
+  closing = a .closing;
+  projects = a .projects;
+  kinds = a .kinds;
+  studies = a .studies;
+  days = a .days;
+  quantities = quantities;
+  declared = a .declared;
+  histories = histories;
+}
+
+module _ (a : Auction) (l : Ledger) (n : ℕ) (x : Developer) (h : a ≡ auctionOf l) (e : x .declared ≡ l .developers n .declared) where
+  abbrev next : Ledger
+  next = withDeveloper l n x
+
+  keeps : {A : Type 0} (f : Declaration → A) {xs : List A} → xs ≡ ofEach (λ y. f (y .declared)) l → xs ≡ ofEach (λ y. f (y .declared)) next
+  keeps f g = g ∙ sym (put-keeps (λ y. f (y .declared)) l n x (ap f e))
+
+  pub courses-held :
+      {qs : List ℕ} {hs : List History} → qs ≡ ofEach (λ y. y .quantity) next → hs ≡ ofEach (λ y. held (y .withdrawals) (y .offer)) next →
+      withCourses a qs hs ≡ auctionOf next
+  unfolding auctionOf
+  courses-held eq eh = λ i. record {
+    phase = h i .phase;
+    settings = h i .settings;
+    opening = h i .opening;
+    closing = h i .closing;
+    projects = keeps (λ y. y .project) (λ j. h j .projects) i;
+    kinds = keeps (λ y. y .kind) (λ j. h j .kinds) i;
+    studies = keeps (λ y. y .study) (λ j. h j .studies) i;
+    days = keeps (λ y. y .day) (λ j. h j .days) i;
+    quantities = eq i;
+    declared = keeps (λ y. heldLevels (y .levels)) (λ j. h j .declared) i;
+    histories = eh i;
+  }
