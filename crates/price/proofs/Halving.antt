@@ -7,12 +7,12 @@ use native.Mathlib.Omega.{arith}
 use lib.Dec.{leb}
 use Rattle.numbers.specs.Least.{Bracket as Brackets, bracket-start, bracket-down, bracket-up, bracket-end, least-unique}
 use Rattle.rules.specs.Ledger.{Ledger}
-use Rattle.rules.specs.Clearing.{highest, high as highAt, low as lowAt, covered, closingPrice}
+use Rattle.rules.specs.Clearing.{highest, high as highAt, low as lowAt, covered, closingPrice, ofEach}
 use Rattle.sound.specs.Sound.{Sound, started}
 use Rattle.clearing.specs.ClosingPrice.{settings-facts, passed-in-range, covered-rises, closing-price}
 use Rattle.supply.specs.ByProject.{supplyOf}
 use Rattle.supply.specs.ByProjectLaws.{supply-of}
-use Rattle.auction.specs.Holds.{ofEach, auctionOf}
+use Rattle.auction.specs.Holds.{auctionOf}
 use Rattle.auction.specs.Tests.{demandBy}
 use Rattle.auction.specs.Demands.{demand-is}
 use Rattle.auction.specs.declared.Auction.{Auction}

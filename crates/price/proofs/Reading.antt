@@ -7,7 +7,7 @@ use native.Mathlib.Omega.{arith}
 use lib.Dec.{leb}
 use lib.ListN.{length, getD, set}
 use Rattle.rules.specs.Ledger.{Standing, none, made, Developer, Ledger}
-use Rattle.rules.specs.Clearing.{highest, after, low}
+use Rattle.rules.specs.Clearing.{highest, after, low, ofEach}
 use Rattle.sound.specs.Sound.{Sound, Registered}
 use Rattle.reachable.specs.Checks.{levels-facts}
 use Rattle.reachable.specs.Bounds.{withdrawals-few, offer-fits}
@@ -15,7 +15,6 @@ use Rattle.levels.specs.Held.{heldLevels, Highest}
 use Rattle.levels.specs.declared.Levels.{Levels}
 use Rattle.history.specs.Held.{held, pending, LevelAt}
 use Rattle.history.specs.declared.History.{History}
-use Rattle.auction.specs.Holds.{ofEach}
 use Rattle.auction.specs.Places.{Filling, filling-next, filling-all, numbered-at}
 use Rattle.price.specs.Prices.{Highests, Lows}
 

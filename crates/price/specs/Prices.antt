@@ -5,13 +5,13 @@ use mathlib.Core.Bool.{Bool, true, cond}
 use mathlib.Core.List.{List}
 use lib.Dec.{leb}
 use Rattle.rules.specs.Ledger.{Ledger}
-use Rattle.rules.specs.Clearing.{highest, low, covered, closingPrice}
+use Rattle.rules.specs.Clearing.{highest, low, covered, closingPrice, ofEach}
 use Rattle.sound.specs.Sound.{Sound, started}
 use Rattle.levels.specs.Held.{heldLevels}
 use Rattle.levels.specs.declared.Levels.{Levels}
 use Rattle.history.specs.Held.{held}
 use Rattle.history.specs.declared.History.{History}
-use Rattle.auction.specs.Holds.{ofEach, auctionOf}
+use Rattle.auction.specs.Holds.{auctionOf}
 use Rattle.auction.specs.declared.Auction.{Auction}
 use Rattle.price.specs.declared.Bracket.{Bracket}
 

@@ -10,7 +10,7 @@ use borrow.Author.Tests.{eq-eqb, ne-eqb, le-leb, lt-leb}
 use Rattle.numbers.specs.Lists.{total}
 use Rattle.choices.specs.Choices.{choices, covering, bestOf}
 use Rattle.rules.specs.Ledger.{Phase, Fresh, Ready, Round, Between, Closed, Ledger}
-use Rattle.rules.specs.Clearing.{highest, high, low, covered, demandAt, closingPrice}
+use Rattle.rules.specs.Clearing.{highest, high, low, covered, demandAt, closingPrice, ofEach}
 use Rattle.rules.specs.Refusals.{isClosed}
 use Rattle.rules.specs.Rounds.{ledger}
 use Rattle.rules.specs.Award.{rows, admissible, coveringChoices, award}
@@ -19,7 +19,7 @@ use Rattle.sound.specs.Sound.{Sound, started}
 use Rattle.clearing.specs.ClosingPrice.{closed-started, settings-facts, passed-in-range, closing-price}
 use Rattle.reachable.specs.Reachable.{sound}
 use Rattle.awards.specs.AwardLaws.{some-cover}
-use Rattle.auction.specs.Holds.{phaseNumber, ofEach, auctionOf, Holding}
+use Rattle.auction.specs.Holds.{phaseNumber, auctionOf, Holding}
 use Rattle.auction.specs.Tests.{demandBy}
 use Rattle.auction.specs.Demands.{demand-is}
 use Rattle.auction.specs.declared.Auction.{Auction}

@@ -45,7 +45,7 @@ pub fn settle(auction: Auction, limit: u32, awards: &mut [u8]) -> Settled
     let highs = price::lows_at(histories, highest, price::above(p));
     let table = open_levels::table_of(projects, declared, lows, highs);
     let demand = auction.demand_at(p);
-    let capped = Auction::capped_limit(limit);
+    let capped = checks::capped_limit(limit);
     let selected = selection::select(table, demand, capped);
     if selected.number != 0 {
         return refused(selected.number);
