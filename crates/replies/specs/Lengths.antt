@@ -18,9 +18,9 @@ use Rattle.format.specs.Fields.{RawCall, callOf, read}
 use Rattle.format.specs.Fields as fields
 use Rattle.format.specs.Lines.{lines}
 use Rattle.format.specs.FieldLaws.{WellFormed, was-read}
-use Rattle.rules.specs.Ledger.{SetUp, Register, Open, Offer, Close, Ledger, start}
-use Rattle.rules.specs.Refusals.{check, isClosed, number}
-use Rattle.rules.specs.Rounds.{excess}
+use Rattle.rules.specs.Ledger.{SetUp, Register, Open, By, Close, Ledger, start}
+use Rattle.rules.specs.Refusals.{check, isClosed}
+use Rattle.rules.specs.Rounds.{answer}
 use Rattle.rules.specs.Award.{award, winner, admissible}
 use Rattle.rules.specs.Clearing.{closingPrice}
 use Rattle.rules.specs.Settling.{recordOf, recordsFrom, records, settlementAt, settlement, settlingNumber}
@@ -108,18 +108,18 @@ most Malformed = 5
 most (Asks (SetUp s)) = 5
 most (Asks (Register n x)) = 5
 most (Asks (Open c)) = 5
-most (Asks (Offer n ps qs)) = 5
+most (Asks (By n m)) = 5
 most (Asks Close) = 21
 most (Settle limit) = 435
 
 reply-most : (l : Ledger) (o : Order) → length (replyTo l o) ≤ most o
 unfolding replyTo most
 reply-most l Malformed = line-length 255 12 0 [] (λ e. omega arith)
-reply-most l (Asks (SetUp s)) = line-length 1 (number l (SetUp s)) 0 [] (λ e. omega arith)
-reply-most l (Asks (Register n x)) = line-length 2 (number l (Register n x)) 0 [] (λ e. omega arith)
-reply-most l (Asks (Open c)) = line-length 3 (number l (Open c)) 0 [] (λ e. omega arith)
-reply-most l (Asks (Offer n ps qs)) = line-length 4 (number l (Offer n ps qs)) 0 [] (λ e. omega arith)
-reply-most l (Asks Close) = line-length 5 (number l Close) 16 (extra l Close) (λ e. omega (arith, length-digits 16 (twosComplement (excess l Close))))
+reply-most l (Asks (SetUp s)) = line-length 1 (answer l (SetUp s) .number) 0 [] (λ e. omega arith)
+reply-most l (Asks (Register n x)) = line-length 2 (answer l (Register n x) .number) 0 [] (λ e. omega arith)
+reply-most l (Asks (Open c)) = line-length 3 (answer l (Open c) .number) 0 [] (λ e. omega arith)
+reply-most l (Asks (By n m)) = line-length (kindOf (By n m)) (answer l (By n m) .number) 0 [] (λ e. omega arith)
+reply-most l (Asks Close) = line-length 5 (answer l Close .number) 16 (extra Close (answer l Close)) (λ e. omega (arith, length-digits 16 (twosComplement (answer l Close .excess))))
 reply-most l (Settle limit) =
     line-length 6 (settlingNumber l limit 192) 430 (settledDigits (settlement l)) (λ e. omega (arith, settled-length l, few l limit e))
 

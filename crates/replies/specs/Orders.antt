@@ -6,7 +6,7 @@ use mathlib.Core.Option.{Option, none, some}
 use lib.Dec.{eqb}
 use lib.ListN.{getD, drop}
 use Rattle.format.specs.Fields.{RawCall, read}
-use Rattle.rules.specs.Ledger.{Call, SetUp, Register, Open, Offer, Close}
+use Rattle.rules.specs.Ledger.{settingsOf, Offer, Call, SetUp, Register, Open, By, Close}
 
 pub data Order : Type 0 where
   Malformed : Order
@@ -26,7 +26,7 @@ seconds (p ∷ q ∷ rest) = q ∷ seconds rest
 
 -- 01 set-up: CE, D, M1, M2, A
 abbrev pub setUpOf : List ℕ → Call
-setUpOf ns = SetUp (record { ce = getD ns 0 0; d = getD ns 1 0; m1 = getD ns 2 0; m2 = getD ns 3 0; a = getD ns 4 0 })
+setUpOf ns = SetUp (settingsOf (getD ns 0 0) (getD ns 1 0) (getD ns 2 0) (getD ns 3 0) (getD ns 4 0))
 
 -- 02 registration: project, developer, kind, study, day, count, levels
 abbrev pub registrationOf : List ℕ → Call
@@ -40,7 +40,7 @@ registrationOf ns = Register (getD ns 1 0) (record {
 
 -- 04 offer: developer, count, steps of price and level
 abbrev pub offerOf : List ℕ → Call
-offerOf ns = Offer (getD ns 0 0) (firsts (drop 2 ns)) (seconds (drop 2 ns))
+offerOf ns = By (getD ns 0 0) (Offer (firsts (drop 2 ns)) (seconds (drop 2 ns)))
 
 -- by the frame's kind
 unfoldable pub orderOf : RawCall → Order

@@ -7,9 +7,8 @@ use lib.IntN.{ℤ, pos, negsuc}
 use lib.ListN.{length}
 use Rattle.format.specs.Hex.{digits}
 use Rattle.format.specs.Lines.{lines}
-use Rattle.rules.specs.Ledger.{Call, SetUp, Register, Open, Offer, Close, Ledger, start}
-use Rattle.rules.specs.Refusals.{number}
-use Rattle.rules.specs.Rounds.{step, excess}
+use Rattle.rules.specs.Ledger.{Offer, Call, SetUp, Register, Open, By, Close, Ledger, start}
+use Rattle.rules.specs.Rounds.{step, Answered, answer}
 use Rattle.rules.specs.Settling.{Settlement, settlement, settlingNumber}
 use Rattle.replies.specs.Orders.{Order, Malformed, Asks, Settle, orderIn}
 
@@ -17,7 +16,7 @@ abbrev pub kindOf : Call → ℕ
 kindOf (SetUp s) = 1
 kindOf (Register n x) = 2
 kindOf (Open c) = 3
-kindOf (Offer n ps qs) = 4
+kindOf (By n (Offer ps qs)) = 4
 kindOf Close = 5
 
 -- a signed number in two's complement, as a number of 64 bits
@@ -25,13 +24,13 @@ abbrev pub twosComplement : ℤ → ℕ
 twosComplement (pos n) = n
 twosComplement (negsuc n) = 2 ^ 64 - suc n
 
--- what an accepted call adds: a closing its excess, 16 digits
-abbrev pub extra : Ledger → Call → List ℕ
-extra l (SetUp s) = []
-extra l (Register n x) = []
-extra l (Open c) = []
-extra l (Offer n ps qs) = []
-extra l Close = digits 16 (twosComplement (excess l Close))
+-- what the accepted answer to a call adds: to a closing its excess, 16 digits
+abbrev pub extra : Call → Answered → List ℕ
+extra (SetUp s) r = []
+extra (Register n x) r = []
+extra (Open c) r = []
+extra (By n m) r = []
+extra Close r = digits 16 (twosComplement (r .excess))
 
 -- an award record's bytes project, developer, quantity (4), as digits: each byte is two of them
 abbrev pub recordDigits : List ℕ → List ℕ
@@ -54,7 +53,7 @@ awardRoom = 192
 -- a malformed line gets FF0C
 unfoldable pub replyTo : Ledger → Order → List ℕ
 replyTo l Malformed = answerLine 255 12 []
-replyTo l (Asks c) = answerLine (kindOf c) (number l c) (extra l c)
+replyTo l (Asks c) = answerLine (kindOf c) (answer l c .number) (extra c (answer l c))
 replyTo l (Settle limit) = answerLine 6 (settlingNumber l limit awardRoom) (settledDigits (settlement l))
 
 -- settling and malformed lines change no auction

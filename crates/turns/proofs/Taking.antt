@@ -6,12 +6,11 @@ use mathlib.Core.List.{List, [], flatten, append-nil}
 use mathlib.Core.Option.{none}
 use native.Mathlib.Omega.{arith}
 use lib.Dec.{eqb}
-use lib.IntN.{ℤ, pos}
 use lib.ListN.{length, drop, getD}
 use borrow.Author.Tests.{ne-eqb, eqb-true, eqb-false}
 use Rattle.format.specs.Hex.{digits}
-use Rattle.rules.specs.Ledger.{Settings, Declaration, Call, SetUp, Register, Open, Offer, Close, Ledger}
-use Rattle.rules.specs.Rounds.{ledger}
+use Rattle.rules.specs.Ledger.{Settings, Declaration, Offer, Call, SetUp, Register, Open, By, Close, Ledger}
+use Rattle.rules.specs.Rounds.{ledger, Answered, numberAlone}
 use Rattle.rules.specs.Settling.{records, settlingNumber, settlementAt, settlement}
 use Rattle.replies.specs.Orders.{Malformed, Asks, Settle, firsts, seconds, setUpOf, registrationOf, offerOf, orderOf, ordered}
 use Rattle.replies.specs.Lengths.{six, few}
@@ -52,40 +51,40 @@ takes-none a t ea ek en = record {
 
 -- a call that adds nothing to its number
 pub record Bare (c : Call) : Type 0 where
-  pub none : (l : Ledger) → extra l c ≡ []
+  pub none : (r : Answered) → extra c r ≡ []
   pub no-closing : kindOf c ≡ 5 → ⊥
   pub no-settling : kindOf c ≡ 6 → ⊥
 
 pub bare-set-up : (s : Settings) → Bare (SetUp s)
-bare-set-up s = record { none = λ l. refl; no-closing = omega arith; no-settling = omega arith }
+bare-set-up s = record { none = λ r. refl; no-closing = omega arith; no-settling = omega arith }
 
 pub bare-registration : (n : ℕ) (x : Declaration) → Bare (Register n x)
-bare-registration n x = record { none = λ l. refl; no-closing = omega arith; no-settling = omega arith }
+bare-registration n x = record { none = λ r. refl; no-closing = omega arith; no-settling = omega arith }
 
 pub bare-opening : (c : ℕ) → Bare (Open c)
-bare-opening c = record { none = λ l. refl; no-closing = omega arith; no-settling = omega arith }
+bare-opening c = record { none = λ r. refl; no-closing = omega arith; no-settling = omega arith }
 
-pub bare-offer : (n : ℕ) (ps qs : List ℕ) → Bare (Offer n ps qs)
-bare-offer n ps qs = record { none = λ l. refl; no-closing = omega arith; no-settling = omega arith }
+pub bare-offer : (n : ℕ) (ps qs : List ℕ) → Bare (By n (Offer ps qs))
+bare-offer n ps qs = record { none = λ r. refl; no-closing = omega arith; no-settling = omega arith }
 
 -- the engine's call is the order's
-pub takes-call : (c d : Call) (a next : Auction) (n : ℕ) (t : Turn) → c ≡ d → Bare d → Called c a next n (pos 0) → Answers (kindOf d) next n t
+pub takes-call : (c d : Call) (a next : Auction) (n : ℕ) (t : Turn) → c ≡ d → Bare d → Called c a next (numberAlone n) → Answers (kindOf d) next n t
     → Takes a (Asks d) t
 unfolding replyTo
 takes-call c d a next n t e bare was answers =
-    let called : Called d a next n (pos 0) = rw e at was in
+    let called : Called d a next (numberAlone n) = rw e at was in
     record {
       text = λ cs h. plain-text (t .reply) (kindOf d) n (answers .kind) (answers .number) (bare .no-closing) (bare .no-settling)
-          ∙ ap₂ (λ (m : ℕ) (x : List ℕ). answerLine (kindOf d) m x) (called .number cs h) (sym (bare .none (ledger cs)));
+          ∙ ap (answerLine (kindOf d) n) (sym (bare .none (numberAlone n))) ∙ ap (λ (r : Answered). answerLine (kindOf d) (r .number) (extra d r)) (called .answer cs h);
       next = λ cs h. answers .auction ∙ called .next cs h;
     }
 
-pub takes-close : (a next : Auction) (n : ℕ) (e : ℤ) (t : Turn) → Called Close a next n e → Answers 5 next n t → t .reply .excess ≡ twosComplement e
+pub takes-close : (a next : Auction) (r : Answered) (t : Turn) → Called Close a next r → Answers 5 next (r .number) t → t .reply .excess ≡ twosComplement (r .excess)
     → Takes a (Asks Close) t
 unfolding replyTo
-takes-close a next n e t called answers bits = record {
-  text = λ cs h. closing-text (t .reply) n (twosComplement e) (answers .kind) (answers .number) bits
-      ∙ ap₂ (λ (m : ℕ) (x : ℤ). answerLine 5 m (digits 16 (twosComplement x))) (called .number cs h) (called .excess cs h);
+takes-close a next r t called answers bits = record {
+  text = λ cs h. closing-text (t .reply) (r .number) (twosComplement (r .excess)) (answers .kind) (answers .number) bits
+      ∙ ap (λ (x : Answered). answerLine 5 (x .number) (extra Close x)) (called .answer cs h);
   next = λ cs h. answers .auction ∙ called .next cs h;
 }
 
@@ -99,7 +98,7 @@ pub registration-is : (ns ls : List ℕ) (k n kind study day : ℕ) → k ≡ ge
     → day ≡ getD ns 4 0 → ls ≡ drop 6 ns → registers k n kind study day ls ≡ registrationOf ns
 registration-is ns ls k n kind study day e0 e1 e2 e3 e4 e = rw (e0, e1, e2, e3, e4, e)
 
-pub offer-is : (ns ps qs : List ℕ) (n : ℕ) → n ≡ getD ns 0 0 → ps ≡ firsts (drop 2 ns) → qs ≡ seconds (drop 2 ns) → Offer n ps qs ≡ offerOf ns
+pub offer-is : (ns ps qs : List ℕ) (n : ℕ) → n ≡ getD ns 0 0 → ps ≡ firsts (drop 2 ns) → qs ≡ seconds (drop 2 ns) → By n (Offer ps qs) ≡ offerOf ns
 offer-is ns ps qs n e f g = rw (e, f, g)
 
 -- ---- settling

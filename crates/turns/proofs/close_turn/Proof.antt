@@ -23,7 +23,7 @@ returns c =
     let b = c .before .before .before .blank .ensures in
     let x = c .before .before .before .before .close .result .excess in
     let s : SFits w64 x = search needs in
-    takes-close _ _ _ _ _ (c .before .before .before .before .close .ensures) (record { auction = refl; kind = b .0; number = b .1 }) (c .before .bits-of .ensures ∙ ap twosComplement (toZ-ofZ s))
+    takes-close _ _ _ _ (c .before .before .before .before .close .ensures) (record { auction = refl; kind = b .0; number = b .1 }) (c .before .bits-of .ensures ∙ ap twosComplement (toZ-ofZ s))
 
 pub close-turn-spec : {M : Type 1} → statement M
 close-turn-spec = tie.close (tie.spec close-requires blank-requires bits-of-requires returns)
