@@ -11,6 +11,7 @@ use Rattle.rules.specs.Refusals.{lowering}
 use Rattle.rules.specs.Rounds.{lastLevel}
 use Rattle.rules.specs.CheckLaws.{highest-in-bounds}
 use Rattle.sound.specs.Sound.{appliedTo, levelsOf, Descends, SoundDeveloper, Sound}
+use Rattle.sound.specs.Parts.{Part}
 
 -- levels fall strictly, from below the highest declared
 abbrev pub Falls : Developer → Type 0
@@ -34,3 +35,10 @@ course-of-nobody c a = record { falls = refl; prices = tt; quantity = refl; smal
 
 pub courses : (l : Ledger) → Sound l → (n : ℕ) → Course (appliedTo (l .phase) l) (l .settings .a) (l .developers n)
 courses l s n = ⊎-elim (λ e. subst (λ (x : Developer). Course (appliedTo (l .phase) l) (l .settings .a) x) (sym e) (course-of-nobody _ _)) (λ r. course _ _ _ (r .developer)) (s .each n)
+
+-- and of a ledger from which developers are taken out
+pub part-falls : (l m : Ledger) → Sound l → Part l m → (n : ℕ) → Falls (m .developers n)
+part-falls l m s t n = ⊎-elim
+    (λ e. subst Falls (sym e) (course-of-nobody 0 0 .falls))
+    (λ e. subst Falls (sym e) (courses l s n .falls))
+    (t .each n)

@@ -6,7 +6,8 @@ use Rattle.numbers.specs.ListLaws.{in-map, greatest-least, total-map-le, greate
 use Rattle.rules.specs.Ledger.{Developer, Ledger}
 use Rattle.rules.specs.Clearing.{high, developersOf, greatestOf, supply}
 use Rattle.sound.specs.Sound.{Sound}
-use Rattle.clearing.specs.Course.{courses}
+use Rattle.sound.specs.Parts.{Part}
+use Rattle.clearing.specs.Course.{courses, part-falls}
 use Rattle.clearing.specs.HighLow.{high-le-highest, high-rises}
 
 -- ---- order and bounds
@@ -29,11 +30,11 @@ module _ (f : Developer → ℕ) (l : Ledger) where
   unfolding greatestOf
   greatest-of-bound b h k = greatest-least b _ (λ v m. let r = in-map (figure f l) v (developersOf l k) .0 m in omega (arith, h (r .0), r .2))
 
--- ---- supply of a sound ledger
+-- ---- supply of a sound ledger, and of a part of it
 
 module _ (l : Ledger) (s : Sound l) where
   pub high-small : (p n : ℕ) → high p (l .developers n) ≤ 1000000000
   high-small p n = let k = courses l s n in omega (arith, high-le-highest (l .developers n) (k .falls) p)
 
-  pub supply-rises : (p r : ℕ) → p ≤ r → supply (high p) l ≤ supply (high r) l
-  supply-rises p r h = supply-le (high p) (high r) l (λ n. high-rises (l .developers n) (courses l s n .falls) p r h)
+  pub supply-rises : (m : Ledger) → Part l m → (p r : ℕ) → p ≤ r → supply (high p) m ≤ supply (high r) m
+  supply-rises m t p r h = supply-le (high p) (high r) m (λ n. high-rises (m .developers n) (part-falls l m s t n) p r h)

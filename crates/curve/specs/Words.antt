@@ -35,7 +35,7 @@ dem-in-words ce d m1 m2 p s a = sym (⊎-elim top below (le-or-lt (2 * ce) p))
 
     below : p < 2 * ce → dem ce d m1 m2 p ≡ cond (eqb p (2 * ce)) m1 (leastFrom (priced ce d m1 m2 p) 0 m2)
     below h = rw (ne-eqb p (2 * ce) (λ e. omega arith))
-        (rw sub-zero at (least-is (priced ce d m1 m2 p) 0 m2 (dem ce d m1 m2 p) (dem-least ce d m1 m2 p s a h) zero-le (dem-inverse ce d m1 m2 p s a h m2 .0 (dem-range ce d m1 m2 p s a .1))))
+        (rw sub-zero at (least-is (priced ce d m1 m2 p) 0 m2 (dem ce d m1 m2 p) (dem-least ce d m1 m2 p s a h)))
 
 pub den-not-zero : (ce d m1 m2 q : ℕ) → InBounds ce d m1 m2 → curve ce d m1 m2 q .den ≡ pos 0 → ⊥
 den-not-zero ce d m1 m2 q s = ⊎-elim

@@ -1,4 +1,4 @@
--- What the functions to the closing price ensure, for an auction that holds a sound ledger.
+-- What the functions to the closing price ensure, for an auction that holds a sound ledger and for each part of that ledger.
 use Prim.Native.Nat.{ℕ, _+_, _≤_}
 use mathlib.Core.Path.{_≡_}
 use mathlib.Core.Bool.{Bool, true, cond}
@@ -7,6 +7,7 @@ use lib.Dec.{leb}
 use Rattle.rules.specs.Ledger.{Ledger}
 use Rattle.rules.specs.Clearing.{highest, low, covered, closingPrice, ofEach}
 use Rattle.sound.specs.Sound.{Sound, started}
+use Rattle.sound.specs.Parts.{Part}
 use Rattle.levels.specs.Held.{heldLevels}
 use Rattle.levels.specs.declared.Levels.{Levels}
 use Rattle.history.specs.Held.{held}
@@ -23,13 +24,23 @@ pub record Highests (declared : List Levels) (r : List ℕ) : Type 0 where
 pub record Lows (histories : List History) (firsts : List ℕ) (p : ℕ) (r : List ℕ) : Type 0 where
   pub right : (l : Ledger) → Sound l → histories ≡ ofEach (λ x. held (x .withdrawals) (x .offer)) l → firsts ≡ ofEach highest l → r ≡ ofEach (low p) l
 
--- whether p is covered, for a price that the clock passed
-pub record CoveredAt (a : Auction) (firsts : List ℕ) (p : ℕ) (r : Bool) : Type 0 where
-  pub right : (l : Ledger) → Sound l → started (l .phase) ≡ true → a ≡ auctionOf l → firsts ≡ ofEach highest l → l .closing ≤ p → p ≤ l .settings .a → r ≡ covered l p
+-- What the price is asked of. The auction holds the sound ledger l, in which a round was opened; `firsts` are its developers' highest
+-- levels. `projects` are those of m, which is l or a part of it: a developer that is taken out is in no project
+pub record Asked (a : Auction) (projects firsts : List ℕ) (l m : Ledger) : Type 0 where
+  pub sound : Sound l
+  pub began : started (l .phase) ≡ true
+  pub held : a ≡ auctionOf l
+  pub firsts-are : firsts ≡ ofEach highest l
+  pub part : Part l m
+  pub projects-are : projects ≡ ofEach (λ x. x .declared .project) m
 
--- the closing price P, once a round was opened
-pub record ClosingPrice (a : Auction) (firsts : List ℕ) (r : ℕ) : Type 0 where
-  pub right : (l : Ledger) → Sound l → started (l .phase) ≡ true → a ≡ auctionOf l → firsts ≡ ofEach highest l → r ≡ closingPrice l
+-- whether p is covered, for a price that the clock passed
+pub record CoveredAt (a : Auction) (projects firsts : List ℕ) (p : ℕ) (r : Bool) : Type 0 where
+  pub right : (l m : Ledger) → Asked a projects firsts l m → l .closing ≤ p → p ≤ l .settings .a → r ≡ covered m p
+
+-- the closing price P; A where no price is covered
+pub record ClosingPrice (a : Auction) (projects firsts : List ℕ) (r : ℕ) : Type 0 where
+  pub right : (l m : Ledger) → Asked a projects firsts l m → r ≡ closingPrice m
 
 -- the price above p; there is none above the highest price
 unfoldable pub nextPrice : ℕ → ℕ

@@ -6,7 +6,7 @@ use auction::Auction;
 use history::History;
 use levels::Levels;
 
-// The prices among which the lowest covered one lies: hi is covered, nothing below lo is.
+// The prices among which the lowest covered one lies: hi is covered or A, nothing below lo is covered.
 struct Bracket {
     lo: u32,
     hi: u32,
@@ -46,12 +46,11 @@ pub fn above(p: u32) -> u32
     p + 1
 }
 
-// Whether the sum of the projects' highs at p is at least Dem(p).
-fn covered_at(auction: Auction, highest: [u32; 32], p: u32) -> bool
-    ensures { λ r. ⌜ CoveredAt auction highest p r ⌝ }
+// Whether the sum of these projects' highs at p is at least Dem(p).
+fn covered_at(auction: Auction, projects: [u8; 32], highest: [u32; 32], p: u32) -> bool
+    ensures { λ r. ⌜ CoveredAt auction projects highest p r ⌝ }
 {
     let histories = auction.histories;
-    let projects = auction.projects;
     let highs = lows_at(histories, highest, above(p));
     auction.demand_at(p) <= supply::supply(projects, highs)
 }
@@ -69,9 +68,9 @@ fn halved(b: Bracket, mid: u32, covered: bool) -> Bracket
     }
 }
 
-// P (document 01, Closing price and award).
-pub fn closing_price(auction: Auction, highest: [u32; 32]) -> u32
-    ensures { λ r. ⌜ ClosingPrice auction highest r ⌝ }
+// P (document 01, Closing price and award) of these projects: the auction's, or with 0 in the place of a developer that is taken out.
+pub fn closing_price(auction: Auction, projects: [u8; 32], highest: [u32; 32]) -> u32
+    ensures { λ r. ⌜ ClosingPrice auction projects highest r ⌝ }
 {
     let mut b = Bracket {
         lo: auction.closing,
@@ -79,7 +78,7 @@ pub fn closing_price(auction: Auction, highest: [u32; 32]) -> u32
     };
     while b.lo < b.hi {
         let mid = b.lo + (b.hi - b.lo) / 2;
-        let covered = covered_at(auction, highest, mid);
+        let covered = covered_at(auction, projects, highest, mid);
         b = halved(b, mid, covered);
     }
     b.lo

@@ -16,6 +16,7 @@ use Rattle.rules.specs.Rounds.{ledger}
 use Rattle.rules.specs.Award.{rows, admissible, coveringChoices, award}
 use Rattle.rules.specs.Settling.{recordsFrom, records, settlingNumber, settlementAt, settlement}
 use Rattle.sound.specs.Sound.{Sound, started}
+use Rattle.sound.specs.Parts.{whole}
 use Rattle.clearing.specs.ClosingPrice.{closed-started, settings-facts, passed-in-range, closing-price}
 use Rattle.reachable.specs.Reachable.{sound}
 use Rattle.awards.specs.AwardLaws.{some-cover}
@@ -67,7 +68,7 @@ pub record Computed (a : Auction) (limit p demand : ℕ) (lows highs : List ℕ)
   pub next : ℕ
   pub table : Table
   pub highests : Highests (a .declared) highest
-  pub price : ClosingPrice a highest p
+  pub price : ClosingPrice a (a .projects) highest p
   pub lows-at : Lows (a .histories) highest p lows
   pub above : next ≡ nextPrice p
   pub highs-at : Lows (a .histories) highest next highs
@@ -105,7 +106,14 @@ known a limit p demand lows highs s c l snd h = record {
     firsts = c .highests .right l snd (ap (λ (x : Auction). x .declared) h)
 
     price : p ≡ closingPrice l
-    price = c .price .right l snd began h firsts
+    price = c .price .right l l (record {
+      sound = snd;
+      began = began;
+      held = h;
+      firsts-are = firsts;
+      part = whole l;
+      projects-are = ap (λ (x : Auction). x .projects) h;
+    })
 
     least-low : l .closing ≤ p
     least-low = subst (λ (q : ℕ). l .closing ≤ q) (sym price) (closing-price l snd began .low)

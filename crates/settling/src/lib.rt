@@ -40,7 +40,7 @@ pub fn settle(auction: Auction, limit: u32, awards: &mut [u8]) -> Settled
     let declared = auction.declared;
     let histories = auction.histories;
     let highest = price::highest_levels(declared);
-    let p = price::closing_price(auction, highest);
+    let p = price::closing_price(auction, projects, highest);
     let lows = price::lows_at(histories, highest, p);
     let highs = price::lows_at(histories, highest, price::above(p));
     let table = open_levels::table_of(projects, declared, lows, highs);

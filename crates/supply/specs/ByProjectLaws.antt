@@ -1,13 +1,16 @@
 -- What is taken project by project from lists of projects and numbers is, over a ledger's developers, what the rules take of the ledger.
-use Prim.Native.Nat.{ℕ}
-use mathlib.Core.Path.{_≡_, refl, ap, _∙_}
+use Prim.Native.Nat.{ℕ, _≤_}
+use mathlib.Core.Path.{_≡_, refl, sym, ap, _∙_}
+use mathlib.Core.Logic.{_⊎_, inr, ⊎-elim}
 use mathlib.Core.Bool.{Bool, true, false, cond, _&&_}
-use mathlib.Core.List.{List, [], _∷_, map}
+use mathlib.Core.List.{List, [], _∷_, map, List·Memᴰ}
+use native.Mathlib.Omega.{arith}
 use lib.Dec.{eqb}
 use Rattle.numbers.specs.Lists.{oneTo, keep, total, greatest, all}
-use Rattle.numbers.specs.ListLaws.{map-same}
-use Rattle.rules.specs.Ledger.{Developer, Ledger}
+use Rattle.numbers.specs.ListLaws.{in-one-to, map-same}
+use Rattle.rules.specs.Ledger.{Developer, Ledger, nobody}
 use Rattle.rules.specs.Clearing.{ofEach, developersOf, greatestOf, supply as supplyBy}
+use Rattle.rules.specs.Projects.{in-developers-of}
 use Rattle.rules.specs.Refusals.{mayJoin}
 use Rattle.supply.specs.ByProject.{ofProject, greatestByProject, supplyOf, joins}
 
@@ -27,11 +30,23 @@ of-project-map {A} k f g (x ∷ xs) = go (eqb (f x) k) (of-project-map k f g xs)
     go true e = ap {B = List ℕ} (λ r. g x ∷ r) e
     go false e = e
 
+-- of the projects of m and the figures of l, where m has l's developers, or nobody in their places: those are in no project, so they do
+-- not count
+pub supply-of-part :
+    (f : Developer → ℕ) (l m : Ledger) → ((n : ℕ) → (m .developers n ≡ nobody) ⊎ (m .developers n ≡ l .developers n)) →
+    supplyOf (ofEach (λ x. x .declared .project) m) (ofEach f l) ≡ supplyBy f m
+unfolding supplyOf greatestByProject supplyBy greatestOf developersOf
+supply-of-part f l m each = ap total (map-same _ _ (oneTo 32) (λ k i. ap greatest (of-project-map k _ _ (oneTo 32) ∙ map-same _ _ (developersOf m k) (figure k (in-one-to k 32 .0 i .0)))))
+  where
+    figure : (k : ℕ) → 1 ≤ k → (n : ℕ) → List·Memᴰ n (developersOf m k) → f (l .developers n) ≡ f (m .developers n)
+    figure k h n i =
+        let e = in-developers-of m k n .0 i .2 in
+        ⊎-elim (λ z. absurd (let o : 0 ≡ k = sym (ap (λ (x : Developer). x .declared .project) z) ∙ e in omega arith)) (λ z. ap f (sym z)) (each n)
+
 pub supply-of :
     (f : Developer → ℕ) (l : Ledger) →
     supplyOf (ofEach (λ x. x .declared .project) l) (ofEach f l) ≡ supplyBy f l
-unfolding supplyOf greatestByProject supplyBy greatestOf developersOf
-supply-of f l = ap total (map-same _ _ (oneTo 32) (λ k m. ap greatest (of-project-map k _ _ (oneTo 32))))
+supply-of f l = supply-of-part f l l (λ n. inr refl)
 
 all-map : {A B : Type 0} (t : B → Bool) (f : A → B) (xs : List A) → all t (map f xs) ≡ all (λ x. t (f x)) xs
 unfolding all

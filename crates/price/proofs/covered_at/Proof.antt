@@ -17,7 +17,7 @@ supply-requires : tie.Need-supply-requires
 supply-requires c κs = search needs
 
 returns : tie.Need-returns
-returns c = covered-is _ _ _ _ _ _ _ (c .before .before .before .above .ensures) (c .before .before .lows-at .ensures) (c .before .demand-at .ensures .0) (c .supply .ensures .0)
+returns c = covered-is _ _ _ _ _ _ _ _ (c .before .before .before .above .ensures) (c .before .before .lows-at .ensures) (c .before .demand-at .ensures .0) (c .supply .ensures .0)
 
 pub covered-at-spec : {M : Type 1} → statement M
 covered-at-spec =
