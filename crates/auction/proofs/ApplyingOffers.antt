@@ -17,7 +17,7 @@ use Rattle.reachable.specs.Histories.{last-level-append, lowering-append}
 use Rattle.reachable.specs.Bounds.{falls-few}
 use Rattle.reachable.specs.Closing.{added-lowers}
 use Rattle.reachable.specs.Held.{by-put}
-use Rattle.history.specs.Held.{held, additions, Applied, LastLevel}
+use Rattle.history.specs.Held.{heldHistory, additions, Applied, LastLevel}
 use Rattle.history.specs.declared.History.{History}
 use Rattle.auction.specs.declared.Auction.{Auction}
 use Rattle.auction.specs.Holds.{auctionOf, Holding}
@@ -56,13 +56,13 @@ additions-are o x none = refl
 additions-are o x (made ss) = refl
 
 module _ (o : ℕ) (x : Developer) (f : Applicable o x) (r : History) where
-  applied-history : Applied (held (x .withdrawals) (x .offer)) (withdrawsAll (x .declared .kind) (x .quantity)) o r → r ≡ held (applied o x .withdrawals) (applied o x .offer)
+  applied-history : Applied (heldHistory (x .withdrawals) (x .offer)) (withdrawsAll (x .declared .kind) (x .quantity)) o r → r ≡ heldHistory (applied o x .withdrawals) (applied o x .offer)
   unfolding applied
   applied-history h =
       let e = additions-are o x (x .offer) in
-      h .right (x .withdrawals) (x .offer) refl (omega (arith, f .few, ap length e, length-append (x .withdrawals) (added o x (x .offer)))) ∙ ap (λ (vs : List Step). held (x .withdrawals ++ vs) none) e
+      h .right (x .withdrawals) (x .offer) refl (omega (arith, f .few, ap length e, length-append (x .withdrawals) (added o x (x .offer)))) ∙ ap (λ (vs : List Step). heldHistory (x .withdrawals ++ vs) none) e
 
-  applied-quantity : (q : ℕ) → r ≡ held (applied o x .withdrawals) (applied o x .offer) → LastLevel r (x .quantity) q → q ≡ applied o x .quantity
+  applied-quantity : (q : ℕ) → r ≡ heldHistory (applied o x .withdrawals) (applied o x .offer) → LastLevel r (x .quantity) q → q ≡ applied o x .quantity
   unfolding applied
   applied-quantity q e h = h .right _ e (f .few) ∙ last-level-append (x .quantity) (x .withdrawals) _ ∙ ap (λ (v : ℕ). lastLevel v (added o x (x .offer))) (f .last)
 
@@ -91,7 +91,7 @@ module _ (l : Ledger) (i o : ℕ) (w : i < 32) (f : Applicable o (l .developers 
   apply-one a d missing h e hs hq =
       courses-held a l (suc i) (applied o x) h refl
       (ap (λ (b : Auction). set (b .quantities) i q) h ∙ stores (λ y. y .quantity) q quantity-next)
-      (ap (λ (b : Auction). set (b .histories) i r) h ∙ stores (λ y. held (y .withdrawals) (y .offer)) r history-next)
+      (ap (λ (b : Auction). set (b .histories) i r) h ∙ stores (λ y. heldHistory (y .withdrawals) (y .offer)) r history-next)
     where
       kind : getD (a .kinds) i 0 ≡ x .declared .kind
       kind = ap (λ (b : Auction). getD (b .kinds) i 0) h ∙ numbered-at _ i 0 w
@@ -99,10 +99,10 @@ module _ (l : Ledger) (i o : ℕ) (w : i < 32) (f : Applicable o (l .developers 
       quantity : getD (a .quantities) i 0 ≡ x .quantity
       quantity = ap (λ (b : Auction). getD (b .quantities) i 0) h ∙ numbered-at _ i 0 w
 
-      history : getD (a .histories) i d ≡ held (x .withdrawals) (x .offer)
+      history : getD (a .histories) i d ≡ heldHistory (x .withdrawals) (x .offer)
       history = ap (λ (b : Auction). getD (b .histories) i d) h ∙ numbered-at _ i d w
 
-      history-next : r ≡ held (applied o x .withdrawals) (applied o x .offer)
+      history-next : r ≡ heldHistory (applied o x .withdrawals) (applied o x .offer)
       history-next = applied-history o x f r (rw (history, e, kind, quantity) at hs)
 
       quantity-next : q ≡ applied o x .quantity

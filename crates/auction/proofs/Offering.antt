@@ -19,7 +19,7 @@ use Rattle.reachable.specs.Steps.{step-accepted}
 use Rattle.reachable.specs.Reachable.{sound-step}
 use Rattle.levels.specs.Held.{heldLevels, levelsIn}
 use Rattle.levels.specs.declared.Levels.{Levels}
-use Rattle.history.specs.Held.{held, offeredNumber, Offered}
+use Rattle.history.specs.Held.{heldHistory, offeredNumber, Offered}
 use Rattle.history.specs.HeldLaws.{is-none-by-number, offered-none, steps-length}
 use Rattle.history.specs.declared.History.{History}
 use Rattle.auction.specs.declared.Auction.{Auction}
@@ -49,9 +49,9 @@ module _ (n : ℕ) (ps qs : List ℕ) (a : Auction) where
     unfolding auctionOf
     declared-at d = ap (λ (x : Auction). getD (x .declared) (n - 1) d) h ∙ each-at (λ x. heldLevels (x .declared .levels)) l n d low high
 
-    history-at : (d : History) → getD (a .histories) (n - 1) d ≡ held (l .developers n .withdrawals) (l .developers n .offer)
+    history-at : (d : History) → getD (a .histories) (n - 1) d ≡ heldHistory (l .developers n .withdrawals) (l .developers n .offer)
     unfolding auctionOf
-    history-at d = ap (λ (x : Auction). getD (x .histories) (n - 1) d) h ∙ each-at (λ x. held (x .withdrawals) (x .offer)) l n d low high
+    history-at d = ap (λ (x : Auction). getD (x .histories) (n - 1) d) h ∙ each-at (λ x. heldHistory (x .withdrawals) (x .offer)) l n d low high
 
   in-round : a .phase ≡ 2 → (l : Ledger) → a ≡ auctionOf l → inRound (l .phase) ≡ true
   in-round z l h = round-is a l h ∙ eq-eqb _ 2 z
@@ -138,10 +138,10 @@ module _ (n : ℕ) (ps qs : List ℕ) (a : Auction) where
               fits : Registered (accepted l (By n (Offer ps qs))) n → length (l .developers n .withdrawals) + length (steps ps qs) ≤ 8
               fits q = subst (λ (x : Developer). length (x .withdrawals) + length (steps ps qs) ≤ 8) here (offer-fits q (ap (λ (x : Developer). x .offer) here))
 
-          history-next : (l : Ledger) → Sound l → a ≡ auctionOf l → r ≡ held (l .developers n .withdrawals) (made (steps ps qs))
+          history-next : (l : Ledger) → Sound l → a ≡ auctionOf l → r ≡ heldHistory (l .developers n .withdrawals) (made (steps ps qs))
           history-next l s h =
               o .right (l .developers n .withdrawals)
-              (history-at l h low high d ∙ ap (held (l .developers n .withdrawals)) (offered-none (l .developers n .offer) (offered-at l h ∙ first)))
+              (history-at l h low high d ∙ ap (heldHistory (l .developers n .withdrawals)) (offered-none (l .developers n .offer) (offered-at l h ∙ first)))
               (as-long l h)
               (room l s h)
 
@@ -156,5 +156,5 @@ module _ (n : ℕ) (ps qs : List ℕ) (a : Auction) where
             answer = refl;
             next = courses-held a l n (entry l) h refl
                 (ap (λ (x : Auction). x .quantities) h ∙ sym (put-keeps (λ x. x .quantity) l n (entry l) refl))
-                (ap (λ (x : Auction). set (x .histories) (n - 1) r) h ∙ put-at (λ x. held (x .withdrawals) (x .offer)) l n (entry l) r low high (history-next l s h));
+                (ap (λ (x : Auction). set (x .histories) (n - 1) r) h ∙ put-at (λ x. heldHistory (x .withdrawals) (x .offer)) l n (entry l) r low high (history-next l s h));
           })

@@ -6,7 +6,7 @@ use native.Mathlib.Omega.{arith}
 use lib.Dec.{eqb, leb}
 use borrow.Author.Tests.{le-leb, lt-leb, lt-ltb, le-ltb}
 use Rattle.rules.specs.Ledger.{Open, Phase, Fresh, Ready, Round, Between, Closed, Ledger}
-use Rattle.rules.specs.Clearing.{after, high, supply, demandAt, covered}
+use Rattle.rules.specs.Clearing.{quantityAfter, high, supply, demandAt, covered}
 use Rattle.rules.specs.Refusals.{isFresh, isReady, floor, openingPrice, closingOk, startCovered, number}
 use Rattle.rules.specs.Rounds.{lastLevel, accepted, numberAlone, granted}
 use Rattle.sound.specs.Sound.{Sound, started}
@@ -27,7 +27,7 @@ use Rattle.auction.specs.Demands.{demand-is}
 
 -- before the first round nothing is withdrawn, so supply at A is the supply of the quantities
 ready-supply : (l : Ledger) → Sound l → isReady (l .phase) ≡ true → supply (high (l .settings .a)) l ≡ supply (λ x. x .quantity) l
-unfolding high after lastLevel
+unfolding high quantityAfter lastLevel
 ready-supply l s r = supply-same (high (l .settings .a)) (λ x. x .quantity) l l (λ n. refl) (λ n. whole n)
   where
     unstarted : (p : Phase) → isReady p ≡ true → started p ≡ false

@@ -40,8 +40,8 @@ abbrev pub registers : ℕ → ℕ → ℕ → ℕ → ℕ → List ℕ → Call
 registers k n kind study day ls = Register n (record { project = k; kind = kind; study = study; day = day; levels = ls })
 
 -- a refusal, with the auction as it was
-abbrev pub refusedBy : Auction → ℕ → Answer
-refusedBy a n = record { number = n; auction = a }
+abbrev pub refusedAnswer : Auction → ℕ → Answer
+refusedAnswer a n = record { number = n; auction = a }
 
 -- every offer applied
 pub record OffersApplied (a r : Auction) : Type 0 where

@@ -5,7 +5,7 @@ use Rattle.rules.specs.Ledger.{Phase, Fresh, Ready, Round, Between, Closed, Led
 use Rattle.rules.specs.Clearing.{ofEach}
 use Rattle.sound.specs.Sound.{Sound}
 use Rattle.levels.specs.Held.{heldLevels}
-use Rattle.history.specs.Held.{held}
+use Rattle.history.specs.Held.{heldHistory}
 use Rattle.auction.specs.declared.Auction.{Auction}
 
 abbrev pub phaseNumber : Phase → ℕ
@@ -33,7 +33,7 @@ auctionOf l = record {
   days = ofEach (λ x. x .declared .day) l;
   quantities = ofEach (λ x. x .quantity) l;
   declared = ofEach (λ x. heldLevels (x .declared .levels)) l;
-  histories = ofEach (λ x. held (x .withdrawals) (x .offer)) l;
+  histories = ofEach (λ x. heldHistory (x .withdrawals) (x .offer)) l;
 }
 
 -- P of every sound ledger that the auction holds

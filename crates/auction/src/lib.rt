@@ -6,7 +6,7 @@ ghost use Prim.Native.Nat.{_≤_};
 ghost use Rattle.rules.specs.Ledger.{Open, By, Offer};
 ghost use Rattle.rules.specs.Rounds.{ledger};
 ghost use Rattle.auction.specs.Holds.{auctionOf};
-ghost use Rattle.auction.specs.Called.{AnswersNumber, AnswersExcess, setsUp, registers, refusedBy, OffersApplied};
+ghost use Rattle.auction.specs.Called.{AnswersNumber, AnswersExcess, setsUp, registers, refusedAnswer, OffersApplied};
 ghost use Rattle.auction.specs.Tests.{demandBy, mayOpenBy, openingBy, coveredBy, phaseNumberAfter};
 use demand::Demanded;
 use history::History;
@@ -71,7 +71,7 @@ fn phase_after(cleared: bool) -> u8
 
 impl Auction {
     // Projects and developers have numbers 1 to 32 (document 01, Registration).
-    pub const MOST_DEVELOPERS: u8 = checks::MOST_DEVELOPERS;
+    pub const MOST_DEVELOPERS: u8 = supply::MOST_DEVELOPERS;
     // The highest price that an auction can have: 2 CE at the largest CE (document 01, Demand).
     pub const TOP_PRICE: u32 = checks::TOP_PRICE;
     // The most choices that a settling counts (document 01, Closing price and award).
@@ -125,7 +125,7 @@ impl Auction {
 
     // The same auction, and a refusal's number.
     fn refused(self, number: u8) -> Answer
-        ensures { λ r. ⌜ r ≡ refusedBy self number ⌝ }
+        ensures { λ r. ⌜ r ≡ refusedAnswer self number ⌝ }
     {
         Answer {
             number: number,

@@ -5,14 +5,11 @@ ghost use mathlib.Core.Bool.{_&&_};
 ghost use Prim.Native.Nat.{min, _-_, _<_, _^_};
 ghost use lib.IntN.{pos, _-ℤ_};
 ghost use lib.ListN.{getD};
-ghost use Rattle.rules.specs.Refusals.{settingsOk, isNumber, numbersOk, isKind, levelsOk, mayOffer, pricesOk};
+ghost use Rattle.rules.specs.Refusals.{settingsOk, numbersOk, isKind, levelsOk, mayOffer, pricesOk};
 ghost use Rattle.rules.specs.Rounds.{withdrawsAll, clears};
 ghost use Rattle.rules.specs.Ledger.{settingsOf};
 ghost use Rattle.supply.specs.ByProject.{joins};
 use history::History;
-
-// Projects and developers have numbers 1 to 32 (document 01, Registration).
-pub const MOST_DEVELOPERS: u8 = 32;
 
 // The highest price that an auction can have: 2 CE at the largest CE (document 01, Demand).
 pub const TOP_PRICE: u32 = 1_000_000;
@@ -44,24 +41,14 @@ pub fn settings_ok(ce: u64, d: u64, m1: u64, m2: u64, a: u64) -> bool
 
 // ---- registration
 
-// Whether n is the number of a project or a developer.
-fn is_number(n: u8) -> bool
-    ensures { λ r. ⌜ r ≡ isNumber n ⌝ }
-{
-    if n < 1 {
-        return false;
-    }
-    n <= MOST_DEVELOPERS
-}
-
 // Whether project and developer have numbers 1 to 32 and the developer's is not used.
 pub fn numbers_ok(projects: [u8; 32], project: u8, developer: u8) -> bool
     ensures { λ r. ⌜ r ≡ numbersOk project developer (getD projects (developer - 1) 0) ⌝ }
 {
-    if !is_number(project) {
+    if !supply::is_number(project) {
         return false;
     }
-    if !is_number(developer) {
+    if !supply::is_number(developer) {
         return false;
     }
     let i = (developer - 1) as usize;
@@ -103,7 +90,7 @@ pub fn declaration_ok(
 pub fn may_offer(kinds: [u8; 32], developer: u8) -> bool
     ensures { λ r. ⌜ r ≡ mayOffer developer (getD kinds (developer - 1) 0) ⌝ }
 {
-    if !is_number(developer) {
+    if !supply::is_number(developer) {
         return false;
     }
     let i = (developer - 1) as usize;

@@ -9,7 +9,7 @@ use lib.Dec.{leb}
 use borrow.Author.Tests.{leb-true, leb-false, lt-leb}
 use Rattle.numbers.specs.ListLaws.{last-in}
 use Rattle.rules.specs.Ledger.{declaredOrZero, Step, Developer}
-use Rattle.rules.specs.Clearing.{highest, after, high, low}
+use Rattle.rules.specs.Clearing.{highest, quantityAfter, high, low}
 use Rattle.rules.specs.Refusals.{lowering}
 use Rattle.rules.specs.CheckLaws.{declared-or-zero, lowering-first}
 use Rattle.sound.specs.Sound.{levelsOf, Descends}
@@ -22,21 +22,21 @@ one-of : (P : ℕ → Type 0) (b : Bool) (v q : ℕ) → P v → P q → P (cond
 one-of P true v q x y = x
 one-of P false v q x y = y
 
-after-le : (t : ℕ → Bool) (b : ℕ) (ls : List ℕ) (cur q : ℕ) (ws : List Step) → lowering ls cur (levelsOf ws) ≡ true → cur ≤ b → q ≤ b → after t q ws ≤ b
-unfolding after
+after-le : (t : ℕ → Bool) (b : ℕ) (ls : List ℕ) (cur q : ℕ) (ws : List Step) → lowering ls cur (levelsOf ws) ≡ true → cur ≤ b → q ≤ b → quantityAfter t q ws ≤ b
+unfolding quantityAfter
 after-le t b ls cur q [] e h g = g
 after-le t b ls cur q (w ∷ ws) e h g = let k = lowering-first ls cur (w .level) (levelsOf ws) e in
     after-le t b ls (w .level) _ ws (k .2) (omega arith) (one-of (λ n. n ≤ b) (t (w .price)) (w .level) q (omega arith) g)
 
-after-declared : (t : ℕ → Bool) (ls : List ℕ) (cur q : ℕ) (ws : List Step) → lowering ls cur (levelsOf ws) ≡ true → declaredOrZero ls q ≡ true → declaredOrZero ls (after t q ws) ≡ true
-unfolding after
+after-declared : (t : ℕ → Bool) (ls : List ℕ) (cur q : ℕ) (ws : List Step) → lowering ls cur (levelsOf ws) ≡ true → declaredOrZero ls q ≡ true → declaredOrZero ls (quantityAfter t q ws) ≡ true
+unfolding quantityAfter
 after-declared t ls cur q [] e d = d
 after-declared t ls cur q (w ∷ ws) e d = let k = lowering-first ls cur (w .level) (levelsOf ws) e in
     after-declared t ls (w .level) _ ws (k .2) (one-of (λ n. declaredOrZero ls n ≡ true) (t (w .price)) (w .level) q (k .0) d)
 
 -- a lower price passes more withdrawals, which leave less
-after-rises : (p r : ℕ) (ls : List ℕ) (cur q s : ℕ) (ws : List Step) → p ≤ r → lowering ls cur (levelsOf ws) ≡ true → cur ≤ q → q ≤ s → after (leb p) q ws ≤ after (leb r) s ws
-unfolding after
+after-rises : (p r : ℕ) (ls : List ℕ) (cur q s : ℕ) (ws : List Step) → p ≤ r → lowering ls cur (levelsOf ws) ≡ true → cur ≤ q → q ≤ s → quantityAfter (leb p) q ws ≤ quantityAfter (leb r) s ws
+unfolding quantityAfter
 after-rises p r ls cur q s [] i e h g = g
 after-rises p r ls cur q s (w ∷ ws) i e h g = let k = lowering-first ls cur (w .level) (levelsOf ws) e in
     after-rises p r ls (w .level) _ _ ws i (k .2) (one-of (λ n. w .level ≤ n) (leb p (w .price)) (w .level) q (omega arith) (omega arith)) (order (leb p (w .price)) (leb r (w .price)) refl refl (omega arith))
@@ -48,8 +48,8 @@ after-rises p r ls cur q s (w ∷ ws) i e h g = let k = lowering-first ls cur (w
     order false false x y m = g
 
 -- at a price above all withdrawals none passes
-after-none : (p c a q : ℕ) (ws : List Step) → a < p → Descends c a ws → after (leb p) q ws ≡ q
-unfolding after Descends
+after-none : (p c a q : ℕ) (ws : List Step) → a < p → Descends c a ws → quantityAfter (leb p) q ws ≡ q
+unfolding quantityAfter Descends
 after-none p c a q [] h d = refl
 after-none p c a q (w ∷ ws) h d = rw (lt-leb p (w .price) (omega arith)) (after-none p c (w .price) q ws (omega arith) (d .2))
 

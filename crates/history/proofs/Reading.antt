@@ -10,11 +10,11 @@ use borrow.Author.Tests.{lt-ltb, le-ltb, le-leb, lt-leb}
 use lib.ListN.{length, getD, drop, drop-of-length-le}
 use lib.Seq.{drop-cons}
 use Rattle.rules.specs.Ledger.{Step, Standing}
-use Rattle.rules.specs.Clearing.{after}
+use Rattle.rules.specs.Clearing.{quantityAfter}
 use Rattle.rules.specs.Refusals.{falling}
 use Rattle.rules.specs.Rounds.{lastLevel}
 use Rattle.history.specs.declared.History.{History}
-use Rattle.history.specs.Held.{held, pending, LastLevel, LevelAt}
+use Rattle.history.specs.Held.{heldHistory, pending, LastLevel, LevelAt}
 use Rattle.history.proofs.Places.{count-of, noStep, padded-at}
 
 -- ---- prices that fall
@@ -82,21 +82,21 @@ last-level h q z = record {
 -- the loop before place i: q and the withdrawals left give the level
 pub record LevelSoFar (h : History) (first p q i : ℕ) : Type 0 where
   pub within : i ≤ 8
-  pub left : (ws : List Step) (s : Standing) → h ≡ held ws s → after (leb p) q (drop i ws) ≡ after (leb p) first ws
+  pub left : (ws : List Step) (s : Standing) → h ≡ heldHistory ws s → quantityAfter (leb p) q (drop i ws) ≡ quantityAfter (leb p) first ws
 
 pub level-first : (h : History) (first p : ℕ) → LevelSoFar h first p first 0
 level-first h first p = record { within = omega arith; left = λ ws s e. refl }
 
 module _ (h : History) (first p q i : ℕ) (l : LevelSoFar h first p q i) where
   level-next : i < 8 → i < h .count → LevelSoFar h first p (cond (leb p (getD (h .prices) i 0)) (getD (h .levels) i 0) q) (i + 1)
-  unfolding after
+  unfolding quantityAfter
   level-next v w = record {
     within = omega arith;
     left = λ ws s e.
         let n : h .count ≡ length ws = count-of e in
         let r : getD (h .prices) i 0 ≡ getD ws i noStep .price = ap (λ (x : History). getD (x .prices) i 0) e ∙ padded-at (λ t. t .price) refl 8 ws (pending s) i (omega arith) in
         let g : getD (h .levels) i 0 ≡ getD ws i noStep .level = ap (λ (x : History). getD (x .levels) i 0) e ∙ padded-at (λ t. t .level) refl 8 ws (pending s) i (omega arith) in
-        rw (r, g, add-one) (sym (ap (after (leb p) q) (drop-cons ws i noStep (omega arith))) ∙ l .left ws s e);
+        rw (r, g, add-one) (sym (ap (quantityAfter (leb p) q) (drop-cons ws i noStep (omega arith))) ∙ l .left ws s e);
   }
 
   pub level-taken : i < 8 → i < h .count → p ≤ getD (h .prices) i 0 → LevelSoFar h first p (getD (h .levels) i 0) (i + 1)
@@ -107,11 +107,11 @@ module _ (h : History) (first p q i : ℕ) (l : LevelSoFar h first p q i) where
 
   -- no withdrawal is left
   pub level-end : (h .count ≤ 8 → h .count ≤ i) → LevelAt h first p q
-  unfolding after
+  unfolding quantityAfter
   level-end v = record {
     right = λ ws s e w.
         let n : h .count ≡ length ws = count-of e in
         let k : h .count ≤ i = v (omega arith) in
         let g : length ws ≤ i = omega arith in
-        sym (ap (after (leb p) q) (drop-of-length-le ws g)) ∙ l .left ws s e;
+        sym (ap (quantityAfter (leb p) q) (drop-of-length-le ws g)) ∙ l .left ws s e;
   }

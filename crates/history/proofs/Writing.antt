@@ -11,7 +11,7 @@ use Rattle.rules.specs.Ledger.{Step, Standing, none, made}
 use Rattle.rules.specs.Rounds.{steps}
 use Rattle.sound.specs.Sound.{pricesOf, levelsOf}
 use Rattle.history.specs.declared.History.{History}
-use Rattle.history.specs.Held.{held, additions, Offered, Applied}
+use Rattle.history.specs.Held.{heldHistory, additions, Offered, Applied}
 use Rattle.history.specs.HeldLaws.{steps-prices, steps-levels, steps-length}
 use Rattle.history.proofs.Places.{same, count-of, offered-of, padded-more, padded-next}
 
@@ -41,13 +41,13 @@ storedTo ws ps qs i = record {
 pub record Storing (ps qs : List ℕ) (h₀ h : History) (n i : ℕ) : Type 0 where
   pub within : i ≤ length ps
   pub count : n ≡ h₀ .count
-  pub stored : (ws : List Step) → h₀ ≡ held ws none → length ps ≡ length qs → length ws + length ps ≤ 8 → h ≡ storedTo ws ps qs i
+  pub stored : (ws : List Step) → h₀ ≡ heldHistory ws none → length ps ≡ length qs → length ws + length ps ≤ 8 → h ≡ storedTo ws ps qs i
 
 pub store-first : (ps qs : List ℕ) (h : History) → Storing ps qs h h (h .count) 0
 store-first ps qs h = record {
   within = omega arith;
   count = refl;
-  stored = λ ws e s w. e ∙ same (held ws none) (storedTo ws ps qs 0) (sym (column (λ t. t .price) ws [] [] refl)) (sym (column (λ t. t .level) ws [] [] refl)) refl refl;
+  stored = λ ws e s w. e ∙ same (heldHistory ws none) (storedTo ws ps qs 0) (sym (column (λ t. t .price) ws [] [] refl)) (sym (column (λ t. t .level) ws [] [] refl)) refl refl;
 }
 
 -- an early return is not reached where there is room
@@ -81,7 +81,7 @@ module _ (ps qs : List ℕ) (h₀ h : History) (n i : ℕ) (t : Storing ps qs h�
   store-end w = record {
     right = λ ws e s v.
         let g : h ≡ storedTo ws ps qs i = t .stored ws e s v in
-        same _ (held ws (made (steps ps qs)))
+        same _ (heldHistory ws (made (steps ps qs)))
         (ap (λ (x : History). x .prices) g ∙ column (λ x. x .price) ws (steps ps qs) (take i ps) (steps-prices ps qs s ∙ sym (take-all i ps w)))
         (ap (λ (x : History). x .levels) g ∙ column (λ x. x .level) ws (steps ps qs) (take i qs) (steps-levels ps qs s ∙ sym (take-all i qs (omega arith))))
         (count-of g)
@@ -94,28 +94,28 @@ module _ (h : History) (missing : Bool) (o : ℕ) where
   -- by the offer that stands
   by-standing :
       (r : History) →
-      ((ws : List Step) → h ≡ held ws none → length ws + length (additions missing o none) ≤ 8 → r ≡ held (ws ++ additions missing o none) none) →
-      ((ws ss : List Step) → h ≡ held ws (made ss) → length ws + length ss ≤ 8 → r ≡ held (ws ++ ss) none) →
+      ((ws : List Step) → h ≡ heldHistory ws none → length ws + length (additions missing o none) ≤ 8 → r ≡ heldHistory (ws ++ additions missing o none) none) →
+      ((ws ss : List Step) → h ≡ heldHistory ws (made ss) → length ws + length ss ≤ 8 → r ≡ heldHistory (ws ++ ss) none) →
       Applied h missing o r
   by-standing r f g = record { right = go }
     where
-      go : (ws : List Step) (s : Standing) → h ≡ held ws s → length ws + length (additions missing o s) ≤ 8 → r ≡ held (ws ++ additions missing o s) none
+      go : (ws : List Step) (s : Standing) → h ≡ heldHistory ws s → length ws + length (additions missing o s) ≤ 8 → r ≡ heldHistory (ws ++ additions missing o s) none
       go ws none e w = f ws e w
       go ws (made ss) e w = g ws ss e w
 
-  with-offer : (r : History) → 0 < h .offered → ((ws ss : List Step) → h ≡ held ws (made ss) → length ws + length ss ≤ 8 → r ≡ held (ws ++ ss) none) → Applied h missing o r
+  with-offer : (r : History) → 0 < h .offered → ((ws ss : List Step) → h ≡ heldHistory ws (made ss) → length ws + length ss ≤ 8 → r ≡ heldHistory (ws ++ ss) none) → Applied h missing o r
   with-offer r k g = by-standing r (λ ws e w. absurd (omega (arith, offered-of e))) g
 
   without-offer :
       (r : History) → h .offered ≤ 0 →
-      ((ws : List Step) → h ≡ held ws none → length ws + length (additions missing o none) ≤ 8 → r ≡ held (ws ++ additions missing o none) none) →
+      ((ws : List Step) → h ≡ heldHistory ws none → length ws + length (additions missing o none) ≤ 8 → r ≡ heldHistory (ws ++ additions missing o none) none) →
       Applied h missing o r
   without-offer r k f = by-standing r f (λ ws ss e w. absurd (omega (arith, offered-of e)))
 
   -- the steps of an offer are in place already
   pub close-offer : 0 < h .offered → Applied h missing o (record { prices = h .prices; levels = h .levels; count = h .count + (h .offered - 1); offered = 0 })
   close-offer k = with-offer _ k (λ ws ss e w.
-      same _ (held (ws ++ ss) none)
+      same _ (heldHistory (ws ++ ss) none)
       (ap (λ (x : History). x .prices) e ∙ ap (λ (x : List Step). padded 8 (pricesOf x)) (sym (append-nil (ws ++ ss))))
       (ap (λ (x : History). x .levels) e ∙ ap (λ (x : List Step). padded 8 (levelsOf x)) (sym (append-nil (ws ++ ss))))
       (omega (arith, count-of e, offered-of e, length-append ws ss))
@@ -133,7 +133,7 @@ module _ (h : History) (missing : Bool) (o : ℕ) where
       let s : Step = record { price = o; level = 0 } in
       let l : h .count ≡ length ws = count-of e in
       rw m
-      (same _ (held (ws ++ (s ∷ [])) none)
+      (same _ (heldHistory (ws ++ (s ∷ [])) none)
       (ap (λ (x : History). set (x .prices) (h .count) o) e ∙ column-more (λ x. x .price) ws s (h .count) l n)
       (ap (λ (x : History). set (x .levels) (h .count) 0) e ∙ column-more (λ x. x .level) ws s (h .count) l n)
       (omega (arith, length-append ws (s ∷ [])))
@@ -144,4 +144,4 @@ module _ (h : History) (missing : Bool) (o : ℕ) where
 
   -- no offer is missing: all stays
   pub close-kept : h .offered ≤ 0 → missing ≡ false → Applied h missing o h
-  close-kept k m = without-offer h k (λ ws e w. rw m (e ∙ ap (λ (x : List Step). held x none) (sym (append-nil ws))))
+  close-kept k m = without-offer h k (λ ws e w. rw m (e ∙ ap (λ (x : List Step). heldHistory x none) (sym (append-nil ws))))

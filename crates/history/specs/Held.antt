@@ -8,7 +8,7 @@ use lib.Dec.{leb}
 use lib.ListN.{length}
 use Rattle.numbers.specs.Lists.{padded}
 use Rattle.rules.specs.Ledger.{Step, Standing, none, made}
-use Rattle.rules.specs.Clearing.{after}
+use Rattle.rules.specs.Clearing.{quantityAfter}
 use Rattle.rules.specs.Rounds.{steps, lastLevel}
 use Rattle.sound.specs.Sound.{pricesOf, levelsOf}
 use Rattle.history.specs.declared.History.{History}
@@ -23,8 +23,8 @@ offeredNumber none = 0
 offeredNumber (made ss) = suc (length ss)
 
 -- the withdrawals, and behind them the steps of the standing offer
-abbrev pub held : List Step → Standing → History
-held ws o = record {
+abbrev pub heldHistory : List Step → Standing → History
+heldHistory ws o = record {
   prices = padded 8 (pricesOf (ws ++ pending o));
   levels = padded 8 (levelsOf (ws ++ pending o));
   count = length ws;
@@ -33,7 +33,7 @@ held ws o = record {
 
 -- an offer's steps stand behind the withdrawals
 pub record Offered (h : History) (ps qs : List ℕ) (r : History) : Type 0 where
-  pub right : (ws : List Step) → h ≡ held ws none → length ps ≡ length qs → length ws + length ps ≤ 8 → r ≡ held ws (made (steps ps qs))
+  pub right : (ws : List Step) → h ≡ heldHistory ws none → length ps ≡ length qs → length ws + length ps ≤ 8 → r ≡ heldHistory ws (made (steps ps qs))
 
 -- what closing adds: the steps of the offer, or all at the opening price o where an offer is missing
 abbrev pub additions : Bool → ℕ → Standing → List Step
@@ -41,12 +41,12 @@ additions missing o none = cond missing (record { price = o; level = 0 } ∷ [])
 additions missing o (made ss) = ss
 
 pub record Applied (h : History) (missing : Bool) (o : ℕ) (r : History) : Type 0 where
-  pub right : (ws : List Step) (s : Standing) → h ≡ held ws s → length ws + length (additions missing o s) ≤ 8 → r ≡ held (ws ++ additions missing o s) none
+  pub right : (ws : List Step) (s : Standing) → h ≡ heldHistory ws s → length ws + length (additions missing o s) ≤ 8 → r ≡ heldHistory (ws ++ additions missing o s) none
 
 -- the level of the last withdrawal, or q of none
 pub record LastLevel (h : History) (q r : ℕ) : Type 0 where
-  pub right : (ws : List Step) → h ≡ held ws none → length ws ≤ 8 → r ≡ lastLevel q ws
+  pub right : (ws : List Step) → h ≡ heldHistory ws none → length ws ≤ 8 → r ≡ lastLevel q ws
 
 -- the quantity after all withdrawals at p or above, q at first
 pub record LevelAt (h : History) (q p r : ℕ) : Type 0 where
-  pub right : (ws : List Step) (s : Standing) → h ≡ held ws s → length ws + length (pending s) ≤ 8 → r ≡ after (leb p) q ws
+  pub right : (ws : List Step) (s : Standing) → h ≡ heldHistory ws s → length ws + length (pending s) ≤ 8 → r ≡ quantityAfter (leb p) q ws

@@ -3,7 +3,7 @@ ghost use mathlib.Core.Path.{_≡_};
 ghost use mathlib.Core.List.{[]};
 ghost use Rattle.rules.specs.Ledger.{none};
 ghost use Rattle.rules.specs.Refusals.{falling};
-ghost use Rattle.history.specs.Held.{held, Offered, Applied, LastLevel, LevelAt};
+ghost use Rattle.history.specs.Held.{heldHistory, Offered, Applied, LastLevel, LevelAt};
 
 // A developer's withdrawals, and behind them the steps of its standing offer, with zeros behind them.
 // `offered` is 0 for no offer, else 1 more than its steps.
@@ -39,7 +39,7 @@ impl History {
     pub const MOST: usize = 8;
 
     pub fn new() -> History
-        ensures { λ r. ⌜ r ≡ held [] none ⌝ }
+        ensures { λ r. ⌜ r ≡ heldHistory [] none ⌝ }
     {
         History {
             prices: [0; 8],

@@ -7,13 +7,13 @@ use native.Mathlib.Omega.{arith}
 use lib.Dec.{leb}
 use lib.ListN.{length, getD, set}
 use Rattle.rules.specs.Ledger.{Standing, none, made, Developer, Ledger}
-use Rattle.rules.specs.Clearing.{highest, after, low, ofEach}
+use Rattle.rules.specs.Clearing.{highest, quantityAfter, low, ofEach}
 use Rattle.sound.specs.Sound.{Sound, Registered}
 use Rattle.reachable.specs.Checks.{levels-facts}
 use Rattle.reachable.specs.Bounds.{withdrawals-few, offer-fits}
 use Rattle.levels.specs.Held.{heldLevels, Highest}
 use Rattle.levels.specs.declared.Levels.{Levels}
-use Rattle.history.specs.Held.{held, pending, LevelAt}
+use Rattle.history.specs.Held.{heldHistory, pending, LevelAt}
 use Rattle.history.specs.declared.History.{History}
 use Rattle.auction.specs.Places.{Filling, filling-next, filling-all, numbered-at}
 use Rattle.price.specs.Prices.{Highests, Lows}
@@ -53,7 +53,7 @@ highest-all declared out i t w =
 
 pub record LowTurn (histories : List History) (firsts : List ℕ) (p : ℕ) (out : List ℕ) (i : ℕ) : Type 0 where
   pub within : i ≤ 32
-  pub part : (l : Ledger) → Sound l → histories ≡ ofEach (λ x. held (x .withdrawals) (x .offer)) l → firsts ≡ ofEach highest l → Filling (λ n. low p (l .developers n)) 0 out i
+  pub part : (l : Ledger) → Sound l → histories ≡ ofEach (λ x. heldHistory (x .withdrawals) (x .offer)) l → firsts ≡ ofEach highest l → Filling (λ n. low p (l .developers n)) 0 out i
 
 pub low-first : (histories : List History) (firsts : List ℕ) (p : ℕ) (out : List ℕ) → length out ≡ 32 → LowTurn histories firsts p out 0
 low-first histories firsts p out e = record { within = omega arith; part = λ l s h g. record { long = e; done = λ j w. absurd (omega arith) } }
@@ -63,8 +63,8 @@ unfolding low
 low-next histories firsts p out i d v t w r = record {
   within = omega arith;
   part = λ l s h g. filling-next _ 0 out i v (t .part l s h g) w
-      (r .right (l .developers (suc i) .withdrawals) (l .developers (suc i) .offer) (ap (λ (xs : List History). getD xs i d) h ∙ numbered-at (λ n. held (l .developers n .withdrawals) (l .developers n .offer)) i d w) (history-few l s (suc i))
-      ∙ ap (λ (q : ℕ). after (leb p) q (l .developers (suc i) .withdrawals)) (ap (λ (xs : List ℕ). getD xs i 0) g ∙ numbered-at (λ n. highest (l .developers n)) i 0 w));
+      (r .right (l .developers (suc i) .withdrawals) (l .developers (suc i) .offer) (ap (λ (xs : List History). getD xs i d) h ∙ numbered-at (λ n. heldHistory (l .developers n .withdrawals) (l .developers n .offer)) i d w) (history-few l s (suc i))
+      ∙ ap (λ (q : ℕ). quantityAfter (leb p) q (l .developers (suc i) .withdrawals)) (ap (λ (xs : List ℕ). getD xs i 0) g ∙ numbered-at (λ n. highest (l .developers n)) i 0 w));
 }
 
 pub low-all : (histories : List History) (firsts : List ℕ) (p : ℕ) (out : List ℕ) (i : ℕ) → LowTurn histories firsts p out i → 32 ≤ i → Lows histories firsts p out

@@ -13,17 +13,17 @@ abbrev pub highest : Developer → ℕ
 highest x = highestDeclared (x .declared)
 
 -- the quantity q after those of the withdrawals whose price passes the test
-unfoldable pub after : (ℕ → Bool) → ℕ → List Step → ℕ
-after t q [] = q
-after t q (w ∷ ws) = after t (cond (t (w .price)) (w .level) q) ws
+unfoldable pub quantityAfter : (ℕ → Bool) → ℕ → List Step → ℕ
+quantityAfter t q [] = q
+quantityAfter t q (w ∷ ws) = quantityAfter t (cond (t (w .price)) (w .level) q) ws
 
 -- high at p, a term of document 01: a developer's quantity after all withdrawals at prices above p
 unfoldable pub high : ℕ → Developer → ℕ
-high p x = after (ltb p) (highest x) (x .withdrawals)
+high p x = quantityAfter (ltb p) (highest x) (x .withdrawals)
 
 -- low at p, a term of document 01: its quantity after all withdrawals at p or above
 unfoldable pub low : ℕ → Developer → ℕ
-low p x = after (leb p) (highest x) (x .withdrawals)
+low p x = quantityAfter (leb p) (highest x) (x .withdrawals)
 
 -- the developers of project k, by number
 unfoldable pub developersOf : Ledger → ℕ → List ℕ

@@ -9,7 +9,7 @@ use Rattle.numbers.specs.Least.{leastFrom}
 use Rattle.curve.specs.Demand.{dem, inBounds}
 use Rattle.curve.specs.Marked.{MarkedCases, marked-cases}
 use Rattle.rules.specs.Ledger.{Offer, Call, SetUp, Register, Open, By, Close, Closed}
-use Rattle.rules.specs.Clearing.{after, high, low, developersOf, greatestOf, supply, covered, closingPrice}
+use Rattle.rules.specs.Clearing.{quantityAfter, high, low, developersOf, greatestOf, supply, covered, closingPrice}
 use Rattle.rules.specs.Refusals.{settingsOk, numbersOk, rising, levelsOk, mayJoin, declarationOk, openingPrice, closingOk, startCovered, mayOffer, falling, pricesOk, lowering, moveNumber, number}
 use Rattle.rules.specs.Rounds.{steps, withdrawsAll, added, lastLevel, applied, supplyAfter, clears, phaseAfter, moved, accepted, step, stepAll, ledger, excess, granted, answer, answersFrom, answers}
 use Rattle.choices.specs.Choices.{spread, choices, covering, larger, before, best, bestOf}
@@ -51,7 +51,7 @@ SampleSettled =
 
 pub shown-jointly : MarkedCases × SampleSettled
 unfolding oneTo keep total greatest lastOr any all leastFrom dem inBounds
-    after high low developersOf greatestOf supply covered closingPrice
+    quantityAfter high low developersOf greatestOf supply covered closingPrice
     settingsOk numbersOk rising levelsOk mayJoin declarationOk openingPrice closingOk startCovered mayOffer falling pricesOk lowering moveNumber number
     steps withdrawsAll added lastLevel applied supplyAfter clears phaseAfter moved accepted step stepAll ledger excess granted answer answersFrom answers
     spread choices covering larger before best bestOf

@@ -13,19 +13,20 @@ use borrow.Author.Tests.{leb-true, le-leb, eq-eqb, ne-eqb}
 use Rattle.numbers.specs.Cases.{and-true}
 use Rattle.numbers.specs.Lists.{oneTo, greatest}
 use Rattle.numbers.specs.ListLaws.{greatest-append, map-same, length-one-to, one-to-nth}
-use Rattle.supply.specs.ByProject.{ofProject, greatestByProject, isProject, placeOf, countedOf}
+use Rattle.rules.specs.Refusals.{isNumber}
+use Rattle.supply.specs.ByProject.{ofProject, greatestByProject, placeOf, countedOf}
 
 -- ---- the place and what counts there, by the tests of the code
 
 module _ (k : ℕ) where
-  pub project : isProject k ≡ true → (1 ≤ k) × (k ≤ 32)
+  pub project : isNumber k ≡ true → (1 ≤ k) × (k ≤ 32)
   project e = let t = and-true (leb 1 k) (leb k 32) e in (leb-true 1 k (t .0), leb-true k 32 (t .1))
 
-  pub placed : (b : Bool) → isProject k ≡ b → placeOf k ≡ cond b (k - 1) 0
+  pub placed : (b : Bool) → isNumber k ≡ b → placeOf k ≡ cond b (k - 1) 0
   unfolding placeOf
   placed b e = rw e
 
-  pub counts : (q : ℕ) (b : Bool) → isProject k ≡ b → countedOf k q ≡ cond b q 0
+  pub counts : (q : ℕ) (b : Bool) → isNumber k ≡ b → countedOf k q ≡ cond b q 0
   unfolding countedOf
   counts q b e = rw e
 
@@ -80,7 +81,7 @@ raised-at xs p q i l h = go (decEq p (suc i))
     v : ℕ
     v = max (getD xs (p - 1) 0) q
 
-    other : (p ≡ suc i → ⊥) → (b : Bool) → isProject p ≡ b → getD (raisedAt xs p q) i 0 ≡ getD xs i 0
+    other : (p ≡ suc i → ⊥) → (b : Bool) → isNumber p ≡ b → getD (raisedAt xs p q) i 0 ≡ getD xs i 0
     other n true e =
         let w = project p e .0 in
         rw (placed p true e, counts p q true e) (getD-set-other xs (p - 1) i v 0 (λ d. n (omega arith)))
@@ -90,10 +91,10 @@ raised-at xs p q i l h = go (decEq p (suc i))
 
     go : Dec (p ≡ suc i) → getD (raisedAt xs p q) i 0 ≡ max (getD xs i 0) (cond (eqb p (suc i)) q 0)
     go (yes e) =
-        let t : isProject p ≡ true = rw (le-leb 1 p (omega arith), le-leb p 32 (omega arith)) in
+        let t : isNumber p ≡ true = rw (le-leb 1 p (omega arith), le-leb p 32 (omega arith)) in
         let f : p - 1 ≡ i = omega arith in
         rw (placed p true t, counts p q true t, f, eq-eqb p (suc i) e) (getD-set-same xs i (max (getD xs i 0) q) 0 (omega arith))
-    go (no n) = rw (ne-eqb p (suc i) n) (other n (isProject p) refl ∙ omega arith)
+    go (no n) = rw (ne-eqb p (suc i) n) (other n (isNumber p) refl ∙ omega arith)
 
 length-raised : (xs : List ℕ) (p q : ℕ) → length (raisedAt xs p q) ≡ length xs
 length-raised xs p q = length-set xs (placeOf p) (max (getD xs (placeOf p) 0) (countedOf p q))

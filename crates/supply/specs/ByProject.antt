@@ -2,8 +2,9 @@
 use Prim.Native.Nat.{ℕ, _-_}
 use mathlib.Core.Bool.{Bool, cond, _&&_}
 use mathlib.Core.List.{List, [], _∷_, map}
-use lib.Dec.{eqb, leb}
+use lib.Dec.{eqb}
 use Rattle.numbers.specs.Lists.{oneTo, total, greatest, all}
+use Rattle.rules.specs.Refusals.{isNumber}
 
 -- of the numbers xs, those at the places where ps has k
 unfoldable pub ofProject : ℕ → List ℕ → List ℕ → List ℕ
@@ -15,15 +16,12 @@ ofProject k (p ∷ ps) (x ∷ xs) = cond (eqb p k) (x ∷ ofProject k ps xs) (of
 unfoldable pub greatestByProject : List ℕ → List ℕ → List ℕ
 greatestByProject ps qs = map (λ k. greatest (ofProject k ps qs)) (oneTo 32)
 
-abbrev pub isProject : ℕ → Bool
-isProject k = leb 1 k && leb k 32
-
 -- the place of project k, and what its developer's quantity counts for; of a number that is no project's, the first place and 0
 unfoldable pub placeOf : ℕ → ℕ
-placeOf k = cond (isProject k) (k - 1) 0
+placeOf k = cond (isNumber k) (k - 1) 0
 
 unfoldable pub countedOf : ℕ → ℕ → ℕ
-countedOf k q = cond (isProject k) q 0
+countedOf k q = cond (isNumber k) q 0
 
 -- the sum over the projects 1 to 32 of the greatest quantity among each one's developers
 unfoldable pub supplyOf : List ℕ → List ℕ → ℕ

@@ -1,12 +1,16 @@
 // Supply over the developers' projects and quantities, and who may join a project.
 ghost use mathlib.Core.Path.{_≡_};
 ghost use Prim.Native.Nat.{max, _*_, _≤_, _<_, _^_};
-ghost use Rattle.supply.specs.ByProject.{greatestByProject, isProject, placeOf, countedOf, supplyOf, joins};
+ghost use Rattle.rules.specs.Refusals.{isNumber};
+ghost use Rattle.supply.specs.ByProject.{greatestByProject, placeOf, countedOf, supplyOf, joins};
 
 // The kinds of plant: existing, new (document 01, Registration).
 pub const EXISTING: u8 = 1;
 
 pub const NEW: u8 = 2;
+
+// Projects and developers have numbers 1 to 32 (document 01, Registration).
+pub const MOST_DEVELOPERS: u8 = 32;
 
 // Whether a developer of this kind may join the project: all of its developers are of kind 2, and so is this one.
 pub fn may_join(projects: [u8; 32], kinds: [u8; 32], project: u8, kind: u8) -> bool
@@ -43,21 +47,21 @@ pub fn greatest_by_project(projects: [u8; 32], quantities: [u32; 32]) -> [u32; 3
     best
 }
 
-// Projects have the numbers 1 to 32 (document 01, Registration).
-fn is_project(k: u8) -> bool
-    ensures { λ r. ⌜ r ≡ isProject k ⌝ }
+// Whether n is the number of a project or a developer.
+pub fn is_number(n: u8) -> bool
+    ensures { λ r. ⌜ r ≡ isNumber n ⌝ }
 {
-    if k < 1 {
+    if n < 1 {
         return false;
     }
-    k <= 32
+    n <= MOST_DEVELOPERS
 }
 
 // The place of project k; the first place for a number that is none.
 fn place(k: u8) -> usize
     ensures { λ r. ⌜ (r ≡ placeOf k) × (r < 32) ⌝ }
 {
-    if !is_project(k) {
+    if !is_number(k) {
         return 0;
     }
     (k - 1) as usize
@@ -67,7 +71,7 @@ fn place(k: u8) -> usize
 fn counted(k: u8, q: u32) -> u32
     ensures { λ r. ⌜ r ≡ countedOf k q ⌝ }
 {
-    if !is_project(k) {
+    if !is_number(k) {
         return 0;
     }
     q

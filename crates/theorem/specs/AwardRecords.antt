@@ -12,8 +12,8 @@ use Rattle.awards.specs.Winners.{PreferredTo}
 use Rattle.numbers.specs.Tails.{laid}
 
 -- the level of project k in the award at p
-abbrev pub levelOf : Ledger → ℕ → ℕ → ℕ
-levelOf l p k = getD (award l p) (k - 1) 0
+abbrev pub awardedLevel : Ledger → ℕ → ℕ → ℕ
+awardedLevel l p k = getD (award l p) (k - 1) 0
 
 -- the level v of project k goes to developer n: one of the project's to whom it is open, preferred to each other such one by study value,
 -- then start day, then number

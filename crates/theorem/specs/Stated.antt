@@ -16,7 +16,7 @@ use Rattle.rules.specs.Award.{admissible, coveringChoices, award, winner}
 use Rattle.rules.specs.Settling.{records}
 use Rattle.settling.specs.Settles.{refusedWith}
 use Rattle.settling.specs.declared.Settled.{Settled}
-use Rattle.theorem.specs.AwardRecords.{levelOf, Goes, Written}
+use Rattle.theorem.specs.AwardRecords.{awardedLevel, Goes, Written}
 
 -- the admissible choices do not outnumber the limit, capped at 65,536
 abbrev pub Within : Ledger → ℕ → Type 0
@@ -37,7 +37,7 @@ pub record Accepted (l : Ledger) (old new : List ℕ) (r : Settled) : Type 0 whe
   pub choices : r .choices ≡ length (admissible l (r .price))
   pub covering : r .covering ≡ length (coveringChoices l (r .price))
   -- each level above 0 goes to the preferred developer, and has one record
-  pub goes : (k : ℕ) → 1 ≤ k → k ≤ 32 → let v = levelOf l (r .price) k in 0 < v → Goes l (r .price) k v (winner l (r .price) k v)
+  pub goes : (k : ℕ) → 1 ≤ k → k ≤ 32 → let v = awardedLevel l (r .price) k in 0 < v → Goes l (r .price) k v (winner l (r .price) k v)
   pub count : r .records ≡ length (records l (r .price))
   pub written : Written (records l (r .price)) old new
 

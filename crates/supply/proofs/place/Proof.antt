@@ -1,4 +1,4 @@
--- `isProject` decides.
+-- `isNumber` decides.
 use mathlib.Core.Bool.{true, false}
 use mathlib.Core.Path.{sym, _∙_}
 use native.Mathlib.Omega.{arith}
@@ -8,22 +8,22 @@ use Rattle.supply.proofs.Greatest.{project, placed}
 use Rattle.supply.proofs.place.Statement.{statement}
 use Rattle.supply.proofs.place.Tie as tie
 
-is-project-requires : tie.Need-is-project-requires
-is-project-requires c κs = search needs
+is-number-requires : tie.Need-is-number-requires
+is-number-requires c κs = search needs
 
 returns : tie.Need-returns
-returns c = (sym (placed _ false (sym (c .before .is-project .ensures) ∙ not-true _ (c .if1 .taken))), omega arith)
+returns c = (sym (placed _ false (sym (c .before .is-number .ensures) ∙ not-true _ (c .if1 .taken))), omega arith)
 
 sub-result : tie.Need-sub-result
-sub-result c = project _ (sym (c .before .is-project .ensures) ∙ not-false _ (c .if1 .left)) .0
+sub-result c = project _ (sym (c .before .is-number .ensures) ∙ not-false _ (c .if1 .left)) .0
 
 cast-result : tie.Need-cast-result
 cast-result c = search needs
 
 returns-2 : tie.Need-returns-2
 returns-2 c =
-    let e = sym (c .before .is-project .ensures) ∙ not-false _ (c .if1 .left) in
+    let e = sym (c .before .is-number .ensures) ∙ not-false _ (c .if1 .left) in
     (sym (placed _ true e), omega (arith, project (c .before .before .args .k) e))
 
 pub place-spec : {M : Type 1} → statement M
-place-spec = tie.close (tie.spec is-project-requires returns sub-result cast-result returns-2)
+place-spec = tie.close (tie.spec is-number-requires returns sub-result cast-result returns-2)
