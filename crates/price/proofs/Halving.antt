@@ -16,7 +16,7 @@ use Rattle.auction.specs.Tests.{demandBy}
 use Rattle.auction.specs.Demands.{demand-is}
 use Rattle.auction.specs.declared.Auction.{Auction}
 use Rattle.price.specs.declared.Bracket.{Bracket}
-use Rattle.price.specs.Prices.{Lows, Asked, CoveredAt, ClosingPrice, nextPrice, halvedAt}
+use Rattle.price.specs.Prices.{Lows, HoldsPart, CoveredAt, ClosingPrice, nextPrice, halvedAt}
 use Rattle.price.specs.PriceLaws.{next-price}
 
 -- ---- covered at p
@@ -46,7 +46,7 @@ Holds l m b = Brackets (covered m) (l .closing) (l .settings .a) (b .lo) (b .hi)
 
 module _ (a : Auction) (projects firsts : List ℕ) where
   pub record Halving (b : Bracket) : Type 0 where
-    pub holds : (l m : Ledger) → Asked a projects firsts l m → Holds l m b
+    pub holds : (l m : Ledger) → HoldsPart a projects firsts l m → Holds l m b
 
   pub halving-first : Halving (record { lo = a .closing; hi = a .settings .a })
   unfolding auctionOf
@@ -62,7 +62,7 @@ module _ (a : Auction) (projects firsts : List ℕ) where
         go l m q k t (c .right l m q (let f = k .from in omega arith) (let f = k .to in omega arith));
   }
     where
-      go : (l m : Ledger) → Asked a projects firsts l m → Holds l m b → (t : Bool) → t ≡ covered m mid → Holds l m (halvedAt b mid t)
+      go : (l m : Ledger) → HoldsPart a projects firsts l m → Holds l m b → (t : Bool) → t ≡ covered m mid → Holds l m (halvedAt b mid t)
       go l m q k true f = bracket-down (covered m) (l .closing) (l .settings .a) (b .lo) (b .hi) mid k low high (sym f)
       go l m q k false f =
           let rises = covered-rises l (q .sound) (q .began) m (q .part) in

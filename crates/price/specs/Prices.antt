@@ -24,9 +24,9 @@ pub record Highests (declared : List Levels) (r : List ℕ) : Type 0 where
 pub record Lows (histories : List History) (firsts : List ℕ) (p : ℕ) (r : List ℕ) : Type 0 where
   pub right : (l : Ledger) → Sound l → histories ≡ ofEach (λ x. heldHistory (x .withdrawals) (x .offer)) l → firsts ≡ ofEach highest l → r ≡ ofEach (low p) l
 
--- What the price is asked of. The auction holds the sound ledger l, in which a round was opened; `firsts` are its developers' highest
--- levels. `projects` are those of m, which is l or a part of it: a developer that is taken out is in no project
-pub record Asked (a : Auction) (projects firsts : List ℕ) (l m : Ledger) : Type 0 where
+-- The auction holds the sound ledger l, in which a round was opened; `firsts` are its developers' highest levels. `projects` are those of
+-- m, which is l or a part of it: a developer that is taken out is in no project
+pub record HoldsPart (a : Auction) (projects firsts : List ℕ) (l m : Ledger) : Type 0 where
   pub sound : Sound l
   pub began : started (l .phase) ≡ true
   pub held : a ≡ auctionOf l
@@ -36,11 +36,11 @@ pub record Asked (a : Auction) (projects firsts : List ℕ) (l m : Ledger) : Typ
 
 -- whether p is covered, for a price that the clock passed
 pub record CoveredAt (a : Auction) (projects firsts : List ℕ) (p : ℕ) (r : Bool) : Type 0 where
-  pub right : (l m : Ledger) → Asked a projects firsts l m → l .closing ≤ p → p ≤ l .settings .a → r ≡ covered m p
+  pub right : (l m : Ledger) → HoldsPart a projects firsts l m → l .closing ≤ p → p ≤ l .settings .a → r ≡ covered m p
 
 -- the closing price P; A where no price is covered
 pub record ClosingPrice (a : Auction) (projects firsts : List ℕ) (r : ℕ) : Type 0 where
-  pub right : (l m : Ledger) → Asked a projects firsts l m → r ≡ closingPrice m
+  pub right : (l m : Ledger) → HoldsPart a projects firsts l m → r ≡ closingPrice m
 
 -- the price above p; there is none above the highest price
 unfoldable pub nextPrice : ℕ → ℕ
