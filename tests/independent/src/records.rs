@@ -6,6 +6,7 @@ mod books;
 mod counted;
 mod damage;
 pub mod edges;
+pub mod fixed;
 mod long;
 mod offers;
 mod refused;

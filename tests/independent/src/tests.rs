@@ -4,6 +4,7 @@
 mod awards;
 mod causes;
 mod checks;
+mod fixed;
 mod frames;
 mod properties;
 mod rounds;

@@ -8,7 +8,7 @@
 mod engine;
 
 use independent::random::Random;
-use independent::records::{edges, record, Records};
+use independent::records::{edges, fixed, record, Records};
 use independent::replay::{replay, write_replies};
 use independent::report::{verdict, Group};
 use independent::sample;
@@ -17,8 +17,9 @@ use std::process::ExitCode;
 fn main() -> ExitCode {
     // Each group is reported when it is done, also behind one that differs.
     let stated = STATED.map(|group| group().report());
-    let compared = COMPARED.map(|(name, records)| compared(name, records).report());
-    verdict(stated.iter().chain(&compared))
+    let fixed = fixed::groups().map(|(name, records)| compared(name, records).report());
+    let compared = COMPARED.map(|(name, records)| compared(name, records()).report());
+    verdict(stated.iter().chain(&fixed).chain(&compared))
 }
 
 const STATED: [fn() -> Group; 2] = [sample_record, twelve_numbers];
@@ -36,9 +37,9 @@ const COMPARED: [(&str, Records); 7] = [
     }),
 ];
 
-fn compared(name: &'static str, records: Records) -> Group {
+fn compared(name: &'static str, records: Vec<Vec<u8>>) -> Group {
     let mut group = Group::new(name);
-    for record in records() {
+    for record in records {
         compare(&mut group, &record);
     }
     group
