@@ -2,4 +2,5 @@ pub mod EveryList
 pub mod AwardRecords
 pub mod Stated
 pub mod StatedLaws
+pub mod Determined
 pub mod Settling
