@@ -85,4 +85,4 @@ sample-replied = refl
 
 -- the ten marked cases, the sample's settling, and the sample as bytes, jointly
 pub shown-as-bytes : MarkedCases × SampleSettled × (map orderIn (lines sampleRecord) ≡ map Asks sample ++ (Settle 100 ∷ [])) × (replies sampleRecord ≡ sampleReply)
-shown-as-bytes = (shown-jointly .0, (shown-jointly .1, (sample-asks, sample-replied)))
+shown-as-bytes = (shown-jointly .0, shown-jointly .1, sample-asks, sample-replied)
