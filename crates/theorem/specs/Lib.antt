@@ -3,4 +3,5 @@ pub mod AwardRecords
 pub mod Stated
 pub mod StatedLaws
 pub mod Determined
+pub mod Untouched
 pub mod Settling
