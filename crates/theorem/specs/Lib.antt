@@ -1,4 +1,5 @@
 pub mod EveryList
+pub mod ReadBack
 pub mod AwardRecords
 pub mod Stated
 pub mod StatedLaws
