@@ -1,5 +1,6 @@
 pub mod EveryList
 pub mod ReadBack
+pub mod Runs
 pub mod AwardRecords
 pub mod Stated
 pub mod StatedLaws
