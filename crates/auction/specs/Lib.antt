@@ -1,5 +1,6 @@
 pub mod Holds
 pub mod Called
+pub mod CalledLaws
 pub mod Tests
 pub mod Places
 pub mod Parts

@@ -1,5 +1,5 @@
 -- Laws of the developers and the records: the records of the winners are those of the rules, each of 6 bytes, one for each level above 0.
-use Prim.Native.Nat.{ℕ, zero, suc, _*_}
+use Prim.Native.Nat.{ℕ, zero, suc, _*_, _≤_}
 use mathlib.Core.Path.{_≡_, refl, sym, ap, _∙_}
 use mathlib.Core.Bool.{Bool, true, false, cond}
 use mathlib.Core.List.{List, [], _∷_, flatten}
@@ -42,6 +42,19 @@ records-count k (v ∷ vs) (n ∷ ns) e = go v (records-count (suc k) vs ns (ome
         length (cond (eqb w 0) (recordsOf (suc k) vs ns) (recordOf k n v ∷ recordsOf (suc k) vs ns)) ≡ length (cond (ltb 0 w) (v ∷ keep (ltb 0) vs) (keep (ltb 0) vs))
     go zero d = d
     go (suc w) d = rw (eqb·suc-zero w, lt-ltb 0 (suc w) (omega arith)) (ap suc d)
+
+-- and they are no more, however many developers there are
+pub records-few : (k : ℕ) (vs ns : List ℕ) → length (recordsOf k vs ns) ≤ awardCount vs
+unfolding recordsOf keep
+records-few k [] ns = omega arith
+records-few k (v ∷ vs) [] = omega arith
+records-few k (v ∷ vs) (n ∷ ns) = go v (records-few (suc k) vs ns)
+  where
+    go :
+        (w : ℕ) → length (recordsOf (suc k) vs ns) ≤ awardCount vs →
+        length (cond (eqb w 0) (recordsOf (suc k) vs ns) (recordOf k n v ∷ recordsOf (suc k) vs ns)) ≤ length (cond (ltb 0 w) (v ∷ keep (ltb 0) vs) (keep (ltb 0) vs))
+    go zero d = d
+    go (suc w) d = rw (eqb·suc-zero w, lt-ltb 0 (suc w) (omega arith)) (omega arith)
 
 pub records-from-count : (l : Ledger) (p k : ℕ) (vs : List ℕ) → length (recordsFrom l p k vs) ≡ awardCount vs
 records-from-count l p k vs = ap length (sym (records-are l p k vs)) ∙ records-count k vs (winnersFrom l p k vs) (winners-length l p k vs)

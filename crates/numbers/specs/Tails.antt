@@ -15,6 +15,16 @@ pub length-laid : (t o : List ℕ) → length t ≤ length o → length (laid t 
 unfolding laid
 length-laid t o h = omega (arith, length-append t (drop (length t) o), length-drop (length t) o)
 
+-- the bytes behind a text stay
+pub behind-laid : (t o : List ℕ) (m : ℕ) → length t ≤ m → drop m (laid t o) ≡ drop m o
+unfolding laid
+behind-laid t o m h =
+    let n : length t + (m - length t) ≡ m = omega arith in
+    sym (split n (t ++ drop (length t) o)) ∙ ap (drop (m - length t)) (drop-append-seam t (drop (length t) o)) ∙ split n o
+  where
+    split : length t + (m - length t) ≡ m → (xs : List ℕ) → drop (m - length t) (drop (length t) xs) ≡ drop m xs
+    split n xs = drop-drop (m - length t) (length t) xs ∙ ap (λ (k : ℕ). drop k xs) n
+
 -- the tail that is lent
 pub tail-is : (a : ℕ) (xs : List ℕ) → midOf a (length xs - a) xs ≡ drop a xs
 tail-is a xs = take-all (length xs - a) (drop a xs) (omega (arith, length-drop a xs))

@@ -1,3 +1,4 @@
 pub mod Orders
 pub mod Replies
 pub mod Lengths
+pub mod SampleRecord

@@ -5,7 +5,7 @@ use mathlib.Core.Bool.{Bool, true, false, cond}
 use mathlib.Core.List.{List, [], flatten}
 use native.Mathlib.Omega.{arith}
 use lib.Dec.{eqb, leb}
-use lib.ListN.{length, replicate}
+use lib.ListN.{length, replicate, drop}
 use borrow.Author.Tests.{eq-eqb, ne-eqb, le-leb, lt-leb}
 use Rattle.numbers.specs.Lists.{total}
 use Rattle.choices.specs.Choices.{choices, covering, bestOf}
@@ -32,8 +32,8 @@ use Rattle.open_levels.specs.Tabled.{Tabled}
 use Rattle.selection.specs.Selection.{selectedOf, Selects}
 use Rattle.selection.specs.declared.Selected.{Selected}
 use Rattle.awarding.specs.Awarding.{Winners, awardCount, recordsOf}
-use Rattle.numbers.specs.Tails.{laid}
-use Rattle.awarding.specs.AwardingLaws.{records-are, records-from-count}
+use Rattle.numbers.specs.Tails.{laid, length-laid, behind-laid}
+use Rattle.awarding.specs.AwardingLaws.{records-are, records-from-count, records-few, flat-length}
 use Rattle.settling.specs.declared.Settled.{Settled}
 use Rattle.settling.specs.Settles.{Settles, refusedWith, settledAs}
 
@@ -52,6 +52,7 @@ module _ (a : Auction) (limit : ℕ) (old : List ℕ) where
   refusal : (n : ℕ) → (n ≡ 0 → ⊥) → Holding a (λ l. n ≡ settlingNumber l limit (length old)) → Settles a limit old old (refusedWith n)
   refusal n z f = record {
     same = λ _. (refl, refl);
+    behind = (refl, refl);
     number = λ cs h. f (ledger cs) (sound cs) h;
     answer = λ cs h e. absurd (z e);
     buffer = λ cs h e. absurd (z e);
@@ -222,6 +223,12 @@ module _ (a : Auction) (limit p demand : ℕ) (lows highs : List ℕ) (s : Selec
     }
 
     module _ (room : 6 * n ≤ length old) (ns new : List ℕ) (won : Winners (a .projects) (a .studies) (a .days) (a .declared) lows highs (s .award) ns) (written : new ≡ laid (flatten (recordsOf 1 (s .award) ns)) old) where
+      abbrev given : List (List ℕ)
+      given = recordsOf 1 (s .award) ns
+
+      flat : length (flatten given) ≤ 6 * n
+      flat = omega (arith, flat-length 1 (s .award) ns, records-few 1 (s .award) ns, counted)
+
       records-written : (l : Ledger) → Sound l → a ≡ auctionOf l → recordsOf 1 (s .award) ns ≡ records l p
       unfolding auctionOf records
       records-written l snd h =
@@ -253,6 +260,7 @@ module _ (a : Auction) (limit p demand : ℕ) (lows highs : List ℕ) (s : Selec
       unfolding settlingNumber admissible settlement settlementAt records
       settle-accepted = record {
         same = λ f. absurd (f refl);
+        behind = (ap length written ∙ length-laid (flatten given) old (omega (arith, flat)), ap (drop (6 * n)) written ∙ behind-laid (flatten given) old (6 * n) flat);
         number = λ cs h.
             let l = ledger cs in
             let e = records-at l (sound cs) h in

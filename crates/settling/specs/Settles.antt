@@ -1,8 +1,8 @@
 -- What settling ensures. `a` is the auction, `old` and `new` the lent buffer before and after, `r` the answer.
-use Prim.Native.Nat.{ℕ}
+use Prim.Native.Nat.{ℕ, _*_}
 use mathlib.Core.Path.{_≡_}
 use mathlib.Core.List.{List, flatten}
-use lib.ListN.{length}
+use lib.ListN.{length, drop}
 use Rattle.rules.specs.Ledger.{Call}
 use Rattle.rules.specs.Rounds.{ledger}
 use Rattle.rules.specs.Settling.{Settlement, settlement, settlingNumber}
@@ -27,10 +27,11 @@ settledAs s = record {
   records = length (s .records);
 }
 
--- Refused, on every value of the struct: every other number is 0 and the buffer stays. And for every list of calls whose ledger the auction
--- holds: the number is the ledger's; accepted, the answer is the settlement's and the buffer holds its records, then its old bytes
+-- On every value of the struct: refused, every other number is 0 and the buffer stays; accepted or not, the buffer keeps its length and the
+-- bytes behind the records. And for every list of calls whose ledger the auction holds: the number is the ledger's; accepted, the answer is the settlement's and the buffer holds its records, then its old bytes
 pub record Settles (a : Auction) (limit : ℕ) (old new : List ℕ) (r : Settled) : Type 0 where
   pub same : (r .number ≡ 0 → ⊥) → (r ≡ refusedWith (r .number)) × (new ≡ old)
+  pub behind : (length new ≡ length old) × (drop (6 * r .records) new ≡ drop (6 * r .records) old)
   pub number : (cs : List Call) → a ≡ auctionOf (ledger cs) → r .number ≡ settlingNumber (ledger cs) limit (length old)
   pub answer : (cs : List Call) → a ≡ auctionOf (ledger cs) → r .number ≡ 0 → r ≡ settledAs (settlement (ledger cs))
   pub buffer : (cs : List Call) → a ≡ auctionOf (ledger cs) → r .number ≡ 0 → new ≡ laid (flatten (settlement (ledger cs) .records)) old

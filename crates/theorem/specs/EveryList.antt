@@ -53,7 +53,7 @@ pub data Made : Call → Auction → Answered → Auction → Type 0 where
       Made (By (x .1 .0) (Offer (now (x .1 .1 .0)) (now (x .1 .1 .1 .0)))) (x .0) (numberIn r) (r .auction)
   closes : {a : Auction} (r : Closing) → closing.Post tt (a, tt) r (a, tt) → Made Close a (closingIn r) (r .auction)
 
-by-contract : {c : Call} {a b : Auction} {r : Answered} → Made c a r b → Called c a b r
+pub by-contract : {c : Call} {a b : Auction} {r : Answered} → Made c a r b → Called c a b r
 by-contract (sets-up ce d m1 m2 a₀ r s) = s
 by-contract (registers-one κs x r s) = s
 by-contract (opens c r s) = s

@@ -2,13 +2,15 @@
 -- refused ones included, each call getting the auction that the last one returned (`Run`, in EveryList). Whatever the limit and the lent
 -- buffer, settling the auction that the list reaches is as `Stated` says of the ledger of the list. The engine's calls are tied in
 -- through their contracts, which each of them meets.
+use Prim.Native.Nat.{ℕ}
+use mathlib.Core.Path.{_≡_}
 use mathlib.Core.List.{List}
 use contract.Lifetimes.{Lfts}
 use denote.Ref.{now}
 use denote.Triple.Clauses.{AtExit}
 use borrow.Fn.World.{ArgsD}
 use borrow.Fn.Kinds.{endedOf}
-use Rattle.rules.specs.Ledger.{Call}
+use Rattle.rules.specs.Ledger.{Call, Ledger}
 use Rattle.rules.specs.Rounds.{ledger, Answered}
 use Rattle.settling.specs.declared.Settled.{Settled}
 use Rattle.settling.proofs.settle.{signature}
@@ -18,6 +20,7 @@ use Rattle.settling.proofs.settle.Statement as settle-states
 use Rattle.settling.proofs.settle.Met as settle-met
 use Rattle.theorem.specs.EveryList.{Run, reached, EveryList, every-list}
 use Rattle.theorem.specs.Stated.{Stated}
+use Rattle.theorem.specs.Determined.{SameRecords, determined}
 use Rattle.theorem.specs.StatedLaws.{stated}
 
 -- the arguments x: the auction, the limit, the buffer; y: the same at the call's end
@@ -28,10 +31,15 @@ pub record Settling (M : Type 1) : Type 2 where
       {cs : List Call} {rs : List Answered} (κs : Lfts 1) (x : ArgsD signature κs) (r : Settled) (y : AtExit (endedOf 1 kinds.ps kinds.r) κs) →
       Run cs rs (x .0) → settle.Post κs x r y →
       Stated (ledger cs) (x .1 .0) (now (x .1 .1 .0)) (now (y .1 .1 .0)) r
+  -- what is stated leaves nothing free but the order of the award records
+  pub determines :
+      (l : Ledger) (limit : ℕ) (old new new′ : List ℕ) (r r′ : Settled) → Stated l limit old new r → Stated l limit old new′ r′ →
+      (r ≡ r′) × SameRecords old new new′
 
 pub settling : {M : Type 1} → Settling M
 settling = record {
   calls = every-list;
   settle-meets = settle-met.met;
   statement = λ {cs} {rs} κs x r y w s. stated cs (x .0) (x .1 .0) (now (x .1 .1 .0)) (now (y .1 .1 .0)) r (reached w .0) s;
+  determines = determined;
 }

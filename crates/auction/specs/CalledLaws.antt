@@ -1,0 +1,9 @@
+-- A refusal, on every value of the struct.
+use mathlib.Core.Path.{_≡_}
+use Rattle.rules.specs.Ledger.{Call}
+use Rattle.rules.specs.Rounds.{Answered, numberAlone}
+use Rattle.auction.specs.declared.Auction.{Auction}
+use Rattle.auction.specs.Called.{Called}
+
+pub refused-stays : {c : Call} {a b : Auction} {r : Answered} → Called c a b r → (r .number ≡ 0 → ⊥) → (b ≡ a) × (r ≡ numberAlone (r .number))
+refused-stays s z = (s .same z, s .zero z)

@@ -1,0 +1,88 @@
+-- The sample record of document 01 (Frames) as bytes: it asks the calls of `rules` (Sample) and a settling with limit 100, and its replies are
+-- document 01's, byte for byte. Computed over the definitions.
+use Prim.Native.Nat.{ℕ, zero, suc}
+use Prim.Native.Char.{code}
+use Prim.Native.String.{String, len, charAt}
+use mathlib.Core.Path.{_≡_, refl}
+use mathlib.Core.List.{List, [], _∷_, _++_, map, flatten}
+use Rattle.numbers.specs.Lists.{oneTo, keep, total, greatest, lastOr, any, all}
+use Rattle.numbers.specs.Least.{leastFrom}
+use Rattle.curve.specs.Demand.{dem, inBounds}
+use Rattle.choices.specs.Choices.{spread, choices, covering, larger, before, best, bestOf}
+use Rattle.rules.specs.Clearing.{quantityAfter, high, low, developersOf, greatestOf, supply, covered, closingPrice}
+use Rattle.rules.specs.Refusals.{settingsOk, numbersOk, rising, levelsOk, mayJoin, declarationOk, openingPrice, closingOk, startCovered, mayOffer, falling, pricesOk, lowering, moveNumber, number}
+use Rattle.rules.specs.Rounds.{steps, withdrawsAll, added, lastLevel, applied, supplyAfter, clears, phaseAfter, moved, accepted, step, excess, granted, answer}
+use Rattle.rules.specs.Award.{openBetween, openToDeveloper, openTo, insert, insertAll, declaredBy, openLevels, row, rows, admissible, coveringChoices, award, preferred, mostPreferred, firstPreferred, winner}
+use Rattle.rules.specs.Settling.{recordsFrom, records, settlingNumber, settlementAt, settlement}
+use Rattle.curve.specs.Marked.{MarkedCases}
+use Rattle.rules.specs.Sample.{sample, SampleSettled, shown-jointly}
+use Rattle.format.specs.Hex.{isHex, valueOf, charOf, digits, numberFrom}
+use Rattle.format.specs.Fields.{fixed, each, count, layout, fieldsAt, kindOf, asked, wellFormed, callOf, read}
+use Rattle.format.specs.Lines.{onFirst, lines}
+use Rattle.replies.specs.Orders.{Order, Asks, Settle, firsts, seconds, orderOf, ordered, orderIn}
+use Rattle.replies.specs.Replies.{settledDigits, answerLine, replyTo, after, repliesFrom, replies}
+
+-- n characters of a text from place i on, as bytes
+unfoldable pub codes : String → ℕ → ℕ → List ℕ
+codes s i zero = []
+codes s i (suc n) = code (charAt s i) ∷ codes s (suc i) n
+
+-- a line, ended by 0A
+unfoldable pub line : String → List ℕ
+line s = codes s 0 (len s) ++ (10 ∷ [])
+
+unfoldable pub text : List String → List ℕ
+text [] = []
+text (s ∷ ss) = line s ++ text ss
+
+abbrev pub sampleRecord : List ℕ
+sampleRecord = text (
+    "0100004E2000000003E8000000038400000004B000009C40"
+    ∷ "0201010100000000000000000100000334"
+    ∷ "02020202000001900000000A0200000064000000C8"
+    ∷ "02020302000001F40000001401000000C8"
+    ∷ "0203040200000000000000000100000096"
+    ∷ "03000061A8"
+    ∷ "0402010000659000000064"
+    ∷ "0403010000659000000000"
+    ∷ "0404010000659000000000"
+    ∷ "05"
+    ∷ "0600000064"
+    ∷ [])
+
+abbrev pub sampleReply : List ℕ
+sampleReply = text (
+    "0100"
+    ∷ "0200"
+    ∷ "0200"
+    ∷ "0200"
+    ∷ "0200"
+    ∷ "0300"
+    ∷ "0400"
+    ∷ "0400"
+    ∷ "0400"
+    ∷ "0500FFFFFFFFFFFFFFC9"
+    ∷ "06000000659000000003CA00000003FC0000000400000003020101000003340203000000C8"
+    ∷ [])
+
+sample-asks : map orderIn (lines sampleRecord) ≡ map Asks sample ++ (Settle 100 ∷ [])
+unfolding codes line text all total
+    isHex valueOf numberFrom fixed each count layout fieldsAt kindOf asked wellFormed callOf read onFirst lines
+    firsts seconds orderOf ordered orderIn
+sample-asks = refl
+
+sample-replied : replies sampleRecord ≡ sampleReply
+unfolding codes line text flatten oneTo keep total greatest lastOr any all leastFrom dem inBounds
+    quantityAfter high low developersOf greatestOf supply covered closingPrice
+    settingsOk numbersOk rising levelsOk mayJoin declarationOk openingPrice closingOk startCovered mayOffer falling pricesOk lowering moveNumber number
+    steps withdrawsAll added lastLevel applied supplyAfter clears phaseAfter moved accepted step excess granted answer
+    spread choices covering larger before best bestOf
+    openBetween openToDeveloper openTo insert insertAll declaredBy openLevels row rows admissible coveringChoices award preferred mostPreferred firstPreferred winner
+    recordsFrom records settlingNumber settlementAt settlement
+    isHex valueOf charOf digits numberFrom fixed each count layout fieldsAt kindOf asked wellFormed callOf read onFirst lines
+    firsts seconds orderOf ordered orderIn settledDigits answerLine replyTo after repliesFrom replies
+sample-replied = refl
+
+-- the ten marked cases, the sample's settling, and the sample as bytes, jointly
+pub shown-as-bytes : MarkedCases × SampleSettled × (map orderIn (lines sampleRecord) ≡ map Asks sample ++ (Settle 100 ∷ [])) × (replies sampleRecord ≡ sampleReply)
+shown-as-bytes = (shown-jointly .0, shown-jointly .1, sample-asks, sample-replied)

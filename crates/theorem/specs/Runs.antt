@@ -1,0 +1,130 @@
+-- Runs exist, so that what is stated of every run (EveryList, Settling) is said of something: for every list of calls, refused ones
+-- included, there is a run. A contract speaks of every list of calls whose ledger the auction holds, and an auction holds one sound ledger
+-- at most (ReadBack), so the ledger's own answer and next auction are as the contract of each call says.
+use mathlib.Core.Path.{_≡_, refl, sym, ap, subst, _∙_}
+use mathlib.Core.Bool.{Bool, true, false, cond}
+use mathlib.Core.List.{List, [], _∷_, _++_, map, append-assoc, append-nil}
+use Prim.Native.Nat.{ℕ}
+use lib.Dec.{eqb}
+use lib.IntN.{pos, _-ℤ_}
+use lib.ListN.{replicate}
+use denote.Ref.{RefT}
+use Rattle.rules.specs.Ledger.{Offer, Call, SetUp, Register, Open, By, Close, Ledger}
+use Rattle.rules.specs.Refusals.{number}
+use Rattle.rules.specs.Rounds.{step, ledger, Answered, numberAlone, granted, answer, answersFrom, answers}
+use Rattle.rules.specs.Sample.{sample, shown-jointly}
+use Rattle.reachable.specs.Reachable.{sound}
+use Rattle.reachable.specs.Steps.{ledger-snoc, step-refused, answer-refused, answer-accepted, answers-snoc}
+use Rattle.auction.specs.Holds.{phaseNumber, auctionOf}
+use Rattle.auction.specs.Called.{Called}
+use Rattle.auction.specs.declared.Auction.{Auction}
+use Rattle.theorem.specs.EveryList.{Made, sets-up, registers-one, opens, offers, closes, Run, fresh, followed}
+use Rattle.theorem.specs.ReadBack.{auction-determines}
+
+-- ---- every call as its contract says
+
+granted-number : (l : Ledger) (c : Call) → granted l c .number ≡ 0
+unfolding granted
+granted-number l (SetUp s) = refl
+granted-number l (Register n x) = refl
+granted-number l (Open c) = refl
+granted-number l (By n m) = refl
+granted-number l Close = refl
+
+same-ledger : (cs ds : List Call) → auctionOf (ledger cs) ≡ auctionOf (ledger ds) → ledger cs ≡ ledger ds
+same-ledger cs ds = auction-determines (ledger cs) (ledger ds) (sound cs) (sound ds)
+
+pub called : (cs : List Call) (c : Call) → Called c (auctionOf (ledger cs)) (auctionOf (ledger (cs ++ (c ∷ [])))) (answer (ledger cs) c)
+called cs c = record {
+  same = λ z. ap auctionOf (ledger-snoc cs c ∙ step-refused (ledger cs) c (refused z));
+  zero = λ z. let e = answer-refused (ledger cs) c (refused z) in e ∙ ap (λ (r : Answered). numberAlone (r .number)) (sym e);
+  answer = λ ds h. ap (λ (l : Ledger). answer l c) (same-ledger cs ds h);
+  next = λ ds h. ap auctionOf (ledger-snoc cs c ∙ ap (λ (l : Ledger). step l c) (same-ledger cs ds h) ∙ sym (ledger-snoc ds c));
+}
+  where
+    refused : (answer (ledger cs) c .number ≡ 0 → ⊥) → number (ledger cs) c ≡ 0 → ⊥
+    refused z e = z (ap (λ (r : Answered). r .number) (answer-accepted (ledger cs) c e) ∙ granted-number (ledger cs) c)
+
+-- ---- every call made, whatever its arguments: that they fit their types is no part of what a call answers
+
+-- a call that answers with a number alone, accepted or refused
+module _ (cs : List Call) (c : Call) where
+  abbrev before : Auction
+  before = auctionOf (ledger cs)
+
+  abbrev after : Auction
+  after = auctionOf (ledger (cs ++ (c ∷ [])))
+
+  abbrev given : Answered
+  given = answer (ledger cs) c
+
+  alone : granted (ledger cs) c ≡ numberAlone 0 → given ≡ numberAlone (given .number)
+  unfolding answer
+  alone g = go (eqb (number (ledger cs) c) 0)
+    where
+      go : (b : Bool) → let r = cond b (granted (ledger cs) c) (numberAlone (number (ledger cs) c)) in r ≡ numberAlone (r .number)
+      go true = g ∙ ap (λ (r : Answered). numberAlone (r .number)) (sym g)
+      go false = refl
+
+  by-number :
+      granted (ledger cs) c ≡ numberAlone 0 →
+      (Called c before after (numberAlone (given .number)) → Made c before (numberAlone (given .number)) after) → Made c before given after
+  by-number g f =
+      let s : Called c before after (numberAlone (given .number)) = subst (λ (r : Answered). Called c before after r) (alone g) (called cs c) in
+      subst (λ (r : Answered). Made c before r after) (sym (alone g)) (f s)
+
+-- numbers lent to a call, from any place
+abbrev lent : List ℕ → RefT (List ℕ)
+lent xs = record { ptr = (0, 0); name = 0; now = xs }
+
+pub made : (cs : List Call) (c : Call) → Made c (auctionOf (ledger cs)) (answer (ledger cs) c) (auctionOf (ledger (cs ++ (c ∷ []))))
+unfolding granted
+made cs (SetUp s) = by-number cs _ refl (λ p. sets-up (s .ce) (s .d) (s .m1) (s .m2) (s .a) (record { number = _; auction = _ }) p)
+made cs (Register n x) = by-number cs _ refl (λ p. registers-one
+    ([], tt)
+    (auctionOf (ledger cs), (x .project, (n, (x .kind, (x .study, (x .day, (lent (x .levels), tt)))))))
+    (record { number = _; auction = _ }) p)
+made cs (Open c) = by-number cs _ refl (λ p. opens c (record { number = _; auction = _ }) p)
+made cs (By n (Offer ps qs)) = by-number cs _ refl (λ p. offers
+    ([], ([], tt))
+    (auctionOf (ledger cs), (n, (lent ps, (lent qs, tt))))
+    (record { number = _; auction = _ }) p)
+made cs Close =
+    let r = answer (ledger cs) Close in
+    closes (record { number = r .number; excess = r .excess; auction = _ }) (called cs Close)
+
+-- ---- every list
+
+-- answered as the ledger answers, up to the auction that holds the ledger
+abbrev LedgersRun : List Call → Type 0
+LedgersRun cs = Run cs (answers cs) (auctionOf (ledger cs))
+
+pub runs : (cs : List Call) → Run cs (answers cs) (auctionOf (ledger cs))
+unfolding answers answersFrom
+runs cs = onwards [] cs (fresh refl)
+  where
+    onwards : (ds cs : List Call) → LedgersRun ds → LedgersRun (ds ++ cs)
+    onwards ds [] w = subst LedgersRun (sym (append-nil ds)) w
+    onwards ds (c ∷ cs) w =
+        let longer : LedgersRun (ds ++ (c ∷ [])) = rw (answers-snoc ds c) (followed w (made ds c)) in
+        subst LedgersRun (append-assoc ds (c ∷ []) cs) (onwards (ds ++ (c ∷ [])) cs longer)
+
+-- the sample record of document 01 runs: every call is accepted, the excess at its closing is -55, and the auction that it reaches is closed
+pub record SampleRun : Type 0 where
+  pub answered : List Answered
+  pub reached : Auction
+  pub run : Run sample answered reached
+  pub numbers : map (λ r. r .number) answered ≡ replicate 10 0
+  pub excesses : map (λ r. r .excess) answered ≡ replicate 9 (pos 0) ++ ((pos 0 -ℤ pos 55) ∷ [])
+  pub closed : reached .phase ≡ 4
+
+pub sample-runs : SampleRun
+unfolding auctionOf
+sample-runs = let s = shown-jointly .1 in record {
+  answered = answers sample;
+  reached = auctionOf (ledger sample);
+  run = runs sample;
+  numbers = s .4;
+  excesses = s .5;
+  closed = ap phaseNumber (s .0);
+}
