@@ -1,0 +1,58 @@
+-- A name and three numbers behind it, and 0A.
+use mathlib.Core.Path.{refl}
+use native.Mathlib.Omega.{arith}
+use borrow.Author.Needs.{needs}
+use Rattle.trace_text.specs.Words.{awardLine}
+use Rattle.trace_text.proofs.Laws.{puts-as, puts-then}
+use Rattle.trace_text.proofs.put_award.Statement.{statement}
+use Rattle.trace_text.proofs.put_award.Tie as tie
+
+slice-aggregate-put-name : tie.Need-slice-aggregate-put-name
+slice-aggregate-put-name c = search needs
+
+put-name-requires : tie.Need-put-name-requires
+put-name-requires c κs = search needs
+
+byte-at-requires : tie.Need-byte-at-requires
+byte-at-requires c κs = search needs
+
+put-number-requires : tie.Need-put-number-requires
+put-number-requires c κs = search needs
+
+add-byte-at : tie.Need-add-byte-at
+add-byte-at c = search needs
+
+byte-at-requires-2 : tie.Need-byte-at-requires-2
+byte-at-requires-2 c κs = search needs
+
+put-number-requires-2 : tie.Need-put-number-requires-2
+put-number-requires-2 c κs = search needs
+
+quantity-at-requires : tie.Need-quantity-at-requires
+quantity-at-requires c κs = search needs
+
+put-number-requires-3 : tie.Need-put-number-requires-3
+put-number-requires-3 c κs = search needs
+
+put-byte-requires : tie.Need-put-byte-requires
+put-byte-requires c κs = search needs
+
+same-length : tie.Need-same-length
+same-length c = search needs
+
+returns : tie.Need-returns
+unfolding awardLine
+returns c =
+    let ended = c .before .before in
+    let quantity = ended .before .before .before .before in
+    let developer = quantity .before .before .before .before .before in
+    let project = developer .before .before .before .before .before in
+    let named = project .before .before .before .before .before in
+    let p1 = named .put-name .ensures in
+    let p2 = puts-then p1 (rw (project .before .byte-at .ensures .0) at (project .put-number .ensures)) in
+    let p3 = puts-then p2 (rw (developer .before .byte-at2 .ensures .0) at (developer .put-number2 .ensures)) in
+    let p4 = puts-then p3 (rw (quantity .before .quantity-at .ensures) at (quantity .put-number3 .ensures)) in
+    puts-as (puts-then p4 (ended .put-byte .ensures)) _ _ refl (omega arith)
+
+pub put-award-spec : {M : Type 1} → statement M
+put-award-spec = tie.close (tie.spec slice-aggregate-put-name put-name-requires byte-at-requires put-number-requires add-byte-at byte-at-requires-2 put-number-requires-2 quantity-at-requires put-number-requires-3 put-byte-requires same-length returns)
