@@ -10,6 +10,7 @@ mod rounds;
 mod sample;
 mod settling;
 mod shares;
+mod trace;
 
 use crate::auction::{Auction, EXISTING, NEW};
 use crate::records::record;
