@@ -12,8 +12,9 @@ use lib.ListN.{length, take, drop, getD, set, length-append, length-take, length
 use lib.Seq.{take-at, drop-at, drop-drop, take-suc, set-split, append-snoc, length-take-le}
 use Rattle.numbers.specs.Tails.{laid}
 use Rattle.reply_text.specs.declared.Reply.{Reply}
+use Rattle.reply_text.specs.Texts.{textOf}
 use Rattle.trace_text.specs.Puts.{Puts}
-use Rattle.trace_text.specs.Words.{closingWords, settledWords, wordsOf}
+use Rattle.trace_text.specs.Words.{excessLine, settledLines, wordsOf, traceOf}
 
 -- nothing written
 pub puts-none : (o : List ℕ) (most a : ℕ) → a ≤ length o → Puts [] most o o a a
@@ -86,11 +87,11 @@ module _ (r : Reply) where
   unfolding wordsOf
   words-refused h = rw (ne-eqb (r .number) 0 h)
 
-  pub words-closing : r .number ≡ 0 → r .kind ≡ 5 → wordsOf r ≡ closingWords (r .excess)
+  pub words-closing : r .number ≡ 0 → r .kind ≡ 5 → wordsOf r ≡ excessLine (r .excess)
   unfolding wordsOf
   words-closing h k = rw (eq-eqb (r .number) 0 h, eq-eqb (r .kind) 5 k)
 
-  pub words-settling : r .number ≡ 0 → r .kind ≡ 6 → wordsOf r ≡ settledWords (r .settled) (r .awards)
+  pub words-settling : r .number ≡ 0 → r .kind ≡ 6 → wordsOf r ≡ settledLines (r .settled) (r .awards)
   unfolding wordsOf
   words-settling h k = rw (eq-eqb (r .number) 0 h, ne-eqb (r .kind) 5 (λ e. omega arith), eq-eqb (r .kind) 6 k)
 
@@ -101,3 +102,9 @@ module _ (r : Reply) where
       go : (b : Bool) → _≡_ {A = List ℕ} (cond b [] []) []
       go true = refl
       go false = refl
+
+  -- the reply's line at the buffer's start, and what stands below it
+  pub whole : {o xs ys : List ℕ} {n b : ℕ} → Puts (textOf r) 435 o xs 0 n → Puts (wordsOf r) 3000 xs ys n b →
+      (b ≡ length (traceOf r)) × (b ≤ 4096) × (ys ≡ laid (traceOf r) o)
+  unfolding traceOf
+  whole p w = let q = puts-then p w in (omega (arith, q .next), omega (arith, q .next, q .short), puts-laid q)

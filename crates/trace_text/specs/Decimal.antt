@@ -1,5 +1,5 @@
 -- Names and decimal numbers as bytes.
-use Prim.Native.Nat.{ℕ, zero, suc, _+_, _-_, _/_, _%_, _^_}
+use Prim.Native.Nat.{ℕ, zero, suc, _+_, _/_, _%_}
 use Prim.Native.Char.{code}
 use Prim.Native.String.{String, [] as []ₛ, _∷_ as _∷ₛ_}
 use mathlib.Core.Bool.{cond}
@@ -19,7 +19,3 @@ decimalIn (suc k) n = cond (ltb n 10) ((48 + n) ∷ []) (decimalIn k (n / 10) ++
 -- n has at most n digits, and 0 has one
 unfoldable pub decimal : ℕ → List ℕ
 decimal n = decimalIn (suc n) n
-
--- 64 bits in two's complement, a negative number with its sign before it
-unfoldable pub signed : ℕ → List ℕ
-signed bits = cond (ltb bits (2 ^ 63)) (decimal bits) (45 ∷ decimal (2 ^ 64 - bits))

@@ -1,5 +1,5 @@
 -- Laws of decimal digits: the last digit, and how many there are.
-use Prim.Native.Nat.{ℕ, zero, suc, _+_, _-_, _/_, _%_, _^_, _≤_, _<_}
+use Prim.Native.Nat.{ℕ, zero, suc, _+_, _/_, _%_, _^_, _≤_, _<_}
 use mathlib.Core.Path.{_≡_, refl, sym, ap, _∙_}
 use mathlib.Core.Bool.{Bool, true, false, cond}
 use mathlib.Core.List.{List, [], _∷_, _++_}
@@ -8,7 +8,7 @@ use native.Mathlib.Omega.{arith}
 use borrow.Author.Tests.{lt-ltb, le-ltb, ltb-true, ltb-false}
 use lib.Dec.{ltb}
 use lib.ListN.{length, length-append}
-use Rattle.trace_text.specs.Decimal.{decimalIn, decimal, signed}
+use Rattle.trace_text.specs.Decimal.{decimalIn, decimal}
 
 -- more places than digits change nothing
 same-in : (j k n : ℕ) → n < j → n < k → decimalIn j n ≡ decimalIn k n
@@ -49,14 +49,3 @@ decimal-length (suc k) n h = go (ltb n 10) refl (decimal-length k (n / 10) (omeg
 -- of 64 bits: at most 20
 pub decimal-short : (n : ℕ) → n < 2 ^ 64 → length (decimal n) ≤ 20
 decimal-short n h = decimal-length 19 n (omega arith)
-
--- ---- the sign
-
-module _ (bits : ℕ) where
-  pub signed-plus : bits < 2 ^ 63 → signed bits ≡ decimal bits
-  unfolding signed
-  signed-plus h = rw (lt-ltb bits (2 ^ 63) h)
-
-  pub signed-minus : 2 ^ 63 ≤ bits → signed bits ≡ 45 ∷ decimal (2 ^ 64 - bits)
-  unfolding signed
-  signed-minus h = rw (le-ltb bits (2 ^ 63) h)

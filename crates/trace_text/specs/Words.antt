@@ -1,55 +1,52 @@
--- A reply in words and decimal numbers, an item a line.
-use Prim.Native.Nat.{ℕ, zero, suc, min, _+_, _*_}
+-- A reply in words and decimal numbers, an item a line: a name, and its numbers with a blank between them.
+use Prim.Native.Nat.{ℕ, zero, suc, min, _+_, _-_, _*_, _^_}
 use mathlib.Core.Bool.{cond}
 use mathlib.Core.List.{List, [], _∷_, _++_}
-use lib.Dec.{eqb}
+use lib.Dec.{eqb, ltb}
 use lib.ListN.{getD}
 use Rattle.settling.specs.declared.Settled.{Settled}
 use Rattle.reply_text.specs.declared.Reply.{Reply}
 use Rattle.reply_text.specs.Texts.{textOf}
-use Rattle.trace_text.specs.Decimal.{bytesOf, decimal, signed}
+use Rattle.trace_text.specs.Decimal.{bytesOf, decimal}
 
--- a number behind a blank, and the line's end
-abbrev pub number : ℕ → List ℕ
-number n = 32 ∷ decimal n
-
-abbrev pub end : List ℕ
-end = 10 ∷ []
+-- a number and the byte behind it: a blank, or 0A at the line's end
+unfoldable pub number : ℕ → ℕ → List ℕ
+number n behind = decimal n ++ (behind ∷ [])
 
 -- a name and a number
 unfoldable pub item : List ℕ → ℕ → List ℕ
-item name n = name ++ number n ++ end
+item name n = name ++ number n 10
 
--- under an accepted closing
-unfoldable pub closingWords : ℕ → List ℕ
-closingWords excess = bytesOf "excess" ++ (32 ∷ signed excess) ++ end
+-- below an accepted closing: the signed number that 64 bits in two's complement stand for
+unfoldable pub excessLine : ℕ → List ℕ
+excessLine bits = cond (ltb bits (2 ^ 63)) (item (bytesOf "excess ") bits) (item (bytesOf "excess -") (2 ^ 64 - bits))
 
--- the award record at place i: project, developer, quantity in 4 bytes, high byte first
+-- the award record that starts at place i: project, developer, and the quantity in 4 bytes, high byte first
 unfoldable pub quantityAt : List ℕ → ℕ → ℕ
 quantityAt awards i = ((getD awards (i + 2) 0 * 256 + getD awards (i + 3) 0) * 256 + getD awards (i + 4) 0) * 256 + getD awards (i + 5) 0
 
 unfoldable pub awardLine : List ℕ → ℕ → List ℕ
-awardLine awards i = bytesOf "award" ++ number (getD awards i 0) ++ number (getD awards (i + 1) 0) ++ number (quantityAt awards i) ++ end
+awardLine awards i = bytesOf "award " ++ number (getD awards i 0) 32 ++ number (getD awards (i + 1) 0) 32 ++ number (quantityAt awards i) 10
 
--- the first n award records, in their order, which is that of rising projects
+-- the first n award records, in their order: they stand by rising project
 unfoldable pub awardLines : List ℕ → ℕ → List ℕ
 awardLines awards zero = []
 awardLines awards (suc n) = awardLines awards n ++ awardLine awards (6 * n)
 
--- under an accepted settling
-unfoldable pub settledItems : Settled → List ℕ
-settledItems s =
-    item (bytesOf "price") (s .price) ++ item (bytesOf "demand") (s .demand) ++ item (bytesOf "total") (s .total)
-    ++ item (bytesOf "choices") (s .choices) ++ item (bytesOf "covering") (s .covering)
+-- below an accepted settling
+unfoldable pub items : Settled → List ℕ
+items s =
+    item (bytesOf "price ") (s .price) ++ item (bytesOf "demand ") (s .demand) ++ item (bytesOf "total ") (s .total)
+    ++ item (bytesOf "choices ") (s .choices) ++ item (bytesOf "covering ") (s .covering)
 
-unfoldable pub settledWords : Settled → List ℕ → List ℕ
-settledWords s awards = settledItems s ++ awardLines awards (min (s .records) 32)
+unfoldable pub settledLines : Settled → List ℕ → List ℕ
+settledLines s awards = items s ++ awardLines awards (min (s .records) 32)
 
--- what stands below a reply: nothing below a refusal and a reply of another kind
+-- below a reply: nothing if it is refused or of another kind
 unfoldable pub wordsOf : Reply → List ℕ
 wordsOf r =
     cond (eqb (r .number) 0)
-    (cond (eqb (r .kind) 5) (closingWords (r .excess)) (cond (eqb (r .kind) 6) (settledWords (r .settled) (r .awards)) []))
+    (cond (eqb (r .kind) 5) (excessLine (r .excess)) (cond (eqb (r .kind) 6) (settledLines (r .settled) (r .awards)) []))
     []
 
 -- a reply's line and what stands below it

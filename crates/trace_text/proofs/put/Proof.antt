@@ -1,12 +1,16 @@
--- The reply's line at the buffer's start, and its words behind it.
+-- The reply's line at the buffer's start, and behind it, by the answer and the kind, nothing, the excess, or what a settling says.
+use mathlib.Core.Path.{sym}
 use native.Mathlib.Omega.{arith}
 use borrow.Author.Needs.{needs}
 use Rattle.reply_text.specs.Texts.{textOf}
 use Rattle.trace_text.specs.Puts.{Puts}
-use Rattle.trace_text.specs.Words.{traceOf}
-use Rattle.trace_text.proofs.Laws.{puts-then, puts-laid, laid-puts}
+use Rattle.trace_text.proofs.Laws.{puts-none, puts-as, laid-puts, whole, words-refused, words-closing, words-settling, words-other}
 use Rattle.trace_text.proofs.put.Statement.{statement}
 use Rattle.trace_text.proofs.put.Tie as tie
+
+-- the line, once it is written
+line : (c : tie.After-slice-known2) → Puts (textOf (c .before .before .before .before .before .before .args .reply)) 435 (c .before .before .before .before .before .before .args .out .now) (c .before .before .put .last .0) 0 (c .before .before .before .before .size .result)
+line c = laid-puts _ _ _ 435 (c .before .before .before .before .size .result) (c .before .before .put .ensures) (c .before .before .before .before .size .ensures .0) (omega arith) (omega arith)
 
 size-requires : tie.Need-size-requires
 size-requires c κs = search needs
@@ -14,22 +18,43 @@ size-requires c κs = search needs
 put-requires : tie.Need-put-requires
 put-requires c κs = search needs
 
-put-words-requires : tie.Need-put-words-requires
-put-words-requires c κs = search needs
-
 same-length : tie.Need-same-length
 same-length c = search needs
 
 returns : tie.Need-returns
-unfolding traceOf
-returns c =
-    let words = c .before .before in
-    let line = words .before .before .before .before in
-    let n = line .before .before .size in
-    let s = line .before .before .before .before in
-    let p = laid-puts (textOf (s .args .reply)) _ _ 435 (n .result) (line .put .ensures) (n .ensures .0) (omega arith) (omega arith) in
-    let q = puts-then p (words .put-words .ensures) in
-    (omega (arith, q .next), omega (arith, q .next, q .short), puts-laid q)
+returns c = whole _ (line (c .before .before)) (puts-as (puts-none _ 0 _ (omega arith)) _ _ (sym (words-refused _ (c .if1 .taken))) (omega arith))
+
+put-excess-requires : tie.Need-put-excess-requires
+put-excess-requires c κs = search needs
+
+same-length-2 : tie.Need-same-length-2
+same-length-2 c = search needs
+
+returns-2 : tie.Need-returns-2
+returns-2 c =
+    let closing = c .before .before in
+    let kind = closing .before .before in
+    let accepted = kind .before .before in
+    whole _ (line (accepted .before .before)) (puts-as (closing .put-excess .ensures) _ _ (sym (words-closing _ (accepted .if1 .left) (kind .if2 .taken))) (omega arith))
+
+put-settled-requires : tie.Need-put-settled-requires
+put-settled-requires c κs = search needs
+
+same-length-3 : tie.Need-same-length-3
+same-length-3 c = search needs
+
+returns-3 : tie.Need-returns-3
+returns-3 c =
+    let settled = c .before .before in
+    let kind = settled .before .before .before in
+    let accepted = kind .before .before .before .before in
+    whole _ (line (accepted .before .before)) (puts-as (settled .put-settled .ensures) _ _ (sym (words-settling _ (accepted .if1 .left) (kind .if3 .taken))) (omega arith))
+
+same-length-4 : tie.Need-same-length-4
+same-length-4 c = search needs
+
+returns-4 : tie.Need-returns-4
+returns-4 c = whole _ (line (c .before .before .before .before .before .before)) (puts-as (puts-none _ 0 _ (omega arith)) _ _ (sym (words-other _ (c .before .before .if2 .left) (c .if3 .left))) (omega arith))
 
 pub put-spec : {M : Type 1} → statement M
-put-spec = tie.close (tie.spec size-requires put-requires put-words-requires same-length returns)
+put-spec = tie.close (tie.spec size-requires put-requires same-length returns put-excess-requires same-length-2 returns-2 put-settled-requires same-length-3 returns-3 same-length-4 returns-4)

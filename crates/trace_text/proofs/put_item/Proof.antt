@@ -1,4 +1,4 @@
--- A name, a number behind it, and 0A.
+-- A name, and a number behind it.
 use mathlib.Core.Path.{refl}
 use native.Mathlib.Omega.{arith}
 use borrow.Author.Needs.{needs}
@@ -13,19 +13,15 @@ put-name-requires c κs = search needs
 put-number-requires : tie.Need-put-number-requires
 put-number-requires c κs = search needs
 
-put-byte-requires : tie.Need-put-byte-requires
-put-byte-requires c κs = search needs
-
 same-length : tie.Need-same-length
 same-length c = search needs
 
 returns : tie.Need-returns
 unfolding item
 returns c =
-    let ended = c .before .before in
-    let numbered = ended .before .before .before .before in
-    let named = numbered .before .before .before .before in
-    puts-as (puts-then (puts-then (named .put-name .ensures) (numbered .put-number .ensures)) (ended .put-byte .ensures)) _ _ refl (omega arith)
+    let number = c .before .before in
+    let name = number .before .before .before .before in
+    puts-as (puts-then (name .put-name .ensures) (number .put-number .ensures)) _ _ refl (omega arith)
 
 pub put-item-spec : {M : Type 1} → statement M
-put-item-spec = tie.close (tie.spec put-name-requires put-number-requires put-byte-requires same-length returns)
+put-item-spec = tie.close (tie.spec put-name-requires put-number-requires same-length returns)

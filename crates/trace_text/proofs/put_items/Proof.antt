@@ -2,10 +2,10 @@
 use mathlib.Core.Path.{refl}
 use native.Mathlib.Omega.{arith}
 use borrow.Author.Needs.{needs}
-use Rattle.trace_text.specs.Words.{settledItems}
+use Rattle.trace_text.specs.Words.{items}
 use Rattle.trace_text.proofs.Laws.{puts-as, puts-then}
-use Rattle.trace_text.proofs.put_settled_items.Statement.{statement}
-use Rattle.trace_text.proofs.put_settled_items.Tie as tie
+use Rattle.trace_text.proofs.put_items.Statement.{statement}
+use Rattle.trace_text.proofs.put_items.Tie as tie
 
 slice-aggregate-put-item : tie.Need-slice-aggregate-put-item
 slice-aggregate-put-item c = search needs
@@ -44,7 +44,7 @@ same-length : tie.Need-same-length
 same-length c = search needs
 
 returns : tie.Need-returns
-unfolding settledItems
+unfolding items
 returns c =
     let covering = c .before .before in
     let choices = covering .before .before .before .before .before in
@@ -55,5 +55,5 @@ returns c =
     let p4 = puts-then (puts-then p2 (total .put-item3 .ensures)) (choices .put-item4 .ensures) in
     puts-as (puts-then p4 (covering .put-item5 .ensures)) _ _ refl (omega arith)
 
-pub put-settled-items-spec : {M : Type 1} → statement M
-put-settled-items-spec = tie.close (tie.spec slice-aggregate-put-item cast-put-item put-item-requires slice-aggregate-put-item-2 put-item-requires-2 slice-aggregate-put-item-3 put-item-requires-3 slice-aggregate-put-item-4 put-item-requires-4 slice-aggregate-put-item-5 put-item-requires-5 same-length returns)
+pub put-items-spec : {M : Type 1} → statement M
+put-items-spec = tie.close (tie.spec slice-aggregate-put-item cast-put-item put-item-requires slice-aggregate-put-item-2 put-item-requires-2 slice-aggregate-put-item-3 put-item-requires-3 slice-aggregate-put-item-4 put-item-requires-4 slice-aggregate-put-item-5 put-item-requires-5 same-length returns)
