@@ -25,7 +25,7 @@ returns : tie.Need-returns
 returns c = whole _ (line (c .before .before)) (puts-as (puts-none _ 0 _ (omega arith)) _ _ (sym (words-refused _ (c .if1 .taken))) (omega arith))
 
 put-excess-requires : tie.Need-put-excess-requires
-put-excess-requires c κs = search needs
+put-excess-requires c κs = omega arith
 
 same-length-2 : tie.Need-same-length-2
 same-length-2 c = search needs
@@ -38,7 +38,7 @@ returns-2 c =
     whole _ (line (accepted .before .before)) (puts-as (closing .put-excess .ensures) _ _ (sym (words-closing _ (accepted .if1 .left) (kind .if2 .taken))) (omega arith))
 
 put-settled-requires : tie.Need-put-settled-requires
-put-settled-requires c κs = search needs
+put-settled-requires c κs = omega arith
 
 same-length-3 : tie.Need-same-length-3
 same-length-3 c = search needs

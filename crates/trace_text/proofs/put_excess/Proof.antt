@@ -1,6 +1,6 @@
 -- A number below 2^63 is its own; any other is 2^64 less it, behind a sign.
 use Prim.Native.Nat.{ℕ, _+_, _-_, _^_}
-use mathlib.Core.Path.{_≡_}
+use mathlib.Core.Path.{refl, _≡_}
 use native.Mathlib.Omega.{arith}
 use borrow.Author.Needs.{needs}
 use borrow.Author.Tests.{lt-ltb, le-ltb}
@@ -10,10 +10,10 @@ use Rattle.trace_text.proofs.put_excess.Statement.{statement}
 use Rattle.trace_text.proofs.put_excess.Tie as tie
 
 slice-aggregate-put-item : tie.Need-slice-aggregate-put-item
-slice-aggregate-put-item c = search needs
+slice-aggregate-put-item c = refl
 
 put-item-requires : tie.Need-put-item-requires
-put-item-requires c κs = search needs
+put-item-requires c κs = omega arith
 
 same-length : tie.Need-same-length
 same-length c = search needs
@@ -23,16 +23,16 @@ unfolding excessLine
 returns c = puts-as (c .before .before .put-item .ensures) _ _ (rw (lt-ltb _ (2 ^ 63) (c .before .before .before .before .before .if1 .taken))) (omega arith)
 
 slice-aggregate-put-item-2 : tie.Need-slice-aggregate-put-item-2
-slice-aggregate-put-item-2 c = search needs
+slice-aggregate-put-item-2 c = refl
 
 sub-put-item : tie.Need-sub-put-item
-sub-put-item c = search needs
+sub-put-item c = omega arith
 
 add-put-item : tie.Need-add-put-item
-add-put-item c = search needs
+add-put-item c = omega arith
 
 put-item-requires-2 : tie.Need-put-item-requires-2
-put-item-requires-2 c κs = search needs
+put-item-requires-2 c κs = omega arith
 
 same-length-2 : tie.Need-same-length-2
 same-length-2 c = search needs

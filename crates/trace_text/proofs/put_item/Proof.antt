@@ -8,10 +8,10 @@ use Rattle.trace_text.proofs.put_item.Statement.{statement}
 use Rattle.trace_text.proofs.put_item.Tie as tie
 
 put-name-requires : tie.Need-put-name-requires
-put-name-requires c κs = search needs
+put-name-requires c κs = omega arith
 
 put-number-requires : tie.Need-put-number-requires
-put-number-requires c κs = search needs
+put-number-requires c κs = omega arith
 
 same-length : tie.Need-same-length
 same-length c = search needs

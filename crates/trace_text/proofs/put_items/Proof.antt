@@ -8,37 +8,37 @@ use Rattle.trace_text.proofs.put_items.Statement.{statement}
 use Rattle.trace_text.proofs.put_items.Tie as tie
 
 slice-aggregate-put-item : tie.Need-slice-aggregate-put-item
-slice-aggregate-put-item c = search needs
+slice-aggregate-put-item c = refl
 
 cast-put-item : tie.Need-cast-put-item
 cast-put-item c = search needs
 
 put-item-requires : tie.Need-put-item-requires
-put-item-requires c κs = search needs
+put-item-requires c κs = omega arith
 
 slice-aggregate-put-item-2 : tie.Need-slice-aggregate-put-item-2
-slice-aggregate-put-item-2 c = search needs
+slice-aggregate-put-item-2 c = refl
 
 put-item-requires-2 : tie.Need-put-item-requires-2
-put-item-requires-2 c κs = search needs
+put-item-requires-2 c κs = omega arith
 
 slice-aggregate-put-item-3 : tie.Need-slice-aggregate-put-item-3
-slice-aggregate-put-item-3 c = search needs
+slice-aggregate-put-item-3 c = refl
 
 put-item-requires-3 : tie.Need-put-item-requires-3
-put-item-requires-3 c κs = search needs
+put-item-requires-3 c κs = omega arith
 
 slice-aggregate-put-item-4 : tie.Need-slice-aggregate-put-item-4
-slice-aggregate-put-item-4 c = search needs
+slice-aggregate-put-item-4 c = refl
 
 put-item-requires-4 : tie.Need-put-item-requires-4
-put-item-requires-4 c κs = search needs
+put-item-requires-4 c κs = omega arith
 
 slice-aggregate-put-item-5 : tie.Need-slice-aggregate-put-item-5
-slice-aggregate-put-item-5 c = search needs
+slice-aggregate-put-item-5 c = refl
 
 put-item-requires-5 : tie.Need-put-item-requires-5
-put-item-requires-5 c κs = search needs
+put-item-requires-5 c κs = omega arith
 
 same-length : tie.Need-same-length
 same-length c = search needs

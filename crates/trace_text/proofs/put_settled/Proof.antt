@@ -8,7 +8,7 @@ use Rattle.trace_text.proofs.put_settled.Statement.{statement}
 use Rattle.trace_text.proofs.put_settled.Tie as tie
 
 put-items-requires : tie.Need-put-items-requires
-put-items-requires c κs = search needs
+put-items-requires c κs = omega arith
 
 count-requires : tie.Need-count-requires
 count-requires c κs = search needs
