@@ -104,7 +104,8 @@ module _ (r : Reply) where
       go false = refl
 
   -- the reply's line at the buffer's start, and what stands below it
-  pub whole : {o xs ys : List ℕ} {n b : ℕ} → Puts (textOf r) 435 o xs 0 n → Puts (wordsOf r) 3000 xs ys n b →
+  pub whole : {t o xs ys : List ℕ} {m n b : ℕ} → Puts (textOf r) 435 o xs 0 n → Puts t m xs ys n b → wordsOf r ≡ t → m ≤ 3000 →
       (b ≡ length (traceOf r)) × (b ≤ 4096) × (ys ≡ laid (traceOf r) o)
   unfolding traceOf
-  whole p w = let q = puts-then p w in (omega (arith, q .next), omega (arith, q .next, q .short), puts-laid q)
+  whole {t} p w e h =
+      let q = puts-then p w in rw e (omega (arith, q .next), omega (arith, q .next, q .short), puts-laid q)

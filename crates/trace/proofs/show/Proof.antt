@@ -29,4 +29,13 @@ returns : tie.Need-returns
 returns c = search needs
 
 pub show-spec : {M : Type 1} → statement M
-show-spec = tie.close (tie.spec buffer-requires slice-aggregate-put put-requires array-share-prefix-text slice-aggregate-write-all write-all-requires returns)
+show-spec =
+    tie.close
+    (tie.spec
+    buffer-requires
+    slice-aggregate-put
+    put-requires
+    array-share-prefix-text
+    slice-aggregate-write-all
+    write-all-requires
+    returns)

@@ -14,8 +14,12 @@ abbrev μ-loop : tie.MeasureT-loop
 μ-loop bytes auction₀ at₀ auction at = length bytes - at
 
 -- the line ends inside the record
-inside : (c : tie.After-next Inv-loop μ-loop) → c .before .before .before .before .before .loop .at + length (c .before .before .before .next-line .result .now) ≤ length (c .before .before .before .before .before .before .before .before .args .bytes .now)
-inside c = rw (c .before .before .before .next-line .ensures) (line-inside (c .before .before .before .before .before .before .before .before .args .bytes .now) (c .before .before .before .before .before .loop .at) (c .before .before .before .before .loop-test .taken))
+inside :
+    (c : tie.After-next-line Inv-loop μ-loop) →
+    let loop = c .before .before in loop .loop .at + length (c .next-line .result .now) ≤ length (loop .before .before .before .args .bytes .now)
+inside c =
+    let loop = c .before .before in
+    rw (c .next-line .ensures) (line-inside (loop .before .before .before .args .bytes .now) (loop .loop .at) (c .before .loop-test .taken))
 
 new-requires : tie.Need-new-requires Inv-loop μ-loop
 new-requires c κs = tt
@@ -33,16 +37,16 @@ show-requires : tie.Need-show-requires Inv-loop μ-loop
 show-requires c κs = tt
 
 add-at : tie.Need-add-at Inv-loop μ-loop
-add-at c = omega (arith, inside c, c .before .before .before .before .before .before .before .before .good)
+add-at c = omega (arith, inside (c .before .before .before))
 
 add-at-2 : tie.Need-add-at-2 Inv-loop μ-loop
-add-at-2 c = omega (arith, inside c, c .before .before .before .before .before .before .before .before .good)
+add-at-2 c = omega (arith, inside (c .before .before .before))
 
 loop-less : tie.Need-loop-less Inv-loop μ-loop
 loop-less c = omega (arith, c .before .before .before .before .loop-test .taken)
 
 loop-again : tie.Need-loop-again Inv-loop μ-loop
-loop-again c = omega (arith, inside c)
+loop-again c = omega (arith, inside (c .before .before .before))
 
 returns : tie.Need-returns Inv-loop μ-loop
 returns c = tt

@@ -1,10 +1,12 @@
 -- The digits of a tenth of the number, and the last one behind them. The measure is the number.
-use Prim.Native.Nat.{ℕ, _+_, _%_, _<_}
-use mathlib.Core.Path.{sym}
+use Prim.Native.Nat.{ℕ, _+_, _/_, _%_, _<_}
+use mathlib.Core.Path.{_≡_, sym}
 use native.Mathlib.Omega.{arith}
 use borrow.Author.Needs.{needs}
 use borrow.Fn.Kinds.{In}
 use borrow.Fn.PlainCycle.{Measures, is, falls, and}
+use lib.ListN.{length}
+use Rattle.trace_text.specs.Decimal.{decimal}
 use Rattle.trace_text.specs.DecimalLaws.{decimal-one, decimal-more, length-one, length-more}
 use Rattle.trace_text.proofs.Laws.{puts-byte, puts-as, puts-then}
 use Rattle.trace_text.proofs.put_decimal.Reads as put-decimal
@@ -53,6 +55,12 @@ module _ (t : ℕ) where
       let h = length-more (c .before .before .before .args .n) (c .before .if1 .left) in
       (omega arith, omega arith)
 
+  -- one digit more than a tenth of the number has
+  longer :
+      (c : lts.After-slice-known2 (called t) (at-measure t) put-decimal.Post) →
+      let n = c .before .before .before .before .before .before .args .n in length (decimal n) ≡ length (decimal (n / 10)) + 1
+  longer c = let test = c .before .before .before .before in length-more (test .before .before .args .n) (test .if1 .left)
+
   cast-out-2 : lts.Need-cast-out-2 (called t) (at-measure t) put-decimal.Post
   cast-out-2 c = search needs
 
@@ -60,21 +68,21 @@ module _ (t : ℕ) where
   add-out-2 c = search needs
 
   slice-write-out-2 : lts.Need-slice-write-out-2 (called t) (at-measure t) put-decimal.Post
-  slice-write-out-2 c = let h = length-more (c .before .before .before .before .before .before .args .n) (c .before .before .before .before .if1 .left) in omega arith
+  slice-write-out-2 c = let h = longer c in omega arith
 
   add-result-2 : lts.Need-add-result-2 (called t) (at-measure t) put-decimal.Post
-  add-result-2 c = let h = length-more (c .before .before .before .before .before .before .args .n) (c .before .before .before .before .if1 .left) in omega arith
+  add-result-2 c = let h = longer c in omega arith
 
   same-length-2 : lts.Need-same-length-2 (called t) (at-measure t) put-decimal.Post
   same-length-2 c = search needs
 
   returns-2 : lts.Need-returns-2 (called t) (at-measure t) put-decimal.Post
   returns-2 c =
-      let s = c .before .before .before .before .before .before in
-      let h = c .before .before .before .before .if1 .left in
-      let k = length-more (s .args .n) h in
-      let r = c .before .before .put-decimal in
-      puts-as (puts-then (r .ensures) (puts-byte _ (r .result) (48 + s .args .n % 10) (omega arith))) _ _ (sym (decimal-more (s .args .n) h)) (omega arith)
+      let test = c .before .before .before .before in
+      let n = test .before .before .args .n in
+      let h = longer c in
+      let tenth = c .before .before .put-decimal in
+      puts-as (puts-then (tenth .ensures) (puts-byte _ (tenth .result) (48 + n % 10) (omega arith))) _ _ (sym (decimal-more n (test .if1 .left))) (omega arith)
 
 pub +put-decimal-spec : {M : Type 1} → statement M
 +put-decimal-spec = close μ-put-decimal λ t. lts.spec (called t) (at-measure t) put-decimal.Post

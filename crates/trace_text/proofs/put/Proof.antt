@@ -1,16 +1,21 @@
 -- The reply's line at the buffer's start, and behind it, by the answer and the kind, nothing, the excess, or what a settling says.
-use mathlib.Core.Path.{sym}
 use native.Mathlib.Omega.{arith}
 use borrow.Author.Needs.{needs}
 use Rattle.reply_text.specs.Texts.{textOf}
 use Rattle.trace_text.specs.Puts.{Puts}
-use Rattle.trace_text.proofs.Laws.{puts-none, puts-as, laid-puts, whole, words-refused, words-closing, words-settling, words-other}
+use Rattle.trace_text.proofs.Laws.{puts-none, laid-puts, whole, words-refused, words-closing, words-settling, words-other}
 use Rattle.trace_text.proofs.put.Statement.{statement}
 use Rattle.trace_text.proofs.put.Tie as tie
 
 -- the line, once it is written
-line : (c : tie.After-slice-known2) → Puts (textOf (c .before .before .before .before .before .before .args .reply)) 435 (c .before .before .before .before .before .before .args .out .now) (c .before .before .put .last .0) 0 (c .before .before .before .before .size .result)
-line c = laid-puts _ _ _ 435 (c .before .before .before .before .size .result) (c .before .before .put .ensures) (c .before .before .before .before .size .ensures .0) (omega arith) (omega arith)
+line :
+    (c : tie.After-slice-known2) →
+    let size = c .before .before .before .before in
+    let a = size .before .before .args in
+    Puts (textOf (a .reply)) 435 (a .out .now) (c .before .before .put .last .0) 0 (size .size .result)
+line c =
+    let size = c .before .before .before .before .size in
+    laid-puts _ _ _ 435 (size .result) (c .before .before .put .ensures) (size .ensures .0) (omega arith) (omega arith)
 
 size-requires : tie.Need-size-requires
 size-requires c κs = search needs
@@ -22,7 +27,7 @@ same-length : tie.Need-same-length
 same-length c = search needs
 
 returns : tie.Need-returns
-returns c = whole _ (line (c .before .before)) (puts-as (puts-none _ 0 _ (omega arith)) _ _ (sym (words-refused _ (c .if1 .taken))) (omega arith))
+returns c = whole _ (line (c .before .before)) (puts-none _ 0 _ (omega arith)) (words-refused _ (c .if1 .taken)) (omega arith)
 
 put-excess-requires : tie.Need-put-excess-requires
 put-excess-requires c κs = omega arith
@@ -35,7 +40,7 @@ returns-2 c =
     let closing = c .before .before in
     let kind = closing .before .before in
     let accepted = kind .before .before in
-    whole _ (line (accepted .before .before)) (puts-as (closing .put-excess .ensures) _ _ (sym (words-closing _ (accepted .if1 .left) (kind .if2 .taken))) (omega arith))
+    whole _ (line (accepted .before .before)) (closing .put-excess .ensures) (words-closing _ (accepted .if1 .left) (kind .if2 .taken)) (omega arith)
 
 put-settled-requires : tie.Need-put-settled-requires
 put-settled-requires c κs = omega arith
@@ -48,13 +53,29 @@ returns-3 c =
     let settled = c .before .before in
     let kind = settled .before .before .before in
     let accepted = kind .before .before .before .before in
-    whole _ (line (accepted .before .before)) (puts-as (settled .put-settled .ensures) _ _ (sym (words-settling _ (accepted .if1 .left) (kind .if3 .taken))) (omega arith))
+    whole _ (line (accepted .before .before)) (settled .put-settled .ensures) (words-settling _ (accepted .if1 .left) (kind .if3 .taken)) (omega arith)
 
 same-length-4 : tie.Need-same-length-4
 same-length-4 c = search needs
 
 returns-4 : tie.Need-returns-4
-returns-4 c = whole _ (line (c .before .before .before .before .before .before)) (puts-as (puts-none _ 0 _ (omega arith)) _ _ (sym (words-other _ (c .before .before .if2 .left) (c .if3 .left))) (omega arith))
+returns-4 c =
+    let kind = c .before .before in
+    whole _ (line (kind .before .before .before .before)) (puts-none _ 0 _ (omega arith)) (words-other _ (kind .if2 .left) (c .if3 .left)) (omega arith)
 
 pub put-spec : {M : Type 1} → statement M
-put-spec = tie.close (tie.spec size-requires put-requires same-length returns put-excess-requires same-length-2 returns-2 put-settled-requires same-length-3 returns-3 same-length-4 returns-4)
+put-spec =
+    tie.close
+    (tie.spec
+    size-requires
+    put-requires
+    same-length
+    returns
+    put-excess-requires
+    same-length-2
+    returns-2
+    put-settled-requires
+    same-length-3
+    returns-3
+    same-length-4
+    returns-4)

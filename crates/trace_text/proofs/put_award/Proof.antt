@@ -50,4 +50,17 @@ returns c =
     puts-as p4 _ _ refl (omega arith)
 
 pub put-award-spec : {M : Type 1} → statement M
-put-award-spec = tie.close (tie.spec slice-aggregate-put-name put-name-requires byte-at-requires put-number-requires add-byte-at byte-at-requires-2 put-number-requires-2 quantity-at-requires put-number-requires-3 same-length returns)
+put-award-spec =
+    tie.close
+    (tie.spec
+    slice-aggregate-put-name
+    put-name-requires
+    byte-at-requires
+    put-number-requires
+    add-byte-at
+    byte-at-requires-2
+    put-number-requires-2
+    quantity-at-requires
+    put-number-requires-3
+    same-length
+    returns)

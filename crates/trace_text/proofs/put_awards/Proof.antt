@@ -37,8 +37,10 @@ loop-again : tie.Need-loop-again Inv-loop μ-loop
 unfolding awardLines
 loop-again c =
     let award = c .before .before in
-    let l = award .before .before .before .loop in
-    let q = puts-as (puts-then (l .inv .2) (award .put-award .ensures)) (awardLines (award .before .before .before .before .before .args .awards) (l .i + 1)) (69 * (l .i + 1)) (rw add-one refl) (omega arith) in
+    let loop = award .before .before .before in
+    let l = loop .loop in
+    let passed = awardLines (loop .before .before .args .awards) (l .i + 1) in
+    let q = puts-as (puts-then (l .inv .2) (award .put-award .ensures)) passed (69 * (l .i + 1)) (rw add-one refl) (omega arith) in
     (omega (arith, award .before .before .loop-test .taken), puts-length q, q)
 
 same-length : tie.Need-same-length Inv-loop μ-loop

@@ -45,4 +45,16 @@ returns-2 c =
     puts-as (c .before .before .put-item2 .ensures) _ _ (rw (le-ltb b (2 ^ 63) (c .before .before .before .before .before .if1 .left), e)) (omega arith)
 
 pub put-excess-spec : {M : Type 1} → statement M
-put-excess-spec = tie.close (tie.spec slice-aggregate-put-item put-item-requires same-length returns slice-aggregate-put-item-2 sub-put-item add-put-item put-item-requires-2 same-length-2 returns-2)
+put-excess-spec =
+    tie.close
+    (tie.spec
+    slice-aggregate-put-item
+    put-item-requires
+    same-length
+    returns
+    slice-aggregate-put-item-2
+    sub-put-item
+    add-put-item
+    put-item-requires-2
+    same-length-2
+    returns-2)

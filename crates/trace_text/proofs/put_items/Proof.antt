@@ -56,4 +56,19 @@ returns c =
     puts-as (puts-then p4 (covering .put-item5 .ensures)) _ _ refl (omega arith)
 
 pub put-items-spec : {M : Type 1} → statement M
-put-items-spec = tie.close (tie.spec slice-aggregate-put-item cast-put-item put-item-requires slice-aggregate-put-item-2 put-item-requires-2 slice-aggregate-put-item-3 put-item-requires-3 slice-aggregate-put-item-4 put-item-requires-4 slice-aggregate-put-item-5 put-item-requires-5 same-length returns)
+put-items-spec =
+    tie.close
+    (tie.spec
+    slice-aggregate-put-item
+    cast-put-item
+    put-item-requires
+    slice-aggregate-put-item-2
+    put-item-requires-2
+    slice-aggregate-put-item-3
+    put-item-requires-3
+    slice-aggregate-put-item-4
+    put-item-requires-4
+    slice-aggregate-put-item-5
+    put-item-requires-5
+    same-length
+    returns)

@@ -53,4 +53,21 @@ unfolding quantityAt
 returns c = omega arith
 
 pub quantity-at-spec : {M : Type 1} → statement M
-quantity-at-spec = tie.close (tie.spec add-byte-at byte-at-requires add-byte-at-2 byte-at-requires-2 add-byte-at-3 byte-at-requires-3 mul-result add-result mul-result-2 add-result-2 mul-result-3 add-byte-at-4 byte-at-requires-4 add-result-3 returns)
+quantity-at-spec =
+    tie.close
+    (tie.spec
+    add-byte-at
+    byte-at-requires
+    add-byte-at-2
+    byte-at-requires-2
+    add-byte-at-3
+    byte-at-requires-3
+    mul-result
+    add-result
+    mul-result-2
+    add-result-2
+    mul-result-3
+    add-byte-at-4
+    byte-at-requires-4
+    add-result-3
+    returns)
