@@ -1,5 +1,5 @@
 -- Texts written one behind the other, over plain lists; and what stands below a reply, case by case.
-use Prim.Native.Nat.{ℕ, suc, _+_, _≤_, _<_}
+use Prim.Native.Nat.{ℕ, _+_, _≤_, _<_}
 use mathlib.Core.Path.{_≡_, refl, sym, ap, ap₂, _∙_}
 use mathlib.Core.List.{List, [], _∷_, _++_, append-assoc, append-nil}
 use mathlib.Core.Bool.{Bool, true, false, cond}
@@ -9,7 +9,7 @@ use native.Mathlib.Omega.{arith}
 use borrow.Author.Tests.{eq-eqb, ne-eqb}
 use lib.Dec.{eqb}
 use lib.ListN.{length, take, drop, getD, set, length-append, length-take, length-drop, take-append-drop}
-use lib.Seq.{take-at, drop-at, drop-drop, take-suc, set-split, append-snoc, length-take-le}
+use lib.Seq.{take-at, drop-at, drop-drop, take-suc, set-split, append-snoc}
 use Rattle.numbers.specs.Tails.{laid}
 use Rattle.reply_text.specs.declared.Reply.{Reply}
 use Rattle.reply_text.specs.Texts.{textOf}

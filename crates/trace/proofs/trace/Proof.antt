@@ -1,6 +1,5 @@
 -- Each turn goes on behind a line that stands inside the record.
 use Prim.Native.Nat.{_+_, _-_, _≤_}
-use mathlib.Core.Path.{_≡_}
 use native.Mathlib.Omega.{arith}
 use lib.ListN.{length}
 use Rattle.format.specs.LineLaws.{line-inside}

@@ -3,9 +3,8 @@ use Prim.Native.Nat.{_+_, _-_, _*_, _≤_}
 use mathlib.Core.Path.{_≡_, refl}
 use native.Mathlib.Numerals.{add-one}
 use native.Mathlib.Omega.{arith}
-use borrow.Author.Needs.{needs}
 use lib.ListN.{length}
-use Rattle.trace_text.specs.Words.{awardLine, awardLines}
+use Rattle.trace_text.specs.Words.{awardLines}
 use Rattle.trace_text.specs.Puts.{Puts}
 use Rattle.trace_text.proofs.Laws.{puts-none, puts-then, puts-as, puts-length}
 use Rattle.trace_text.proofs.put_awards.Statement.{statement}

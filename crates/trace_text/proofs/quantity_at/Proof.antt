@@ -1,7 +1,5 @@
 -- Four bytes, high first.
-use mathlib.Core.Path.{_≡_}
 use native.Mathlib.Omega.{arith}
-use borrow.Author.Needs.{needs}
 use Rattle.trace_text.specs.Words.{quantityAt}
 use Rattle.trace_text.proofs.quantity_at.Statement.{statement}
 use Rattle.trace_text.proofs.quantity_at.Tie as tie
