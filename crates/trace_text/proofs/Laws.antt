@@ -13,8 +13,9 @@ use lib.Seq.{take-at, drop-at, drop-drop, take-suc, set-split, append-snoc}
 use Rattle.numbers.specs.Tails.{laid}
 use Rattle.reply_text.specs.declared.Reply.{Reply}
 use Rattle.reply_text.specs.Texts.{textOf}
+use Rattle.trace_text.specs.Decimal.{bytesOf}
 use Rattle.trace_text.specs.Puts.{Puts}
-use Rattle.trace_text.specs.Words.{excessLine, settledLines, wordsOf, traceOf}
+use Rattle.trace_text.specs.Words.{signedItem, settledLines, wordsOf, traceOf}
 
 -- nothing written
 pub puts-none : (o : List ℕ) (most a : ℕ) → a ≤ length o → Puts [] most o o a a
@@ -87,7 +88,7 @@ module _ (r : Reply) where
   unfolding wordsOf
   words-refused h = rw (ne-eqb (r .number) 0 h)
 
-  pub words-closing : r .number ≡ 0 → r .kind ≡ 5 → wordsOf r ≡ excessLine (r .excess)
+  pub words-closing : r .number ≡ 0 → r .kind ≡ 5 → wordsOf r ≡ signedItem (bytesOf "excess ") (r .excess)
   unfolding wordsOf
   words-closing h k = rw (eq-eqb (r .number) 0 h, eq-eqb (r .kind) 5 k)
 

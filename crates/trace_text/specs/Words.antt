@@ -13,13 +13,16 @@ use Rattle.trace_text.specs.Decimal.{bytesOf, decimal}
 unfoldable pub number : ℕ → ℕ → List ℕ
 number n behind = decimal n ++ (behind ∷ [])
 
+-- the same of the signed number that 64 bits in two's complement stand for
+unfoldable pub signed : ℕ → ℕ → List ℕ
+signed bits behind = cond (ltb bits (2 ^ 63)) (number bits behind) (45 ∷ number (2 ^ 64 - bits) behind)
+
 -- a name and a number
 unfoldable pub item : List ℕ → ℕ → List ℕ
 item name n = name ++ number n 10
 
--- below an accepted closing: the signed number that 64 bits in two's complement stand for
-unfoldable pub excessLine : ℕ → List ℕ
-excessLine bits = cond (ltb bits (2 ^ 63)) (item (bytesOf "excess ") bits) (item (bytesOf "excess -") (2 ^ 64 - bits))
+unfoldable pub signedItem : List ℕ → ℕ → List ℕ
+signedItem name bits = name ++ signed bits 10
 
 -- the award record that starts at place i: project, developer, and the quantity in 4 bytes, high byte first
 unfoldable pub quantityAt : List ℕ → ℕ → ℕ
@@ -42,11 +45,11 @@ items s =
 unfoldable pub settledLines : Settled → List ℕ → List ℕ
 settledLines s awards = items s ++ awardLines awards (min (s .records) 32)
 
--- below a reply: nothing if it is refused or of another kind
+-- below a reply: nothing if it is refused or of another kind than closing and settling
 unfoldable pub wordsOf : Reply → List ℕ
 wordsOf r =
     cond (eqb (r .number) 0)
-    (cond (eqb (r .kind) 5) (excessLine (r .excess)) (cond (eqb (r .kind) 6) (settledLines (r .settled) (r .awards)) []))
+    (cond (eqb (r .kind) 5) (signedItem (bytesOf "excess ") (r .excess)) (cond (eqb (r .kind) 6) (settledLines (r .settled) (r .awards)) []))
     []
 
 -- a reply's line and what stands below it

@@ -5,7 +5,7 @@ ghost use Prim.Native.Nat.{_+_, _*_, _≤_, _<_, min};
 ghost use lib.ListN.{length, getD};
 ghost use Rattle.numbers.specs.Tails.{laid};
 ghost use Rattle.trace_text.specs.Decimal.{decimal};
-ghost use Rattle.trace_text.specs.Words.{number, item, excessLine, quantityAt, awardLine, awardLines, items, settledLines, traceOf};
+ghost use Rattle.trace_text.specs.Words.{number, signed, item, signedItem, quantityAt, awardLine, awardLines, items, settledLines, traceOf};
 ghost use Rattle.trace_text.specs.Puts.{Puts};
 use reply_text::Reply;
 use settling::Settled;
@@ -48,6 +48,18 @@ fn put_number(out: &mut [u8], at: usize, n: u64, behind: u8) -> usize
     next + 1
 }
 
+// The same of the signed number that 64 bits in two's complement stand for.
+fn put_signed(out: &mut [u8], at: usize, bits: u64, behind: u8) -> usize
+    requires { ⌜ at + 22 ≤ length (now out) ⌝ }
+    ensures { λ r. ⌜ Puts (signed bits behind) 22 (now (out .entry)) (now (out .exit)) at r ⌝ }
+{
+    if bits < 0x8000_0000_0000_0000 {
+        return put_number(out, at, bits, behind);
+    }
+    out[at] = 45;
+    put_number(out, at + 1, 0xffff_ffff_ffff_ffff - bits + 1, behind)
+}
+
 // ---- lines
 
 // A name, which ends with a blank, a number and 0A.
@@ -59,15 +71,12 @@ pub fn put_item(out: &mut [u8], at: usize, name: &[u8], n: u64) -> usize
     put_number(out, next, n, 10)
 }
 
-// The signed number that 64 bits in two's complement stand for.
-fn put_excess(out: &mut [u8], at: usize, bits: u64) -> usize
-    requires { ⌜ at + 29 ≤ length (now out) ⌝ }
-    ensures { λ r. ⌜ Puts (excessLine bits) 29 (now (out .entry)) (now (out .exit)) at r ⌝ }
+pub fn put_signed_item(out: &mut [u8], at: usize, name: &[u8], bits: u64) -> usize
+    requires { ⌜ at + (length (now name) + 22) ≤ length (now out) ⌝ }
+    ensures { λ r. ⌜ Puts (signedItem (now (name .entry)) bits) (length (now (name .entry)) + 22) (now (out .entry)) (now (out .exit)) at r ⌝ }
 {
-    if bits < 0x8000_0000_0000_0000 {
-        return put_item(out, at, b"excess ", bits);
-    }
-    put_item(out, at, b"excess -", 0xffff_ffff_ffff_ffff - bits + 1)
+    let next = put_name(out, at, name);
+    put_signed(out, next, bits, 10)
 }
 
 fn byte_at(awards: [u8; 192], i: usize) -> u64
@@ -153,7 +162,7 @@ pub fn put(out: &mut [u8], reply: Reply) -> usize
         return line;
     }
     if reply.kind == 5 {
-        return put_excess(out, line, reply.excess);
+        return put_signed_item(out, line, b"excess ", reply.excess);
     }
     if reply.kind == 6 {
         let awards = reply.awards;

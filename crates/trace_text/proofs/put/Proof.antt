@@ -1,4 +1,5 @@
 -- The reply's line at the buffer's start, and behind it, by the answer and the kind, nothing, the excess, or what a settling says.
+use mathlib.Core.Path.{refl}
 use native.Mathlib.Omega.{arith}
 use borrow.Author.Needs.{needs}
 use Rattle.reply_text.specs.Texts.{textOf}
@@ -29,8 +30,11 @@ same-length c = search needs
 returns : tie.Need-returns
 returns c = whole _ (line (c .before .before)) (puts-none _ 0 _ (omega arith)) (words-refused _ (c .if1 .taken)) (omega arith)
 
-put-excess-requires : tie.Need-put-excess-requires
-put-excess-requires c κs = omega arith
+slice-aggregate-put-signed-item : tie.Need-slice-aggregate-put-signed-item
+slice-aggregate-put-signed-item c = refl
+
+put-signed-item-requires : tie.Need-put-signed-item-requires
+put-signed-item-requires c κs = omega arith
 
 same-length-2 : tie.Need-same-length-2
 same-length-2 c = search needs
@@ -38,9 +42,9 @@ same-length-2 c = search needs
 returns-2 : tie.Need-returns-2
 returns-2 c =
     let closing = c .before .before in
-    let kind = closing .before .before in
+    let kind = closing .before .before .before in
     let accepted = kind .before .before in
-    whole _ (line (accepted .before .before)) (closing .put-excess .ensures) (words-closing _ (accepted .if1 .left) (kind .if2 .taken)) (omega arith)
+    whole _ (line (accepted .before .before)) (closing .put-signed-item .ensures) (words-closing _ (accepted .if1 .left) (kind .if2 .taken)) (omega arith)
 
 put-settled-requires : tie.Need-put-settled-requires
 put-settled-requires c κs = omega arith
@@ -71,7 +75,8 @@ put-spec =
     put-requires
     same-length
     returns
-    put-excess-requires
+    slice-aggregate-put-signed-item
+    put-signed-item-requires
     same-length-2
     returns-2
     put-settled-requires
