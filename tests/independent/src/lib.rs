@@ -4,6 +4,7 @@
 
 pub mod auction;
 mod demand;
+pub mod program;
 pub mod random;
 pub mod records;
 pub mod replay;
@@ -12,6 +13,7 @@ pub mod sample;
 pub mod settling;
 #[cfg(test)]
 mod tests;
+pub mod trace;
 
 pub use demand::{demand, demand_by_scan, HIGHEST_CE, HIGHEST_M2};
 

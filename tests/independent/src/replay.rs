@@ -98,11 +98,21 @@ const MALFORMED_KIND: u8 = 0xFF;
 
 /// The reply to a line, with its 0A.
 pub fn reply(auction: &mut Auction, line: &[u8]) -> Vec<u8> {
-    let (kind, answer) = match read_call(line) {
+    let (kind, answer) = answer(auction, line);
+    reply_of(kind, &answer)
+}
+
+/// The kind of a line's reply, and the answer to what the line asks.
+pub fn answer(auction: &mut Auction, line: &[u8]) -> (u8, Result<Accepted, u8>) {
+    match read_call(line) {
         Some(call) => (kind_of(&call), make(auction, &call)),
         None => (MALFORMED_KIND, Err(MALFORMED_LINE)),
-    };
-    let (number, rest) = match &answer {
+    }
+}
+
+/// The reply of this kind with this answer, with its 0A.
+pub fn reply_of(kind: u8, answer: &Result<Accepted, u8>) -> Vec<u8> {
+    let (number, rest) = match answer {
         Ok(accepted) => (0, behind_answer(accepted)),
         Err(refusal) => (*refusal, String::new()),
     };

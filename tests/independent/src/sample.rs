@@ -29,6 +29,29 @@ pub const REPLY: &str = "\
 06000000659000000003CA00000003FC0000000400000003020101000003340203000000C8
 ";
 
+/// What the program `trace` prints of the sample: the reply with its words and decimal numbers.
+pub const TRACE: &str = "\
+0100
+0200
+0200
+0200
+0200
+0300
+0400
+0400
+0400
+0500FFFFFFFFFFFFFFC9
+excess -55
+06000000659000000003CA00000003FC0000000400000003020101000003340203000000C8
+price 26000
+demand 970
+total 1020
+choices 4
+covering 3
+award 1 1 820
+award 2 3 200
+";
+
 /// Lines of the sample up to its set-up, last registration, opening, first offer and closing.
 const SET_UP: usize = 1;
 const REGISTERED: usize = 5;

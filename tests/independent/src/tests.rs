@@ -11,6 +11,7 @@ mod rounds;
 mod sample;
 mod settling;
 mod shares;
+mod trace;
 
 use crate::auction::{Auction, EXISTING, NEW};
 use crate::records::record;

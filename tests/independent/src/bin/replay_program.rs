@@ -3,14 +3,12 @@
 //! One line a group of records: what was printed by kind and answer, and `ok` or the first
 //! difference. The exit status is 0 only if no group differs.
 
+use independent::program::{run, AT_ONCE};
 use independent::records::{edges, record, Records};
 use independent::replay::printed;
 use independent::report::{verdict, Group};
 use independent::sample;
-use std::io::{self, Write};
-use std::process::{Command, ExitCode, Output, Stdio};
-use std::thread;
-use std::time::Duration;
+use std::process::{Command, ExitCode, Output};
 
 fn main() -> ExitCode {
     let Some(program) = std::env::args_os().nth(1) else {
@@ -41,8 +39,6 @@ const GROUPS: [(&str, Records, usize); 6] = [
     ("sizes of records, in pieces", edges::record_sizes, 5_000),
 ];
 
-const AT_ONCE: usize = usize::MAX;
-
 fn sample_and_examples() -> Vec<Vec<u8>> {
     let sample = sample::RECORD.as_bytes().to_vec();
     let examples = sample::EXAMPLES.map(|example| sample::example(example).0.into_bytes());
@@ -58,34 +54,4 @@ fn compare(group: &mut Group, record: &[u8], output: &Output) {
         let replies = [("program", &output.stdout[..]), ("independent", &expected)];
         group.differ(&why, record, replies);
     }
-}
-
-/// Runs the program to its end, with the input given in pieces of so many bytes.
-fn run(mut program: Command, input: &[u8], piece: usize) -> io::Result<Output> {
-    let mut running = program
-        .stdin(Stdio::piped())
-        .stdout(Stdio::piped())
-        .spawn()?;
-    let mut standard_input = running.stdin.take().expect("a pipe");
-    thread::scope(|scope| {
-        // Its replies are read meanwhile, so neither side waits for ever.
-        let given = scope.spawn(move || give(&mut standard_input, input, piece));
-        let output = running.wait_with_output()?;
-        given.join().expect("no panic")?;
-        Ok(output)
-    })
-}
-
-/// A program that has read more than it takes may end before it has read all.
-fn give(standard_input: &mut impl Write, input: &[u8], piece: usize) -> io::Result<()> {
-    for part in input.chunks(piece.min(input.len()).max(1)) {
-        match standard_input.write_all(part) {
-            Err(error) if error.kind() == io::ErrorKind::BrokenPipe => return Ok(()),
-            given => given?,
-        }
-        if part.len() < input.len() {
-            thread::sleep(Duration::from_micros(200));
-        }
-    }
-    Ok(())
 }

@@ -1,0 +1,52 @@
+// Replays the record on standard input, at most 65,536 bytes, and writes each reply as it comes, below it what it says in words and decimal
+// numbers; FF0B alone where the record is longer.
+ghost use mathlib.Core.Path.{_≡_};
+ghost use lib.ListN.{length};
+use auction::Auction;
+use reply_text::Reply;
+use turns::Turn;
+
+// The most bytes of a record (document 01, Frames).
+const LONGEST: usize = 65_536;
+
+// One byte more than a record may have, so that a longer one is seen.
+fn input() -> [u8; 65537]
+    ensures { λ r. ⌜ 65537 ≡ length r ⌝ }
+{
+    [0; 65537]
+}
+
+// The next auction and the reply to a line.
+fn step(auction: Auction, line: &[u8]) -> Turn {
+    turns::respond(auction, frames::decode(line))
+}
+
+// Writes a reply and what stands below it.
+fn show(reply: Reply) {
+    let mut text = io::buffer();
+    let n = trace_text::put(&mut text, reply);
+    io::write_all(libc::STDOUT_FILENO, &text[..n]);
+}
+
+fn trace(bytes: &[u8]) {
+    let mut auction = Auction::new();
+    let mut at: usize = 0;
+    while at < bytes.len() {
+        let line = frames::next_line(bytes, at);
+        let turn = step(auction, line);
+        show(turn.reply);
+        let next = turn.auction;
+        auction = next;
+        at = at + line.len() + 1;
+    }
+}
+
+fn main() {
+    let mut record = input();
+    let n = io::read_full(libc::STDIN_FILENO, &mut record);
+    if LONGEST < n {
+        io::write_all(libc::STDOUT_FILENO, b"FF0B\n");
+        return;
+    }
+    trace(&record[..n]);
+}

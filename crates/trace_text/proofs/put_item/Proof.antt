@@ -1,0 +1,27 @@
+-- A name, and a number behind it.
+use mathlib.Core.Path.{refl}
+use native.Mathlib.Omega.{arith}
+use borrow.Author.Needs.{needs}
+use Rattle.trace_text.specs.Words.{item}
+use Rattle.trace_text.proofs.Laws.{puts-as, puts-then}
+use Rattle.trace_text.proofs.put_item.Statement.{statement}
+use Rattle.trace_text.proofs.put_item.Tie as tie
+
+put-name-requires : tie.Need-put-name-requires
+put-name-requires c κs = omega arith
+
+put-number-requires : tie.Need-put-number-requires
+put-number-requires c κs = omega arith
+
+same-length : tie.Need-same-length
+same-length c = search needs
+
+returns : tie.Need-returns
+unfolding item
+returns c =
+    let number = c .before .before in
+    let name = number .before .before .before .before in
+    puts-as (puts-then (name .put-name .ensures) (number .put-number .ensures)) _ _ refl (omega arith)
+
+pub put-item-spec : {M : Type 1} → statement M
+put-item-spec = tie.close (tie.spec put-name-requires put-number-requires same-length returns)

@@ -1,0 +1,72 @@
+-- Each turn writes one byte behind those passed.
+use Prim.Native.Nat.{_+_, _-_, _≤_}
+use mathlib.Core.Path.{_≡_, refl}
+use native.Mathlib.Omega.{arith}
+use borrow.Author.Needs.{needs}
+use lib.ListN.{length, take}
+use lib.Seq.{take-all}
+use Rattle.trace_text.specs.Puts.{Puts}
+use Rattle.trace_text.proofs.Laws.{puts-none, puts-as, puts-more, puts-length}
+use Rattle.trace_text.proofs.put_name.Statement.{statement}
+use Rattle.trace_text.proofs.put_name.Tie as tie
+
+abbrev Inv-loop : tie.InvT-loop
+Inv-loop out₀ at name i₀ out i = (i ≤ length name) × (length out ≡ length out₀) × Puts (take i name) i out₀ out at (at + i)
+
+abbrev μ-loop : tie.MeasureT-loop
+μ-loop out₀ at name i₀ out i = length name - i
+
+loop-holds : tie.Need-loop-holds Inv-loop μ-loop
+loop-holds c =
+    let a = c .args in
+    let e : a .at + 0 ≡ a .at = omega arith in
+    (omega arith, refl, rw e (puts-none (a .out .now) 0 (a .at) (omega arith)))
+
+shared-slice-read-out : tie.Need-shared-slice-read-out Inv-loop μ-loop
+shared-slice-read-out c = search needs
+
+add-out : tie.Need-add-out Inv-loop μ-loop
+add-out c = search needs
+
+slice-write-out : tie.Need-slice-write-out Inv-loop μ-loop
+slice-write-out c = search needs
+
+add-i : tie.Need-add-i Inv-loop μ-loop
+add-i c = search needs
+
+loop-less : tie.Need-loop-less Inv-loop μ-loop
+loop-less c = search needs
+
+loop-again : tie.Need-loop-again Inv-loop μ-loop
+loop-again c =
+    let a = c .before .before .before .args in
+    let l = c .before .before .loop in
+    let q = puts-more (a .name .now) (a .out .now) (l .out) (a .at) (l .i) (l .inv .2) (c .before .loop-test .taken) (c .before .before .before .pre) in
+    (omega arith, puts-length q, q)
+
+add-result : tie.Need-add-result Inv-loop μ-loop
+add-result c = search needs
+
+same-length : tie.Need-same-length Inv-loop μ-loop
+same-length c = c .before .loop .inv .1
+
+returns : tie.Need-returns Inv-loop μ-loop
+returns c =
+    let l = c .before .loop in puts-as (l .inv .2) _ _ (take-all (l .i) (c .before .before .args .name .now) (c .loop-test .left)) (l .inv .0)
+
+pub put-name-spec : {M : Type 1} → statement M
+put-name-spec =
+    tie.close
+    (tie.spec
+    Inv-loop
+    μ-loop
+    loop-holds
+    shared-slice-read-out
+    add-out
+    slice-write-out
+    add-i
+    loop-less
+    loop-again
+    add-result
+    same-length
+    returns)

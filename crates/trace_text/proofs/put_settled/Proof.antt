@@ -1,0 +1,32 @@
+-- The items, and the awards behind them.
+use mathlib.Core.Path.{refl}
+use native.Mathlib.Omega.{arith}
+use borrow.Author.Needs.{needs}
+use Rattle.trace_text.specs.Words.{settledLines}
+use Rattle.trace_text.proofs.Laws.{puts-as, puts-then}
+use Rattle.trace_text.proofs.put_settled.Statement.{statement}
+use Rattle.trace_text.proofs.put_settled.Tie as tie
+
+put-items-requires : tie.Need-put-items-requires
+put-items-requires c κs = omega arith
+
+count-requires : tie.Need-count-requires
+count-requires c κs = search needs
+
+put-awards-requires : tie.Need-put-awards-requires
+put-awards-requires c κs = (c .count .ensures .1, omega arith)
+
+same-length : tie.Need-same-length
+same-length c = search needs
+
+returns : tie.Need-returns
+unfolding settledLines
+returns c =
+    let awards = c .before .before in
+    let items = awards .before .before .before .before .before in
+    let n = awards .before .count in
+    puts-as (puts-then (items .put-items .ensures) (rw (n .ensures .0) at (awards .put-awards .ensures))) _ _ refl
+    (omega (arith, n .ensures .0, n .ensures .1))
+
+pub put-settled-spec : {M : Type 1} → statement M
+put-settled-spec = tie.close (tie.spec put-items-requires count-requires put-awards-requires same-length returns)
