@@ -3,4 +3,5 @@ pub mod Lines
 pub mod Fields
 pub mod HexLaws
 pub mod LineLaws
+pub mod TableLaws
 pub mod FieldLaws

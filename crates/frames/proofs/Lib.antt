@@ -1,3 +1,4 @@
 mod Tables
+mod Shaping
 mod Reading
 mod Writing

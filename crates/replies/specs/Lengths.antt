@@ -6,7 +6,7 @@ use mathlib.Core.Bool.{Bool, true, false, cond, _&&_}
 use mathlib.Core.List.{List, [], _∷_, _++_, map, flatten, append-assoc, List·Memᴰ, List·Memᴰ·head, List·Memᴰ·tail, List·Memᴰ·not-nil, List·Memᴰ·cases-cons}
 use mathlib.Core.Option.{Option, none, some}
 use native.Mathlib.Omega.{arith}
-use borrow.Author.Tests.{leb-true, eqb-true, eqb-false}
+use borrow.Author.Tests.{leb-true, eqb-true}
 use lib.Dec.{eqb, leb}
 use lib.ListN.{length, getD, length-append}
 use Rattle.numbers.specs.Cases.{and-true, or-true, clash}
@@ -171,19 +171,19 @@ module _ (line : List ℕ) (w : WellFormed line) where
 
   call-most : most (orderOf (callOf line)) ≤ mostTo line
   unfolding most orderOf callOf
-  call-most = go (eqb k 1) (eqb k 2) (eqb k 3) (eqb k 4) (eqb k 5) refl refl refl refl refl
+  call-most = go (eqb k 1) (eqb k 2) (eqb k 3) (eqb k 4) (eqb k 5) (eqb k 6) refl refl
     where
       k : ℕ
       k = fields.kindOf line
 
-      go : (a b c d e : Bool) → eqb k 1 ≡ a → eqb k 2 ≡ b → eqb k 3 ≡ c → eqb k 4 ≡ d → eqb k 5 ≡ e → most (cond a (Asks (setUpOf (callOf line .fields))) (cond b (Asks (registrationOf (callOf line .fields))) (cond c (Asks (Open (getD (callOf line .fields) 0 0))) (cond d (Asks (offerOf (callOf line .fields))) (cond e (Asks Close) (Settle (getD (callOf line .fields) 0 0))))))) ≤ mostTo line
-      go true b c d e h1 h2 h3 h4 h5 = least line
-      go false true c d e h1 h2 h3 h4 h5 = least line
-      go false false true d e h1 h2 h3 h4 h5 = least line
-      go false false false true e h1 h2 h3 h4 h5 = least line
-      go false false false false true h1 h2 h3 h4 h5 = closing-most (eqb-true k 5 h5)
-      go false false false false false h1 h2 h3 h4 h5 =
-          settling-most (omega (arith, w .kind-low, w .kind-high, eqb-false k 1 h1, eqb-false k 2 h2, eqb-false k 3 h3, eqb-false k 4 h4, eqb-false k 5 h5))
+      go : (a b c d e f : Bool) → eqb k 5 ≡ e → eqb k 6 ≡ f → most (cond a (Asks (setUpOf (callOf line .fields))) (cond b (Asks (registrationOf (callOf line .fields))) (cond c (Asks (Open (getD (callOf line .fields) 0 0))) (cond d (Asks (offerOf (callOf line .fields))) (cond e (Asks Close) (cond f (Settle (getD (callOf line .fields) 0 0)) Malformed)))))) ≤ mostTo line
+      go true b c d e f h5 h6 = least line
+      go false true c d e f h5 h6 = least line
+      go false false true d e f h5 h6 = least line
+      go false false false true e f h5 h6 = least line
+      go false false false false true f h5 h6 = closing-most (eqb-true k 5 h5)
+      go false false false false false true h5 h6 = settling-most (eqb-true k 6 h6)
+      go false false false false false false h5 h6 = least line
 
 order-most : (line : List ℕ) → most (orderIn line) ≤ mostTo line
 unfolding orderIn ordered most

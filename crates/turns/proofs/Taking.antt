@@ -154,19 +154,15 @@ module _ (a : Auction) (f : Frame) (t : Turn) where
       let o : Takes a (orderOf (held f)) t = rw (sym e) at w in
       rw (call-some f (λ y. z (sym e ∙ y))) o
 
-  pub ordered-none : f .kind ≡ 0 → Takes a Malformed t → Takes a (ordered (callIn f)) t
+  -- a kind that asks nothing
+  pub ordered-none : orderOf (held f) ≡ Malformed → Takes a Malformed t → Takes a (ordered (callIn f)) t
   unfolding ordered
-  ordered-none e w = rw (call-none f e) w
+  ordered-none e w = go (eqb (f .kind) 0) refl
+    where
+      go : (b : Bool) → eqb (f .kind) 0 ≡ b → Takes a (ordered (callIn f)) t
+      go true z = rw (call-none f (eqb-true (f .kind) 0 z)) w
+      go false z = rw (call-some f (eqb-false (f .kind) 0 z), e) w
 
 -- a frame of this kind that a line reads as
 pub framed : (k : ℕ) (f : Frame) → Reads f → (k ≡ 0 → ⊥) → f .kind ≡ k → Framed k f
 framed k f r z e = record { kind = e; formed = r (held f) (call-some f (λ y. z (sym e ∙ y))) }
-
--- of no other kind: it has none
-pub no-kind : (f : Frame) → Reads f → (f .kind ≡ 1 → ⊥) → (f .kind ≡ 2 → ⊥) → (f .kind ≡ 3 → ⊥) → (f .kind ≡ 4 → ⊥) → (f .kind ≡ 5 → ⊥)
-    → (f .kind ≡ 6 → ⊥) → f .kind ≡ 0
-no-kind f r n1 n2 n3 n4 n5 n6 = go (eqb (f .kind) 0) refl
-  where
-    go : (b : Bool) → eqb (f .kind) 0 ≡ b → f .kind ≡ 0
-    go true e = eqb-true (f .kind) 0 e
-    go false e = absurd (let w = r (held f) (call-some f (eqb-false (f .kind) 0 e)) in omega (arith, w .kind-high))

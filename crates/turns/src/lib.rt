@@ -51,7 +51,7 @@ fn word(frame: Frame, j: usize) -> u32
 
 // The n fields of eight digits from place `from` on, so far apart.
 fn column(frame: Frame, from: usize, apart: usize, n: usize) -> [u32; 16]
-    requires { ⌜ (from ≤ 6) × (apart ≤ 2) × (n ≤ 16) × ((i : ℕ) → getD (fieldsOf frame) (from + apart * i) 0 < 2 ^ 32) ⌝ }
+    requires { ⌜ (from ≤ 8) × (apart ≤ 2) × (n ≤ 16) × ((i : ℕ) → getD (fieldsOf frame) (from + apart * i) 0 < 2 ^ 32) ⌝ }
     ensures { λ r. ⌜ (take n r ≡ every from apart n (fieldsOf frame)) × (length r ≡ 16) ⌝ }
 {
     let mut values: [u32; 16] = [0; 16];
