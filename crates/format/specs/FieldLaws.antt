@@ -2,18 +2,18 @@
 use Prim.Native.Nat.{ℕ, zero, suc, _+_, _-_, _*_, _^_, _≤_, _<_}
 use mathlib.Core.Path.{_≡_, refl, ap, _∙_, subst}
 use mathlib.Core.Bool.{Bool, true, false, cond}
-use mathlib.Core.List.{List, [], _∷_, _++_}
+use mathlib.Core.List.{List}
 use mathlib.Core.Option.{none, some}
 use native.Mathlib.Omega.{arith}
-use lib.ListN.{length, take, drop, getD, replicate, length-append, length-replicate, List·getD-eq-default}
+use lib.ListN.{length, drop, getD, replicate, length-append, length-replicate, List·getD-eq-default}
 use lib.Seq.{getD-take}
 use borrow.Author.Tests.{le-leb, leb-true, eq-eqb, eqb-true}
 use Rattle.numbers.specs.Cases.{and-true, not-true}
 use Rattle.numbers.specs.Lists.{total}
 use Rattle.numbers.specs.ListLaws.{total-append}
-use Rattle.format.specs.Hex.{allHex, number}
-use Rattle.format.specs.Fields.{Row, rows, listed, known, noRow, rowIn, longest, fixed, each, count, repeats, layout, RawCall, fieldsAt, kindOf, asked, wellFormed, callOf, read}
-use Rattle.format.specs.HexLaws.{field-fits, power-pos}
+use Rattle.format.specs.Hex.{allHex}
+use Rattle.format.specs.Fields.{listed, known, longest, fixed, each, count, repeats, layout, RawCall, fieldsAt, kindOf, asked, wellFormed, callOf, read}
+use Rattle.format.specs.WidthLaws.{behind, length-fields, fields-front, take-fields, fields-fit}
 
 -- ---- which lines are read
 
@@ -57,29 +57,7 @@ module _ (l : List ℕ) where
       go true t e = (well-formed t, (cc))
       go false t e = absurd (let z : _≡_ {A = ℕ} 0 1 = cc in omega arith)
 
--- ---- fields and widths
-
-pub length-fields : (ws cs : List ℕ) → length (fieldsAt ws cs) ≡ length ws
-unfolding fieldsAt
-length-fields [] cs = refl
-length-fields (w ∷ ws) cs = ap suc (length-fields ws (drop w cs))
-
--- the first fields do not see the widths behind them
-pub fields-front : (ws vs cs : List ℕ) → take (length ws) (fieldsAt (ws ++ vs) cs) ≡ fieldsAt ws cs
-unfolding fieldsAt
-fields-front [] vs cs = refl
-fields-front (w ∷ ws) vs cs = ap (λ (l : List ℕ). number (take w cs) ∷ l) (fields-front ws vs (drop w cs))
-
-pub take-fields : (ws cs : List ℕ) → take (length ws) (fieldsAt ws cs) ≡ fieldsAt ws cs
-unfolding fieldsAt
-take-fields [] cs = refl
-take-fields (w ∷ ws) cs = ap (λ (l : List ℕ). number (take w cs) ∷ l) (take-fields ws (drop w cs))
-
-pub fields-fit : (ws cs : List ℕ) (j : ℕ) → getD (fieldsAt ws cs) j 0 < 16 ^ getD ws j listed
-unfolding fieldsAt
-fields-fit [] cs j = power-pos listed
-fields-fit (w ∷ ws) cs zero = field-fits w cs
-fields-fit (w ∷ ws) cs (suc j) = fields-fit ws (drop w cs) j
+-- ---- the widths of a kind
 
 total-listed : (n : ℕ) → total (replicate n listed) ≡ listed * n
 unfolding total
@@ -93,14 +71,6 @@ total-layout k n = rw (total-append, total-listed)
 pub length-layout : (k n : ℕ) → length (layout k n) ≡ length (fixed k) + n
 unfolding layout
 length-layout k n = rw (length-append, length-replicate)
-
--- behind a list stands what is taken for those past its end
-pub behind : (d : ℕ) (ws : List ℕ) (n j : ℕ) → getD (ws ++ replicate n d) j d ≡ getD ws j d
-behind d [] zero j = refl
-behind d [] (suc n) zero = refl
-behind d [] (suc n) (suc j) = behind d [] n j
-behind d (w ∷ ws) n zero = refl
-behind d (w ∷ ws) n (suc j) = behind d ws n j
 
 pub layout-at : (k n j : ℕ) → getD (layout k n) j listed ≡ getD (fixed k) j listed
 unfolding layout

@@ -6,7 +6,7 @@ use mathlib.Core.Option.{Option, none, some}
 use lib.Dec.{leb, eqb}
 use lib.ListN.{length, getD, take, drop, replicate}
 use Rattle.numbers.specs.Lists.{total, any}
-use Rattle.format.specs.Hex.{allHex, number}
+use Rattle.format.specs.Hex.{allHex, digits, number}
 
 -- the fields of a frame kind: the widths of the fixed ones, and how many follow for each one that the last fixed field counts
 pub record Row : Type 0 where
@@ -63,17 +63,24 @@ repeats k ns = each k * count k ns
 unfoldable pub layout : ℕ → ℕ → List ℕ
 layout k n = fixed k ++ replicate n listed
 
+-- ---- numbers at widths, one behind the other
+
+-- the numbers that stand in bytes, at these widths
+unfoldable pub fieldsAt : List ℕ → List ℕ → List ℕ
+fieldsAt [] cs = []
+fieldsAt (w ∷ ws) cs = number (take w cs) ∷ fieldsAt ws (drop w cs)
+
+-- the digits of numbers, at these widths
+unfoldable pub textAt : List ℕ → List ℕ → List ℕ
+textAt [] ns = []
+textAt (w ∷ ws) ns = digits w (getD ns 0 0) ++ textAt ws (drop 1 ns)
+
 -- ---- reading
 
 -- a call as its frame says it
 pub record RawCall : Type 0 where
   pub kind : ℕ
   pub fields : List ℕ
-
--- the numbers that stand in bytes, at these widths
-unfoldable pub fieldsAt : List ℕ → List ℕ → List ℕ
-fieldsAt [] cs = []
-fieldsAt (w ∷ ws) cs = number (take w cs) ∷ fieldsAt ws (drop w cs)
 
 unfoldable pub kindOf : List ℕ → ℕ
 kindOf l = number (take 2 l)

@@ -2,3 +2,4 @@ mod Tables
 mod Shaping
 mod Reading
 mod Writing
+mod Putting

@@ -12,7 +12,8 @@ use lib.Seq.{drop-cons, drop-drop, getD-take, take-suc-set}
 use Rattle.numbers.specs.Lists.{total}
 use Rattle.format.specs.Hex.{allHex, number}
 use Rattle.format.specs.Fields.{listed, known, longest, RawCall, fixed, each, count, repeats, layout, fieldsAt, kindOf, asked, callOf, read}
-use Rattle.format.specs.FieldLaws.{WellFormed, reads, reads-none, total-layout, take-fields, fields-fit}
+use Rattle.format.specs.WidthLaws.{take-fields, fields-fit}
+use Rattle.format.specs.FieldLaws.{WellFormed, reads, reads-none, total-layout}
 use Rattle.frames.specs.declared.Frame.{Frame}
 use Rattle.frames.specs.Decoded.{callIn, call-none, call-some}
 use Rattle.frames.proofs.Shaping.{fitting-kind}

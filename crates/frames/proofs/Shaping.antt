@@ -15,7 +15,7 @@ use Rattle.numbers.specs.Lists.{total, any, all, padded}
 use Rattle.numbers.specs.ListLaws.{total-append}
 use Rattle.format.specs.Fields.{Row, rows, listed, known, noRow, rowIn, fixed, each, layout}
 use Rattle.format.specs.TableLaws.{row-passes}
-use Rattle.format.specs.FieldLaws.{behind}
+use Rattle.format.specs.WidthLaws.{behind}
 use Rattle.frames.specs.declared.Shape.{Shape}
 use Rattle.frames.specs.Shapes.{Shaped}
 

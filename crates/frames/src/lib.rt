@@ -8,7 +8,7 @@ ghost use Rattle.numbers.specs.Lists.{total};
 ghost use Rattle.format.specs.Hex.{isHex, allHex, valueOf, charOf, number, digits};
 ghost use Rattle.numbers.specs.Tails.{laid};
 ghost use Rattle.format.specs.Lines.{run, part, lineStart, lineEnd};
-ghost use Rattle.format.specs.Fields.{fixed, repeats, fieldsAt, read};
+ghost use Rattle.format.specs.Fields.{fixed, repeats, fieldsAt, textAt, read};
 ghost use Rattle.frames.specs.Shapes.{Tabled, Shaped};
 ghost use Rattle.frames.specs.Decoded.{callIn};
 
@@ -107,7 +107,7 @@ fn all_hex(line: &[u8]) -> bool
 }
 
 // The value of a digit; some number below 16 of any other byte.
-fn value_of(c: u8) -> u64
+pub fn value_of(c: u8) -> u64
     ensures { λ r. ⌜ r ≡ valueOf c ⌝ }
 {
     if c < 48 {
@@ -292,4 +292,35 @@ pub fn put_byte(out: &mut [u8], b: u8)
     ensures { λ _. ⌜ now (out .exit) ≡ laid (b ∷ []) (now (out .entry)) ⌝ }
 {
     out[0] = b;
+}
+
+// How many digits fields of these widths have.
+pub fn span_of(widths: &[usize]) -> usize
+    requires { ⌜ total (now widths) ≤ 65536 ⌝ }
+    ensures { λ r. ⌜ r ≡ total (now (widths .entry)) ⌝ }
+{
+    let mut sum: usize = 0;
+    let mut j: usize = 0;
+    while j < widths.len() {
+        sum += widths[j];
+        j += 1;
+    }
+    sum
+}
+
+// Writes values at their widths, one behind the other, at the start of a buffer, and gives how many digits that are.
+pub fn put_fields(out: &mut [u8], widths: &[usize], values: &[u64]) -> usize
+    requires { ⌜ (length (now widths) ≤ length (now values)) × (total (now widths) ≤ length (now out)) ⌝ }
+    ensures { λ r. ⌜ r ≡ total (now (widths .entry)) ⌝ }
+    ensures { λ _. ⌜ now (out .exit) ≡ laid (textAt (now (widths .entry)) (now (values .entry))) (now (out .entry)) ⌝ }
+{
+    let mut at: usize = 0;
+    let mut j: usize = 0;
+    while j < widths.len() {
+        let w = widths[j];
+        put_hex(&mut out[at..], values[j], w);
+        at += w;
+        j += 1;
+    }
+    at
 }
