@@ -11,7 +11,6 @@ use auction::Answer;
 use auction::Auction;
 use frames::Frame;
 use reply_text::Reply;
-use settling::Settled;
 
 pub struct Turn {
     pub auction: Auction,
@@ -69,21 +68,13 @@ fn column(frame: Frame, from: usize, apart: usize, n: usize) -> [u32; 16]
 fn blank(kind: u8, number: u8) -> Reply
     ensures { λ r. ⌜ (r .kind ≡ kind) × (r .number ≡ number) × (length (r .awards) ≡ 192) ⌝ }
 {
-    let settled = Settled {
-        number: number,
-        price: 0,
-        demand: 0,
-        total: 0,
-        choices: 0,
-        covering: 0,
-        records: 0,
-    };
     Reply {
         kind: kind,
         number: number,
-        excess: 0,
-        settled: settled,
+        head: [0; 8],
+        filled: 0,
         awards: [0; 192],
+        tail: [0; 8],
     }
 }
 
@@ -172,7 +163,8 @@ fn close_turn(auction: Auction) -> Turn
 {
     let closing = auction.close();
     let mut reply = blank(5, closing.number);
-    reply.excess = bits_of(closing.excess);
+    let head = reply_text::closing_head(bits_of(closing.excess));
+    reply.head = head;
     let next = closing.auction;
     Turn {
         auction: next,
@@ -187,9 +179,13 @@ fn settle_turn(auction: Auction, frame: Frame) -> Turn
     let mut reply = blank(6, 0);
     let mut awards = reply.awards;
     let settled = settling::settle(auction, word(frame, 0), &mut awards);
+    let head = reply_text::settling_head(settled);
+    let tail = reply_text::settling_tail(settled);
     reply.number = settled.number;
-    reply.settled = settled;
+    reply.head = head;
+    reply.filled = reply_text::award_bytes(settled.records);
     reply.awards = awards;
+    reply.tail = tail;
     Turn {
         auction: auction,
         reply: reply,

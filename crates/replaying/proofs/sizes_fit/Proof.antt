@@ -35,7 +35,7 @@ sub-if1 : tie.Need-sub-if1 Inv-loop μ-loop
 sub-if1 c = omega (arith, c .before .before .before .before .before .loop .inv .within)
 
 returns : tie.Need-returns Inv-loop μ-loop
-returns c = sized-over _ _ _ _ _ _ _ _ (c .before .before .before .before .before .before .loop .inv) (stepped (c .before .before .before)) (c .before .size .ensures .0) (c .if1 .taken)
+returns c = sized-over _ _ _ _ _ _ _ _ (c .before .before .before .before .before .before .loop .inv) (stepped (c .before .before .before)) (c .before .size .ensures) (c .if1 .taken)
 
 add-used : tie.Need-add-used Inv-loop μ-loop
 add-used c = omega (arith, c .before .if1 .left, c .before .before .before .before .before .before .before .loop .inv .within, c .before .before .before .before .before .before .before .before .before .before .fits .limit)
@@ -50,7 +50,7 @@ loop-less : tie.Need-loop-less Inv-loop μ-loop
 loop-less c = omega (arith, stepped (c .before .before .before .before) .inside, c .before .before .before .before .before .before .loop-test .taken)
 
 loop-again : tie.Need-loop-again Inv-loop μ-loop
-loop-again c = sized-again _ _ _ _ _ _ _ _ (c .before .before .before .before .before .before .before .loop .inv) (stepped (c .before .before .before .before)) (c .before .before .size .ensures .0) (c .before .if1 .left)
+loop-again c = sized-again _ _ _ _ _ _ _ _ (c .before .before .before .before .before .before .before .loop .inv) (stepped (c .before .before .before .before)) (c .before .before .size .ensures) (c .before .if1 .left)
 
 returns-2 : tie.Need-returns-2 Inv-loop μ-loop
 returns-2 c = sized-end _ _ _ _ _ (c .before .loop .inv) (c .loop-test .left)

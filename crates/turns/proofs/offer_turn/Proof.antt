@@ -9,7 +9,7 @@ use Rattle.format.specs.Fields.{fixed, each}
 use Rattle.turns.proofs.Columns.{below, below-behind, listed-count, every-first, every-second}
 use Rattle.frames.specs.declared.Frame.{Frame}
 use Rattle.turns.specs.Turns.{fieldsOf, Framed}
-use Rattle.turns.proofs.Taking.{bare-offer, takes-call, offer-is}
+use Rattle.turns.proofs.Taking.{takes-call, offer-is}
 use borrow.Author.Needs.{needs}
 use Rattle.turns.proofs.offer_turn.Statement.{statement}
 use Rattle.turns.proofs.offer_turn.Tie as tie
@@ -77,7 +77,7 @@ returns c =
     let count = c .before .before .before .before .before .before .byte2 .ensures in
     let prices = c .before .before .before .before .before .column .ensures .0 ∙ every-first 2 _ _ (omega (arith, counted _ w .0)) in
     let levels = c .before .before .before .before .column2 .ensures .0 ∙ every-second 2 _ _ (omega (arith, counted _ w .0)) in
-    takes-call _ _ _ _ _ _ (offer-is (fieldsOf (c .before .before .before .before .before .before .before .before .args .frame)) _ _ _ n prices levels) (bare-offer _ _ _) (c .before .offer .ensures) (c .answered .ensures)
+    takes-call _ _ _ _ _ _ (offer-is (fieldsOf (c .before .before .before .before .before .before .before .before .args .frame)) _ _ _ n prices levels) (omega arith, omega arith) (c .before .offer .ensures) (c .answered .ensures)
 
 pub offer-turn-spec : {M : Type 1} → statement M
 offer-turn-spec =

@@ -9,7 +9,7 @@ use Rattle.format.specs.Fields.{fixed, each}
 use Rattle.turns.proofs.Columns.{below, below-behind, listed-count, every-one}
 use Rattle.frames.specs.declared.Frame.{Frame}
 use Rattle.turns.specs.Turns.{fieldsOf, Framed}
-use Rattle.turns.proofs.Taking.{bare-registration, takes-call, registration-is}
+use Rattle.turns.proofs.Taking.{takes-call, registration-is}
 use borrow.Author.Needs.{needs}
 use Rattle.turns.proofs.register_turn.Statement.{statement}
 use Rattle.turns.proofs.register_turn.Tie as tie
@@ -79,7 +79,7 @@ returns c =
     let day = c .before .before .before .before .before .word2 .ensures in
     let count = c .before .before .before .before .byte4 .ensures in
     let levels = c .before .before .before .column .ensures .0 ∙ every-one 6 _ _ (omega (arith, counted _ w .0)) in
-    takes-call _ _ _ _ _ _ (registration-is (fieldsOf (c .before .before .before .before .before .before .before .before .before .before .args .frame)) _ _ _ _ _ _ k n kind study day levels) (bare-registration _ _) (c .before .register .ensures) (c .answered .ensures)
+    takes-call _ _ _ _ _ _ (registration-is (fieldsOf (c .before .before .before .before .before .before .before .before .before .before .args .frame)) _ _ _ _ _ _ k n kind study day levels) (omega arith, omega arith) (c .before .register .ensures) (c .answered .ensures)
 
 pub register-turn-spec : {M : Type 1} → statement M
 register-turn-spec =
