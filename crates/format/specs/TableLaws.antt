@@ -33,5 +33,6 @@ row-kind (r ∷ rs) k = go (eqb (r .kind) k) refl (row-kind rs k)
     go false e h = h
 
 -- looked for from a place on: the row there, or one behind it
-pub row-here : (rs : List Row) (i k : ℕ) → i < length rs → rowIn (drop i rs) k ≡ cond (eqb (getD rs i noRow .kind) k) (getD rs i noRow) (rowIn (drop (suc i) rs) k)
+pub row-here : (rs : List Row) (i k : ℕ) → i < length rs
+    → rowIn (drop i rs) k ≡ cond (eqb (getD rs i noRow .kind) k) (getD rs i noRow) (rowIn (drop (suc i) rs) k)
 row-here rs i k h = ap (λ (l : List Row). rowIn l k) (drop-cons rs i noRow h)

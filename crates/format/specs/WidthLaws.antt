@@ -63,8 +63,10 @@ fields-text [] [] rest l h = refl
 fields-text [] (n ∷ ns) rest l h = absurd (omega arith)
 fields-text (w ∷ ws) [] rest l h = absurd (omega arith)
 fields-text (w ∷ ws) (n ∷ ns) rest l h =
-    let t : (digits w n ++ textAt ws ns) ++ rest ≡ digits w n ++ (textAt ws ns ++ rest) = append-assoc (digits w n) (textAt ws ns) rest in
-    rw (t, take-at (digits w n) (textAt ws ns ++ rest) w (length-digits w n), drop-at (digits w n) (textAt ws ns ++ rest) w (length-digits w n), number-digits w n (h 0), fields-text ws ns rest (omega arith) (λ j. h (suc j)))
+    let more : List ℕ = textAt ws ns ++ rest in
+    let t : (digits w n ++ textAt ws ns) ++ rest ≡ digits w n ++ more = append-assoc (digits w n) (textAt ws ns) rest in
+    let d : length (digits w n) ≡ w = length-digits w n in
+    rw (t, take-at (digits w n) more w d, drop-at (digits w n) more w d, number-digits w n (h 0), fields-text ws ns rest (omega arith) (λ j. h (suc j)))
 
 -- a place of width 0 has nothing, and 0 stands for a number that is not there
 pub text-padded : (n : ℕ) (ws ns : List ℕ) → textAt (padded n ws) ns ≡ textAt ws ns

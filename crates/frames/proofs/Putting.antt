@@ -37,9 +37,11 @@ module _ (ws vs o out : List ℕ) (at j : ℕ) (room : total ws ≤ length o) (p
     -- the field fits the tail
     pub putting-room : at + getD ws j 0 ≤ length out
     putting-room =
-        let w : ℕ = getD ws j 0 in
-        let rest : List ℕ = textAt (drop (j + 1) ws) (drop (j + 1) vs) in
-        omega (arith, p .same, p .filled .inside, length-text ws vs, length-drop at (textAt ws vs), ap length (p .filled .left ∙ next), length-append (digits w (getD vs j 0)) rest, length-digits w (getD vs j 0))
+        let t : List ℕ = digits (getD ws j 0) (getD vs j 0) in
+        let n : length t ≡ getD ws j 0 = length-digits (getD ws j 0) (getD vs j 0) in
+        let left = ap length (p .filled .left ∙ next) in
+        let sum = length-append t (textAt (drop (j + 1) ws) (drop (j + 1) vs)) in
+        omega (arith, p .same, p .filled .inside, length-text ws vs, length-drop at (textAt ws vs))
 
     pub putting-tail : getD ws j 0 ≤ length (midOf at (length out - at) out)
     putting-tail = rw tail-is (omega (arith, putting-room, length-drop at out))
@@ -58,7 +60,8 @@ module _ (ws vs o out : List ℕ) (at j : ℕ) (room : total ws ≤ length o) (p
   pub putting-end : length ws ≤ j → (at ≡ total ws) × (out ≡ laid (textAt ws vs) o)
   unfolding textAt
   putting-end h =
-      let e = filled-all (textAt ws vs) o out (textAt (drop j ws) (drop j vs)) at (p .filled) (ap (λ (l : List ℕ). textAt l (drop j vs)) (drop-of-length-le ws {i = j} h)) in
+      let none = ap (λ (l : List ℕ). textAt l (drop j vs)) (drop-of-length-le ws {i = j} h) in
+      let e = filled-all (textAt ws vs) o out (textAt (drop j ws) (drop j vs)) at (p .filled) none in
       (e .0 ∙ length-text ws vs, e .1)
 
 -- ---- the widths added

@@ -123,21 +123,25 @@ line-length k n b added h least = simp (length-append, length-digits) (omega (ar
     go true e = h (eqb-true n 0 e)
     go false e = omega arith
 
-pub least-most : (k : ℕ) → bare ≤ mostOf k
+least-most : (k : ℕ) → bare ≤ mostOf k
 unfolding mostOf
 least-most k = omega arith
 
-call-length : (l : Ledger) (k : ℕ) → bare + length (cond (eqb k 5) (closingText l) []) ≤ mostOf k
-unfolding closingText mostOf headWidths
+call-length : (l : Ledger) (k : ℕ) → length (cond (eqb k 5) (closingText l) []) ≤ total (headWidths k)
+unfolding closingText headWidths
 call-length l k = go (eqb k 5)
   where
-    go : (t : Bool) → bare + length (cond t (closingText l) []) ≤ bare + total (cond t (widthsOf closingFields) (cond (eqb k 6) (widthsOf settlingHead) [])) + 2 * roomOf k + total (tailWidths k)
+    go : (t : Bool) → length (cond t (closingText l) []) ≤ total (cond t (widthsOf closingFields) (cond (eqb k 6) (widthsOf settlingHead) []))
     go true = omega (arith, length-text (widthsOf closingFields) (valuesOf closingFields l))
     go false = omega arith
 
-settling-most : mostOf 6 ≡ bare + total (headWidths 6) + 2 * awardRoom + total (tailWidths 6)
+call-most : (l : Ledger) (k : ℕ) → bare + length (cond (eqb k 5) (closingText l) []) ≤ mostOf k
+unfolding mostOf
+call-most l k = omega (arith, call-length l k)
+
+settling-most : (l : Ledger) (limit : ℕ) → settlingNumber l limit awardRoom ≡ 0 → bare + length (settlingText (settlement l)) ≤ mostOf 6
 unfolding mostOf roomOf
-settling-most = refl
+settling-most l limit e = omega (arith, settled-length l, few l limit e)
 
 -- by what is asked: the most bytes of the reply
 unfoldable most : Order → ℕ
@@ -148,9 +152,8 @@ most (Settle limit) = mostOf 6
 reply-most : (l : Ledger) (o : Order) → length (replyTo l o) ≤ most o
 unfolding replyTo most
 reply-most l Malformed = line-length 255 12 bare [] (λ e. omega arith) (omega arith)
-reply-most l (Asks c) = line-length (kindOf c) (number l c) (mostOf (kindOf c)) _ (λ e. call-length l (kindOf c)) (least-most (kindOf c))
-reply-most l (Settle limit) =
-    line-length 6 (settlingNumber l limit awardRoom) (mostOf 6) (settlingText (settlement l)) (λ e. omega (arith, settled-length l, few l limit e, settling-most)) (least-most 6)
+reply-most l (Asks c) = line-length (kindOf c) (number l c) (mostOf (kindOf c)) _ (λ e. call-most l (kindOf c)) (least-most (kindOf c))
+reply-most l (Settle limit) = line-length 6 (settlingNumber l limit awardRoom) (mostOf 6) _ (settling-most l limit) (least-most 6)
 
 -- ---- the second digit of a line says what it asks
 
@@ -179,9 +182,9 @@ adding-most : (k : ℕ) (ns : List ℕ) → (k ≡ 5) ⊎ (k ≡ 6) → most (or
 unfolding most orderOf
 adding-most k ns e = ⊎-elim (λ h. rw h) (λ h. rw h) e
 
-call-most : (line : List ℕ) → WellFormed line → most (orderOf (callOf line)) ≤ mostTo line
+line-most : (line : List ℕ) → WellFormed line → most (orderOf (callOf line)) ≤ mostTo line
 unfolding callOf mostTo
-call-most line w = go (eqb k 5) (eqb k 6) refl refl
+line-most line w = go (eqb k 5) (eqb k 6) refl refl
   where
     k : ℕ
     k = fields.kindOf line
@@ -203,7 +206,7 @@ order-most line = go (read line) refl
   where
     go : (r : Option RawCall) → read line ≡ r → most (ordered r) ≤ mostTo line
     go none e = least-most (valueOf (getD line 1 0))
-    go (some c) e = let r = was-read line c e in rw (sym (r .1)) (call-most line (r .0))
+    go (some c) e = let r = was-read line c e in rw (sym (r .1)) (line-most line (r .0))
 
 reply-bound : (l : Ledger) (line : List ℕ) → length (replyTo l (orderIn line)) ≤ mostTo line
 reply-bound l line = omega (arith, reply-most l (orderIn line), order-most line)
@@ -212,7 +215,8 @@ bound-from : (l : Ledger) (ls : List (List ℕ)) → length (repliesFrom l ls) �
 unfolding repliesFrom total
 bound-from l [] = omega arith
 bound-from l (line ∷ ls) =
-    omega (arith, length-append (replyTo l (orderIn line)) (repliesFrom (after l (orderIn line)) ls), reply-bound l line, bound-from (after l (orderIn line)) ls)
+    let next : Ledger = after l (orderIn line) in
+    omega (arith, length-append (replyTo l (orderIn line)) (repliesFrom next ls), reply-bound l line, bound-from next ls)
 
 pub replies-bound : (bytes : List ℕ) → length (replies bytes) ≤ mostIn bytes
 unfolding replies mostIn

@@ -54,13 +54,16 @@ module _ (o : List ℕ) (n : ℕ) (bytes : List ℕ) where
         rw (add-one, take-suc bytes i 0 (omega arith)) (bytes-append (take i bytes) (getD bytes i 0 ∷ []))
         ∙ ap (λ (l : List ℕ). recordDigits (take i bytes) ++ l) (append-nil (digits 2 (getD bytes i 0)))
 
-    pub passed-one : (out ys : List ℕ) (i : ℕ) → Passed o n bytes out i → i < n → ys ≡ laid (digits 2 (getD bytes i 0)) (midOf (2 * i) (length out - 2 * i) out)
+    pub passed-one : (out ys : List ℕ) (i : ℕ) → Passed o n bytes out i → i < n
+        → ys ≡ laid (digits 2 (getD bytes i 0)) (midOf (2 * i) (length out - 2 * i) out)
         → Passed o n bytes (putMid (2 * i) (length out - 2 * i) out ys) (i + 1)
     passed-one out ys i p h e =
         let at : 2 * i ≡ length (recordDigits (take i bytes)) = omega (arith, bytes-length (take i bytes), length-take-le i bytes (omega arith)) in
         let w : putMid (2 * i) (length out - 2 * i) out ys ≡ laid (recordDigits (take (i + 1) bytes)) o =
-        grow (recordDigits (take i bytes)) (digits 2 (getD bytes i 0)) o out ys (2 * i) (p .written) at e ∙ ap (λ (l : List ℕ). laid l o) (sym (one-more i h)) in
-        let l : length (recordDigits (take (i + 1) bytes)) ≡ 2 * (i + 1) = bytes-length (take (i + 1) bytes) ∙ ap (λ (k : ℕ). 2 * k) (length-take-le (i + 1) bytes (omega arith)) in
+        grow (recordDigits (take i bytes)) (digits 2 (getD bytes i 0)) o out ys (2 * i) (p .written) at e
+        ∙ ap (λ (l : List ℕ). laid l o) (sym (one-more i h)) in
+        let l : length (recordDigits (take (i + 1) bytes)) ≡ 2 * (i + 1) =
+        bytes-length (take (i + 1) bytes) ∙ ap (λ (k : ℕ). 2 * k) (length-take-le (i + 1) bytes (omega arith)) in
         record { within = omega arith; written = w; same = ap length w ∙ length-laid (recordDigits (take (i + 1) bytes)) o (omega arith) }
 
     pub passed-all : (out : List ℕ) (i : ℕ) → Passed o n bytes out i → n ≤ i → out ≡ laid (recordDigits (take n bytes)) o

@@ -16,12 +16,12 @@ use Rattle.format.specs.HexLaws.{length-digits}
 use Rattle.format.specs.WidthLaws.{length-text, text-padded, values-padded}
 use Rattle.rules.specs.Ledger.{Ledger}
 use Rattle.rules.specs.Settling.{Settlement}
-use Rattle.replies.specs.Replies.{widthsOf, valuesOf, fieldsText, closingFields, settlingHead, settlingTail, recordDigits}
+use Rattle.replies.specs.Replies.{Field, widthsOf, valuesOf, fieldsText, closingFields, settlingHead, settlingTail, recordDigits}
 use Rattle.replies.specs.Replies.{closingText, settlingText, answerLine, awardRoom}
 use Rattle.replies.specs.Lengths.{headWidths, roomOf, tailWidths, bare, mostOf, bytes-length, flat-length, flat-digits}
 use Rattle.reply_text.specs.declared.Form.{Form}
 use Rattle.reply_text.specs.declared.Reply.{Reply}
-use Rattle.reply_text.specs.Texts.{FormOf, shown, sizeOf, addedText, shownText, textOf}
+use Rattle.reply_text.specs.Texts.{FormOf, Valued, shown, sizeOf, addedText, shownText, textOf}
 
 -- ---- lengths
 
@@ -73,7 +73,7 @@ module _ (r : Reply) where
 
 -- an accepted reply part by part, as the code holds its form
 pub record Parts (r : Reply) (f : Form) (n : ℕ) : Type 0 where
-  pub text : shownText r ≡ textAt (f .head) (r .head) ++ recordDigits (take n (r .awards)) ++ textAt (f .tail) (r .tail)
+  pub text : shownText r ≡ textAt (f .head) (r .values .head) ++ recordDigits (take n (r .awards)) ++ textAt (f .tail) (r .values .tail)
   pub size : length (shownText r) ≡ total (f .head) + 2 * n + total (f .tail)
   pub few : n ≤ awardRoom
 
@@ -83,19 +83,23 @@ unfolding addedText
 parts r f n w e z l =
     let k : ℕ = r .kind in
     let m : n ≡ shown k (r .filled) = e ∙ ap (min (r .filled)) (w .room) in
-    let h : textAt (f .head) (r .head) ≡ textAt (headWidths k) (r .head) = rw (w .head) (text-padded 8 (headWidths k) (r .head)) in
-    let t : textAt (f .tail) (r .tail) ≡ textAt (tailWidths k) (r .tail) = rw (w .tail) (text-padded 8 (tailWidths k) (r .tail)) in
-    let g : shownText r ≡ textAt (f .head) (r .head) ++ recordDigits (take n (r .awards)) ++ textAt (f .tail) (r .tail) =
+    let h : textAt (f .head) (r .values .head) ≡ textAt (headWidths k) (r .values .head) = rw (w .head) (text-padded 8 (headWidths k) (r .values .head)) in
+    let t : textAt (f .tail) (r .values .tail) ≡ textAt (tailWidths k) (r .values .tail) = rw (w .tail) (text-padded 8 (tailWidths k) (r .values .tail)) in
+    let g : shownText r ≡ textAt (f .head) (r .values .head) ++ recordDigits (take n (r .awards)) ++ textAt (f .tail) (r .values .tail) =
     shown-accepted r z ∙ rw (m, h, t) in
     let few : n ≤ awardRoom = omega (arith, small k .room) in
     record { text = g; size = ap length g ∙ simp (length-append, length-text, bytes-length, length-take) (omega arith); few = few }
 
 -- ---- the tie to the rules
 
+-- fields by their values
+fields-held : {A : Type 0} (fs : List (Field A)) (x : A) (vs : List ℕ) → vs ≡ padded 8 (valuesOf fs x) → textAt (widthsOf fs) vs ≡ fieldsText fs x
+fields-held fs x vs e = rw e (values-padded 8 (widthsOf fs) (valuesOf fs x))
+
 module _ (r : Reply) where
   -- by the kind
-  added-at : (k : ℕ) → r .kind ≡ k
-      → addedText r ≡ textAt (headWidths k) (r .head) ++ recordDigits (take (shown k (r .filled)) (r .awards)) ++ textAt (tailWidths k) (r .tail)
+  added-at : (k : ℕ) → r .kind ≡ k → let n = shown k (r .filled) in
+      addedText r ≡ textAt (headWidths k) (r .values .head) ++ recordDigits (take n (r .awards)) ++ textAt (tailWidths k) (r .values .tail)
   unfolding addedText
   added-at k e = rw e
 
@@ -107,22 +111,22 @@ module _ (r : Reply) where
       rw (ne-eqb (r .kind) 5 h5, ne-eqb (r .kind) 6 h6, z)
 
   -- a closing, by the values of its fields
-  pub closing-added : (l : Ledger) → r .kind ≡ 5 → r .head ≡ padded 8 (valuesOf closingFields l) → addedText r ≡ closingText l
+  pub closing-added : (l : Ledger) → r .kind ≡ 5 → r .values .head ≡ padded 8 (valuesOf closingFields l) → addedText r ≡ closingText l
   unfolding closingText headWidths roomOf tailWidths textAt flatten
   closing-added l k e =
       let z : min (r .filled) 0 ≡ 0 = omega arith in
-      let h : textAt (widthsOf closingFields) (r .head) ≡ closingText l = rw e (values-padded 8 (widthsOf closingFields) (valuesOf closingFields l)) in
+      let h : textAt (widthsOf closingFields) (r .values .head) ≡ closingText l = fields-held closingFields l (r .values .head) e in
       added-at 5 k ∙ rw (z, h) (simp append-nil)
 
   -- a settling, by the values of its fields, where the awards start with its records
-  pub settling-added : (s : Settlement) (old : List ℕ) → r .kind ≡ 6 → r .head ≡ padded 8 (valuesOf settlingHead s)
-      → r .tail ≡ padded 8 (valuesOf settlingTail s) → r .filled ≡ 6 * min (length (s .records)) 32 → r .awards ≡ laid (flatten (s .records)) old
-      → 6 * length (s .records) ≤ awardRoom → Each (λ x. length x ≡ 6) (s .records) → addedText r ≡ settlingText s
+  pub settling-added : (s : Settlement) (old : List ℕ) → r .kind ≡ 6 → Valued s (r .values)
+      → r .filled ≡ 6 * min (length (s .records)) 32 → r .awards ≡ laid (flatten (s .records)) old → 6 * length (s .records) ≤ awardRoom
+      → Each (λ x. length x ≡ 6) (s .records) → addedText r ≡ settlingText s
   unfolding settlingText headWidths roomOf tailWidths laid
-  settling-added s old k eh et ef ea few six =
+  settling-added s old k v ef ea few six =
       let n : ℕ = 6 * length (s .records) in
       let m : shown 6 (r .filled) ≡ n = omega arith in
-      let h : textAt (widthsOf settlingHead) (r .head) ≡ fieldsText settlingHead s = rw eh (values-padded 8 (widthsOf settlingHead) (valuesOf settlingHead s)) in
-      let t : textAt (widthsOf settlingTail) (r .tail) ≡ fieldsText settlingTail s = rw et (values-padded 8 (widthsOf settlingTail) (valuesOf settlingTail s)) in
+      let h : textAt (widthsOf settlingHead) (r .values .head) ≡ fieldsText settlingHead s = fields-held settlingHead s (r .values .head) (v .head) in
+      let t : textAt (widthsOf settlingTail) (r .values .tail) ≡ fieldsText settlingTail s = fields-held settlingTail s (r .values .tail) (v .tail) in
       let a : take n (r .awards) ≡ flatten (s .records) = ap (take n) ea ∙ take-at (flatten (s .records)) _ n (flat-length (s .records) six) in
       added-at 6 k ∙ rw (m, h, t, a, flat-digits (s .records))

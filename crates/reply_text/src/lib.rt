@@ -10,21 +10,25 @@ ghost use Rattle.numbers.specs.Tails.{laid};
 ghost use Rattle.rules.specs.Ledger.{Ledger, Close};
 ghost use Rattle.rules.specs.Rounds.{excess};
 ghost use Rattle.rules.specs.Settling.{Settlement};
-ghost use Rattle.replies.specs.Replies.{twosComplement, valuesOf, closingFields, settlingHead, settlingTail};
+ghost use Rattle.replies.specs.Replies.{twosComplement, valuesOf, closingFields};
 ghost use Rattle.replies.specs.Lengths.{mostOf};
 ghost use Rattle.settling.specs.Settles.{settledAs};
-ghost use Rattle.reply_text.specs.Texts.{FormOf, sizeOf, shownText, textOf};
+ghost use Rattle.reply_text.specs.Texts.{FormOf, Valued, sizeOf, shownText, textOf};
 use settling::Settled;
 
-// The kind (255 for a malformed line) and the answer. Then what an accepted reply adds: the values of its fields before its award records, so
-// many bytes of those, and the values of its fields behind them.
+// The values of the fields that an accepted reply adds before its award records and behind them.
+pub struct Values {
+    pub head: [u64; 8],
+    pub tail: [u64; 8],
+}
+
+// The kind (255 for a malformed line) and the answer; what an accepted reply adds, with so many bytes of award records.
 pub struct Reply {
     pub kind: u8,
     pub number: u8,
-    pub head: [u64; 8],
+    pub values: Values,
     pub filled: usize,
     pub awards: [u8; 192],
-    pub tail: [u64; 8],
 }
 
 // What a reply of a kind can add: the widths of its fields before its award records, the most bytes of those, and the widths behind them. A
@@ -71,32 +75,32 @@ fn form_of(kind: u8) -> Form
 // ---- the values of a reply's fields
 
 // Of a closing, by the excess in two's complement.
-pub fn closing_head(bits: u64) -> [u64; 8]
-    ensures { λ r. ⌜ ((l : Ledger) → bits ≡ twosComplement (excess l Close) → r ≡ padded 8 (valuesOf closingFields l)) ⌝ }
+pub fn closing_values(bits: u64) -> Values
+    ensures { λ r. ⌜ ((l : Ledger) → bits ≡ twosComplement (excess l Close) → r .head ≡ padded 8 (valuesOf closingFields l)) ⌝ }
 {
-    [bits, 0, 0, 0, 0, 0, 0, 0]
+    Values {
+        head: [bits, 0, 0, 0, 0, 0, 0, 0],
+        tail: [0, 0, 0, 0, 0, 0, 0, 0],
+    }
 }
 
 // Of a settling.
-pub fn settling_head(settled: Settled) -> [u64; 8]
-    ensures { λ r. ⌜ ((s : Settlement) → settled ≡ settledAs s → r ≡ padded 8 (valuesOf settlingHead s)) ⌝ }
+pub fn settling_values(settled: Settled) -> Values
+    ensures { λ r. ⌜ ((s : Settlement) → settled ≡ settledAs s → Valued s r) ⌝ }
 {
-    [
-        settled.price as u64,
-        settled.demand,
-        settled.total,
-        settled.choices,
-        settled.covering,
-        settled.records as u64,
-        0,
-        0,
-    ]
-}
-
-pub fn settling_tail(settled: Settled) -> [u64; 8]
-    ensures { λ r. ⌜ ((s : Settlement) → settled ≡ settledAs s → r ≡ padded 8 (valuesOf settlingTail s)) ⌝ }
-{
-    [0, 0, 0, 0, 0, 0, 0, 0]
+    Values {
+        head: [
+            settled.price as u64,
+            settled.demand,
+            settled.total,
+            settled.choices,
+            settled.covering,
+            settled.records as u64,
+            0,
+            0,
+        ],
+        tail: [0, 0, 0, 0, 0, 0, 0, 0],
+    }
 }
 
 // The bytes of so many award records: 192 bytes hold 32.
@@ -182,14 +186,15 @@ fn put_added(out: &mut [u8], reply: Reply) -> usize
     }
     let form = form_of(reply.kind);
     let n = least(reply.filled, form.room);
+    let values = reply.values;
     let head = form.head;
-    let first = reply.head;
+    let first = values.head;
     let records = put_values(out, head, first);
     let awards = reply.awards;
     put_bytes(&mut out[records..], awards, n);
     let behind = records + 2 * n;
     let tail = form.tail;
-    let last = reply.tail;
+    let last = values.tail;
     behind + put_values(&mut out[behind..], tail, last)
 }
 

@@ -15,7 +15,7 @@ use Rattle.rules.specs.Rounds.{ledger, excess}
 use Rattle.rules.specs.Settling.{Settlement, settlingNumber, settlement}
 use Rattle.replies.specs.Orders.{Malformed, Asks, Settle, firsts, seconds, setUpOf, registrationOf, offerOf, orderOf, ordered}
 use Rattle.replies.specs.Lengths.{six, few}
-use Rattle.replies.specs.Replies.{kindOf, twosComplement, valuesOf, closingFields, settlingHead, settlingTail, closingText, settlingText}
+use Rattle.replies.specs.Replies.{kindOf, twosComplement, valuesOf, closingFields, closingText, settlingText}
 use Rattle.replies.specs.Replies.{answerLine, awardRoom, replyTo}
 use Rattle.auction.specs.Called.{Called, setsUp, registers}
 use Rattle.auction.specs.Holds.{auctionOf}
@@ -24,7 +24,7 @@ use Rattle.settling.specs.Settles.{Settles, settledAs}
 use Rattle.settling.specs.declared.Settled.{Settled}
 use Rattle.frames.specs.Decoded.{held, callIn, call-none, call-some}
 use Rattle.frames.specs.declared.Frame.{Frame}
-use Rattle.reply_text.specs.Texts.{addedText, textOf}
+use Rattle.reply_text.specs.Texts.{Valued, addedText, textOf}
 use Rattle.reply_text.specs.TextLaws.{plain-added, closing-added, settling-added}
 use Rattle.reply_text.specs.declared.Reply.{Reply}
 use Rattle.turns.specs.Turns.{fieldsOf, Framed, Reads, Answers, Takes}
@@ -75,7 +75,7 @@ takes-call c d a next n t e bare was answers =
     }
 
 pub takes-close : (a next : Auction) (n : ℕ) (e : ℤ) (t : Turn) → Called Close a next n e → Answers 5 next n t
-    → ((l : Ledger) → twosComplement e ≡ twosComplement (excess l Close) → t .reply .head ≡ padded 8 (valuesOf closingFields l))
+    → ((l : Ledger) → twosComplement e ≡ twosComplement (excess l Close) → t .reply .values .head ≡ padded 8 (valuesOf closingFields l))
     → Takes a (Asks Close) t
 unfolding replyTo
 takes-close a next n e t called answers head = record {
@@ -104,14 +104,16 @@ offer-is ns ps qs n e f g = rw (e, f, g)
 pub record Holds (s : Settled) (r : Reply) : Type 0 where
   pub kind : r .kind ≡ 6
   pub number : r .number ≡ s .number
-  pub head : (m : Settlement) → s ≡ settledAs m → r .head ≡ padded 8 (valuesOf settlingHead m)
+  pub values : (m : Settlement) → s ≡ settledAs m → Valued m (r .values)
   pub filled : r .filled ≡ 6 * min (s .records) 32
-  pub tail : (m : Settlement) → s ≡ settledAs m → r .tail ≡ padded 8 (valuesOf settlingTail m)
 
 pub takes-settling : (a : Auction) (limit : ℕ) (old : List ℕ) (s : Settled) (t : Turn) → length old ≡ awardRoom → Settles a limit old (t .reply .awards) s
     → t .auction ≡ a → Holds s (t .reply) → Takes a (Settle limit) t
 unfolding replyTo
-takes-settling a limit old s t room w ea holds = record { text = text; next = λ cs h. ea ∙ h ∙ ap (λ (xs : List Call). auctionOf (ledger xs)) (sym (append-nil cs)) }
+takes-settling a limit old s t room w ea holds = record {
+  text = text;
+  next = λ cs h. ea ∙ h ∙ ap (λ (xs : List Call). auctionOf (ledger xs)) (sym (append-nil cs));
+}
   where
     text : (cs : List Call) → a ≡ auctionOf (ledger cs) → textOf (t .reply) ≡ replyTo (ledger cs) (Settle limit)
     text cs h =
@@ -120,7 +122,7 @@ takes-settling a limit old s t room w ea holds = record { text = text; next = λ
         text-of (t .reply) 6 (settlingNumber l limit awardRoom) (settlingText (settlement l)) (holds .kind) (holds .number ∙ n)
         (λ z.
         let e : s ≡ settledAs (settlement l) = w .answer cs h (n ∙ z) in
-        settling-added (t .reply) (settlement l) old (holds .kind) (holds .head (settlement l) e) (holds .tail (settlement l) e)
+        settling-added (t .reply) (settlement l) old (holds .kind) (holds .values (settlement l) e)
         (holds .filled ∙ ap (λ (x : Settled). 6 * min (x .records) 32) e) (w .buffer cs h (n ∙ z)) (few l limit z) (six l))
 
 -- ---- the order of a frame

@@ -11,6 +11,7 @@ use auction::Answer;
 use auction::Auction;
 use frames::Frame;
 use reply_text::Reply;
+use reply_text::Values;
 
 pub struct Turn {
     pub auction: Auction,
@@ -68,13 +69,16 @@ fn column(frame: Frame, from: usize, apart: usize, n: usize) -> [u32; 16]
 fn blank(kind: u8, number: u8) -> Reply
     ensures { λ r. ⌜ (r .kind ≡ kind) × (r .number ≡ number) × (length (r .awards) ≡ 192) ⌝ }
 {
+    let values = Values {
+        head: [0; 8],
+        tail: [0; 8],
+    };
     Reply {
         kind: kind,
         number: number,
-        head: [0; 8],
+        values: values,
         filled: 0,
         awards: [0; 192],
-        tail: [0; 8],
     }
 }
 
@@ -163,8 +167,8 @@ fn close_turn(auction: Auction) -> Turn
 {
     let closing = auction.close();
     let mut reply = blank(5, closing.number);
-    let head = reply_text::closing_head(bits_of(closing.excess));
-    reply.head = head;
+    let values = reply_text::closing_values(bits_of(closing.excess));
+    reply.values = values;
     let next = closing.auction;
     Turn {
         auction: next,
@@ -179,13 +183,11 @@ fn settle_turn(auction: Auction, frame: Frame) -> Turn
     let mut reply = blank(6, 0);
     let mut awards = reply.awards;
     let settled = settling::settle(auction, word(frame, 0), &mut awards);
-    let head = reply_text::settling_head(settled);
-    let tail = reply_text::settling_tail(settled);
+    let values = reply_text::settling_values(settled);
     reply.number = settled.number;
-    reply.head = head;
+    reply.values = values;
     reply.filled = reply_text::award_bytes(settled.records);
     reply.awards = awards;
-    reply.tail = tail;
     Turn {
         auction: auction,
         reply: reply,

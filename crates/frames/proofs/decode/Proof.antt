@@ -75,7 +75,10 @@ malformed-requires-3 : tie.Need-malformed-requires-3
 malformed-requires-3 c κs = search needs
 
 returns-3 : tie.Need-returns-3
-returns-3 c = refused _ (c .malformed3 .result) (c .malformed3 .ensures) (λ w. clash (w .hex) (sym (c .before .before .all-hex .ensures) ∙ not-true (c .before .before .all-hex .result) (c .before .if3 .taken)))
+returns-3 c =
+    let h = c .before .before .all-hex in
+    let no = sym (h .ensures) ∙ not-true (h .result) (c .before .if3 .taken) in
+    refused _ (c .malformed3 .result) (c .malformed3 .ensures) (λ w. clash (w .hex) no)
 
 field-requires : tie.Need-field-requires
 field-requires c κs = search needs

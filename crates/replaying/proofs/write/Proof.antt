@@ -24,7 +24,10 @@ abbrev step : tie.After-slice-known2 Inv-loop μ-loop → tie.After-step Inv-loo
 step c = c .before .before .before .before .before
 
 -- the turn of the line
-stepped : (c : tie.After-step Inv-loop μ-loop) → Steps (start c .args .bytes .now) (c .before .next-line .result .now) (head c .loop .read) (head c .loop .inv .calls) (c .step .result)
+abbrev Stepped : tie.After-step Inv-loop μ-loop → Type 0
+Stepped c = Steps (start c .args .bytes .now) (c .before .next-line .result .now) (head c .loop .read) (head c .loop .inv .calls) (c .step .result)
+
+stepped : (c : tie.After-step Inv-loop μ-loop) → Stepped c
 stepped c = steps _ _ _ _ _ _ (c .before .before .loop-test .taken) (c .before .next-line .ensures) (head c .loop .inv .holds) (c .step .ensures)
 
 -- its reply fits the buffer behind those before

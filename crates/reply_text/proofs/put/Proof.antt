@@ -44,9 +44,11 @@ out-answered c =
     let k = kinded c .before .before .put-hex .last .0 in
     putMid 2 (length k - 2) k (c .before .before .put-hex2 .last .0)
 
-held-answer : (c : tie.After-slice-known3) → Held (digits 2 (reply (kinded c) .kind) ++ digits 2 (reply (kinded c) .number)) (old (kinded c)) (out-answered c) 4
+held-answer : (c : tie.After-slice-known3)
+    → Held (digits 2 (reply (kinded c) .kind) ++ digits 2 (reply (kinded c) .number)) (old (kinded c)) (out-answered c) 4
 held-answer c =
-    held-next (held-kind (kinded c)) _ 2 (sym (length-digits 2 (reply (kinded c) .number))) (omega (arith, room (start (kinded c)))) (c .before .before .put-hex2 .ensures)
+    let n = length-digits 2 (reply (kinded c) .number) in
+    held-next (held-kind (kinded c)) _ 2 (sym n) (omega (arith, room (start (kinded c)))) (c .before .before .put-hex2 .ensures)
 
 -- the buffer behind what is added
 abbrev out-added : tie.After-slice-known4 → List ℕ

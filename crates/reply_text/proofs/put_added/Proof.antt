@@ -22,7 +22,7 @@ use Rattle.reply_text.proofs.put_added.Tie as tie
 
 -- the places behind the fields before the records and behind the records, each from the next, and what is known at the form
 abbrev formed : tie.After-slice-known2 → tie.After-least
-formed c = c .before .before .before .before .before .before
+formed c = c .before .before .before .before .before .before .before
 
 abbrev start : tie.After-least → tie.Start
 start c = c .before .before .before .before .before
@@ -41,16 +41,17 @@ added : (c : tie.After-least) → Parts (reply c) (form c) (c .least .result)
 added c = parts (reply c) (form c) (c .least .result) (c .before .form-of .ensures) (c .least .ensures) (c .before .before .if1 .left) (full c)
 
 -- behind the fields before the records: the buffer, and that the records and the fields behind them have room
-abbrev HeadHeld : tie.After-slice-known2 → Type 0
-HeadHeld c =
-    Held (textAt (form (formed c) .head) (reply (formed c) .head)) (start (formed c) .args .out .now) (c .before .before .put-values .last .0) (c .before .before .put-values .result)
-
-headed : (c : tie.After-slice-known2) → HeadHeld c
+headed : (c : tie.After-slice-known2) →
+    let f = formed c in
+    let head = c .before .before .put-values in
+    Held (textAt (form f .head) (reply f .values .head)) (start f .args .out .now) (head .last .0) (head .result)
 headed c =
     let v = c .before .before .put-values .ensures in
     held-first _ _ _ _ (v .1) (v .0 ∙ sym (length-text _ _)) (omega (arith, v .0, added (formed c) .size, start (formed c) .pre))
 
-room : (c : tie.After-slice-known2) → c .before .before .put-values .result + 2 * formed c .least .result + total (form (formed c) .tail) ≤ length (start (formed c) .args .out .now)
+room : (c : tie.After-slice-known2) →
+    let f = formed c in
+    c .before .before .put-values .result + 2 * f .least .result + total (form f .tail) ≤ length (start f .args .out .now)
 room c = omega (arith, c .before .before .put-values .ensures .0, added (formed c) .size, start (formed c) .pre)
 
 -- behind the records
@@ -59,15 +60,16 @@ first c = c .before .before .before .before .before
 
 recorded : (c : tie.After-slice-known3) →
     let f = formed (first c) in
+    let n = f .least .result in
     let head = first c .before .before .put-values in
-    Held (textAt (form f .head) (reply f .head) ++ recordDigits (take (f .least .result) (reply f .awards))) (start f .args .out .now)
-    (putMid (head .result) (length (head .last .0) - head .result) (head .last .0) (c .before .before .put-bytes .last .0)) (head .result + 2 * f .least .result)
+    let out = putMid (head .result) (length (head .last .0) - head .result) (head .last .0) (c .before .before .put-bytes .last .0) in
+    Held (textAt (form f .head) (reply f .values .head) ++ recordDigits (take n (reply f .awards))) (start f .args .out .now) out (head .result + 2 * n)
 recorded c =
     let f = formed (first c) in
-    let l = full f in
-    let n : 2 * f .least .result ≡ length (recordDigits (take (f .least .result) (reply f .awards))) =
-    omega (arith, bytes-length (take (f .least .result) (reply f .awards)), length-take-le (f .least .result) (reply f .awards) (omega (arith, added f .few))) in
-    held-next (headed (first c)) _ (2 * f .least .result) n (omega (arith, room (first c))) (c .before .before .put-bytes .ensures)
+    let n = f .least .result in
+    let few = length-take-le n (reply f .awards) (omega (arith, added f .few, full f)) in
+    let m : 2 * n ≡ length (recordDigits (take n (reply f .awards))) = omega (arith, bytes-length (take n (reply f .awards))) in
+    held-next (headed (first c)) _ (2 * n) m (omega (arith, room (first c))) (c .before .before .put-bytes .ensures)
 
 returns : tie.Need-returns
 unfolding laid
@@ -82,7 +84,7 @@ least-requires : tie.Need-least-requires
 least-requires c κs = search needs
 
 put-values-requires : tie.Need-put-values-requires
-put-values-requires c κs = let l = c .before .before .before in omega (arith, added l .size, start l .pre)
+put-values-requires c κs = let l = c .before .before .before .before in omega (arith, added l .size, start l .pre)
 
 sub-put-bytes : tie.Need-sub-put-bytes
 sub-put-bytes c = omega (arith, room (c .before), headed (c .before) .same)

@@ -18,8 +18,8 @@ blank-requires c κs = search needs
 bits-of-requires : tie.Need-bits-of-requires
 bits-of-requires c κs = search needs
 
-closing-head-requires : tie.Need-closing-head-requires
-closing-head-requires c κs = search needs
+closing-values-requires : tie.Need-closing-values-requires
+closing-values-requires c κs = search needs
 
 returns : tie.Need-returns
 returns c =
@@ -27,9 +27,9 @@ returns c =
     let b = c .before .before .before .before .blank .ensures in
     let s : SFits w64 (closed .result .excess) = search needs in
     let bits = c .before .before .bits-of .ensures ∙ ap twosComplement (toZ-ofZ s) in
-    takes-close _ _ _ _ _ (closed .ensures) (record { auction = refl; kind = b .0; number = b .1 }) (λ l e. c .before .closing-head .ensures l (bits ∙ e))
+    takes-close _ _ _ _ _ (closed .ensures) (record { auction = refl; kind = b .0; number = b .1 }) (λ l e. c .before .closing-values .ensures l (bits ∙ e))
 
 pub close-turn-spec : {M : Type 1} → statement M
 close-turn-spec =
     tie.close
-    (tie.spec close-requires blank-requires bits-of-requires closing-head-requires returns)
+    (tie.spec close-requires blank-requires bits-of-requires closing-values-requires returns)

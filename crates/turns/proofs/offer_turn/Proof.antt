@@ -72,12 +72,14 @@ answered-requires c κs = search needs
 
 returns : tie.Need-returns
 returns c =
-    let w = c .before .before .before .before .before .before .before .before .pre in
+    let start = c .before .before .before .before .before .before .before .before in
+    let w = start .pre in
     let n = c .before .before .before .before .before .before .before .byte .ensures in
     let count = c .before .before .before .before .before .before .byte2 .ensures in
     let prices = c .before .before .before .before .before .column .ensures .0 ∙ every-first 2 _ _ (omega (arith, counted _ w .0)) in
     let levels = c .before .before .before .before .column2 .ensures .0 ∙ every-second 2 _ _ (omega (arith, counted _ w .0)) in
-    takes-call _ _ _ _ _ _ (offer-is (fieldsOf (c .before .before .before .before .before .before .before .before .args .frame)) _ _ _ n prices levels) (omega arith, omega arith) (c .before .offer .ensures) (c .answered .ensures)
+    let is = offer-is (fieldsOf (start .args .frame)) _ _ _ n prices levels in
+    takes-call _ _ _ _ _ _ is (omega arith, omega arith) (c .before .offer .ensures) (c .answered .ensures)
 
 pub offer-turn-spec : {M : Type 1} → statement M
 offer-turn-spec =

@@ -71,7 +71,8 @@ answered-requires c κs = search needs
 
 returns : tie.Need-returns
 returns c =
-    let w = c .before .before .before .before .before .before .before .before .before .before .pre in
+    let start = c .before .before .before .before .before .before .before .before .before .before in
+    let w = start .pre in
     let k = c .before .before .before .before .before .before .before .before .before .byte .ensures in
     let n = c .before .before .before .before .before .before .before .before .byte2 .ensures in
     let kind = c .before .before .before .before .before .before .before .byte3 .ensures in
@@ -79,7 +80,8 @@ returns c =
     let day = c .before .before .before .before .before .word2 .ensures in
     let count = c .before .before .before .before .byte4 .ensures in
     let levels = c .before .before .before .column .ensures .0 ∙ every-one 6 _ _ (omega (arith, counted _ w .0)) in
-    takes-call _ _ _ _ _ _ (registration-is (fieldsOf (c .before .before .before .before .before .before .before .before .before .before .args .frame)) _ _ _ _ _ _ k n kind study day levels) (omega arith, omega arith) (c .before .register .ensures) (c .answered .ensures)
+    let is = registration-is (fieldsOf (start .args .frame)) _ _ _ _ _ _ k n kind study day levels in
+    takes-call _ _ _ _ _ _ is (omega arith, omega arith) (c .before .register .ensures) (c .answered .ensures)
 
 pub register-turn-spec : {M : Type 1} → statement M
 register-turn-spec =

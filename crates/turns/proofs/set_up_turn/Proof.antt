@@ -29,12 +29,14 @@ answered-requires c κs = search needs
 
 returns : tie.Need-returns
 returns c =
+    let ns = fieldsOf (c .before .before .before .before .before .before .before .args .frame) in
     let f1 = c .before .before .before .before .before .before .field .ensures in
     let f2 = c .before .before .before .before .before .field2 .ensures in
     let f3 = c .before .before .before .before .field3 .ensures in
     let f4 = c .before .before .before .field4 .ensures in
     let f5 = c .before .before .field5 .ensures in
-    takes-call _ _ _ _ _ _ (set-up-is (fieldsOf (c .before .before .before .before .before .before .before .args .frame)) _ _ _ _ _ f1 f2 f3 f4 f5) (omega arith, omega arith) (c .before .set-up .ensures) (c .answered .ensures)
+    let is = set-up-is ns _ _ _ _ _ f1 f2 f3 f4 f5 in
+    takes-call _ _ _ _ _ _ is (omega arith, omega arith) (c .before .set-up .ensures) (c .answered .ensures)
 
 pub set-up-turn-spec : {M : Type 1} → statement M
 set-up-turn-spec =

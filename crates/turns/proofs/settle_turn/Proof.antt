@@ -20,23 +20,20 @@ slice-aggregate-settle c = search needs
 settle-requires : tie.Need-settle-requires
 settle-requires c κs = search needs
 
-settling-head-requires : tie.Need-settling-head-requires
-settling-head-requires c κs = search needs
-
-settling-tail-requires : tie.Need-settling-tail-requires
-settling-tail-requires c κs = search needs
+settling-values-requires : tie.Need-settling-values-requires
+settling-values-requires c κs = search needs
 
 award-bytes-requires : tie.Need-award-bytes-requires
 award-bytes-requires c κs = search needs
 
 returns : tie.Need-returns
 returns c =
-    let settled = c .before .before .before .before in
+    let settled = c .before .before .before in
     let asked = settled .before .before in
     let b = asked .before .before .blank in
     let w = rw (asked .word .ensures) at (settled .settle .ensures) in
     takes-settling _ _ (b .result .awards) (settled .settle .result) _ (b .ensures .2) w refl
-    record { kind = b .ensures .0; number = refl; head = c .before .before .settling-head .ensures; filled = c .award-bytes .ensures; tail = c .before .settling-tail .ensures }
+    record { kind = b .ensures .0; number = refl; values = c .before .settling-values .ensures; filled = c .award-bytes .ensures }
 
 pub settle-turn-spec : {M : Type 1} → statement M
 settle-turn-spec =
@@ -46,7 +43,6 @@ settle-turn-spec =
     word-requires
     slice-aggregate-settle
     settle-requires
-    settling-head-requires
-    settling-tail-requires
+    settling-values-requires
     award-bytes-requires
     returns)
