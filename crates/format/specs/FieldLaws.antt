@@ -2,26 +2,25 @@
 use Prim.Native.Nat.{ℕ, zero, suc, _+_, _-_, _*_, _^_, _≤_, _<_}
 use mathlib.Core.Path.{_≡_, refl, ap, _∙_, subst}
 use mathlib.Core.Bool.{Bool, true, false, cond}
-use mathlib.Core.List.{List, [], _∷_, _++_}
+use mathlib.Core.List.{List}
 use mathlib.Core.Option.{none, some}
 use native.Mathlib.Omega.{arith}
-use lib.ListN.{length, take, drop, getD, replicate, length-append, length-replicate, List·getD-eq-default}
+use lib.ListN.{length, drop, getD, replicate, length-append, length-replicate, List·getD-eq-default}
 use lib.Seq.{getD-take}
 use borrow.Author.Tests.{le-leb, leb-true, eq-eqb, eqb-true}
 use Rattle.numbers.specs.Cases.{and-true, not-true}
 use Rattle.numbers.specs.Lists.{total}
 use Rattle.numbers.specs.ListLaws.{total-append}
-use Rattle.format.specs.Hex.{allHex, number}
-use Rattle.format.specs.Fields.{lastKind, longest, fixed, each, count, repeats, layout, RawCall, fieldsAt, kindOf, asked, wellFormed, callOf, read}
-use Rattle.format.specs.HexLaws.{field-fits, power-pos}
+use Rattle.format.specs.Hex.{allHex}
+use Rattle.format.specs.Fields.{listed, known, longest, fixed, each, count, repeats, layout, RawCall, fieldsAt, kindOf, asked, wellFormed, callOf, read}
+use Rattle.format.specs.WidthLaws.{behind, length-fields, fields-front, take-fields, fields-fit}
 
 -- ---- which lines are read
 
 pub record WellFormed (l : List ℕ) : Type 0 where
   pub short : length l ≤ longest
   pub hex : allHex l ≡ true
-  pub kind-low : 1 ≤ kindOf l
-  pub kind-high : kindOf l ≤ lastKind
+  pub kind-known : known (kindOf l) ≡ true
   pub exact : length l ≡ 2 + total (asked l)
 
 module _ (l : List ℕ) where
@@ -31,18 +30,16 @@ module _ (l : List ℕ) where
       let t3 = and-true _ _ e in
       let t2 = and-true _ _ (t3 .0) in
       let t1 = and-true _ _ (t2 .0) in
-      let k = and-true _ _ (t2 .1) in
       record {
         short = leb-true (length l) longest (t1 .0);
         hex = t1 .1;
-        kind-low = leb-true 1 (kindOf l) (k .0);
-        kind-high = leb-true (kindOf l) lastKind (k .1);
+        kind-known = t2 .1;
         exact = eqb-true (length l) (2 + total (asked l)) (t3 .1);
       }
 
   well-formed-test : WellFormed l → wellFormed l ≡ true
   unfolding wellFormed
-  well-formed-test w = rw (le-leb (length l) longest (w .short), w .hex, le-leb 1 (kindOf l) (w .kind-low), le-leb (kindOf l) lastKind (w .kind-high), eq-eqb (length l) (2 + total (asked l)) (w .exact))
+  well-formed-test w = rw (le-leb (length l) longest (w .short), w .hex, w .kind-known, eq-eqb (length l) (2 + total (asked l)) (w .exact))
 
   pub reads : WellFormed l → read l ≡ some (callOf l)
   unfolding read
@@ -60,67 +57,37 @@ module _ (l : List ℕ) where
       go true t e = (well-formed t, (cc))
       go false t e = absurd (let z : _≡_ {A = ℕ} 0 1 = cc in omega arith)
 
--- ---- fields and widths
+-- ---- the widths of a kind
 
-pub length-fields : (ws cs : List ℕ) → length (fieldsAt ws cs) ≡ length ws
-unfolding fieldsAt
-length-fields [] cs = refl
-length-fields (w ∷ ws) cs = ap suc (length-fields ws (drop w cs))
-
--- the first fields do not see the widths behind them
-pub fields-front : (ws vs cs : List ℕ) → take (length ws) (fieldsAt (ws ++ vs) cs) ≡ fieldsAt ws cs
-unfolding fieldsAt
-fields-front [] vs cs = refl
-fields-front (w ∷ ws) vs cs = ap (λ (l : List ℕ). number (take w cs) ∷ l) (fields-front ws vs (drop w cs))
-
-pub take-fields : (ws cs : List ℕ) → take (length ws) (fieldsAt ws cs) ≡ fieldsAt ws cs
-unfolding fieldsAt
-take-fields [] cs = refl
-take-fields (w ∷ ws) cs = ap (λ (l : List ℕ). number (take w cs) ∷ l) (take-fields ws (drop w cs))
-
-pub fields-fit : (ws cs : List ℕ) (j : ℕ) → getD (fieldsAt ws cs) j 0 < 16 ^ getD ws j 8
-unfolding fieldsAt
-fields-fit [] cs j = power-pos 8
-fields-fit (w ∷ ws) cs zero = field-fits w cs
-fields-fit (w ∷ ws) cs (suc j) = fields-fit ws (drop w cs) j
-
-total-eights : (n : ℕ) → total (replicate n 8) ≡ 8 * n
+total-listed : (n : ℕ) → total (replicate n listed) ≡ listed * n
 unfolding total
-total-eights zero = refl
-total-eights (suc n) = omega (arith, total-eights n)
+total-listed zero = refl
+total-listed (suc n) = omega (arith, total-listed n)
 
-pub total-layout : (k n : ℕ) → total (layout k n) ≡ total (fixed k) + 8 * n
+pub total-layout : (k n : ℕ) → total (layout k n) ≡ total (fixed k) + listed * n
 unfolding layout
-total-layout k n = rw (total-append, total-eights)
+total-layout k n = rw (total-append, total-listed)
 
 pub length-layout : (k n : ℕ) → length (layout k n) ≡ length (fixed k) + n
 unfolding layout
 length-layout k n = rw (length-append, length-replicate)
 
-eights : (ws : List ℕ) (n j : ℕ) → getD (ws ++ replicate n 8) j 8 ≡ getD ws j 8
-eights [] zero j = refl
-eights [] (suc n) zero = refl
-eights [] (suc n) (suc j) = eights [] n j
-eights (w ∷ ws) n zero = refl
-eights (w ∷ ws) n (suc j) = eights ws n j
-
-pub layout-at : (k n j : ℕ) → getD (layout k n) j 8 ≡ getD (fixed k) j 8
+pub layout-at : (k n j : ℕ) → getD (layout k n) j listed ≡ getD (fixed k) j listed
 unfolding layout
-layout-at k n j = eights (fixed k) n j
+layout-at k n j = behind listed (fixed k) n j
 
 -- what the fixed fields count, all the fields count
 pub count-front : (k n : ℕ) (cs : List ℕ) → count k (fieldsAt (layout k n) cs) ≡ count k (fieldsAt (fixed k) cs)
 unfolding count layout
-count-front k n cs = rw (fields-front (fixed k) (replicate n 8) cs, take-fields (fixed k) cs)
+count-front k n cs = rw (fields-front (fixed k) (replicate n listed) cs, take-fields (fixed k) cs)
 
 -- ---- a call that was read
 
 pub record Formed (c : RawCall) : Type 0 where
-  pub kind-low : 1 ≤ c .kind
-  pub kind-high : c .kind ≤ lastKind
+  pub kind-known : known (c .kind) ≡ true
   pub as-many : length (c .fields) ≡ length (fixed (c .kind)) + repeats (c .kind) (c .fields)
-  pub short : 2 + (total (fixed (c .kind)) + 8 * repeats (c .kind) (c .fields)) ≤ longest
-  pub below : (j : ℕ) → getD (c .fields) j 0 < 16 ^ getD (fixed (c .kind)) j 8
+  pub short : 2 + (total (fixed (c .kind)) + listed * repeats (c .kind) (c .fields)) ≤ longest
+  pub below : (j : ℕ) → getD (c .fields) j 0 < 16 ^ getD (fixed (c .kind)) j listed
 
 call-formed : (l : List ℕ) → WellFormed l → Formed (callOf l)
 unfolding callOf asked
@@ -128,10 +95,9 @@ call-formed l w =
     let k : ℕ = kindOf l in
     let n : ℕ = repeats k (fieldsAt (fixed k) (drop 2 l)) in
     let e : repeats k (fieldsAt (layout k n) (drop 2 l)) ≡ n = ap (λ (m : ℕ). each k * m) (count-front k n (drop 2 l)) in
-    let s : total (layout k n) ≡ total (fixed k) + 8 * n = total-layout k n in
+    let s : total (layout k n) ≡ total (fixed k) + listed * n = total-layout k n in
     record {
-      kind-low = w .kind-low;
-      kind-high = w .kind-high;
+      kind-known = w .kind-known;
       as-many = rw e (length-fields (layout k n) (drop 2 l) ∙ length-layout k n);
       short = rw e (omega (arith, s, w .short, w .exact));
       below = λ j. rw layout-at at (fields-fit (layout k n) (drop 2 l) j);
@@ -142,40 +108,24 @@ formed l c e = let r = was-read l c e in subst Formed (r .1) (call-formed l (r .
 
 module _ (c : RawCall) (f : Formed c) where
   -- a field of the table is below 16 to its width: at a kind and a place in the table, b is a numeral and the equation `refl`
-  pub field-below : (k j b : ℕ) → c .kind ≡ k → 16 ^ getD (fixed k) j 8 ≡ b → getD (c .fields) j 0 < b
+  pub field-below : (k j b : ℕ) → c .kind ≡ k → 16 ^ getD (fixed k) j listed ≡ b → getD (c .fields) j 0 < b
   field-below k j b e w = rw (e, w) at (f .below j)
 
   -- and so is each field behind the fixed ones
   pub repeated-below : (k j : ℕ) → c .kind ≡ k → length (fixed k) ≤ j → getD (c .fields) j 0 < 2 ^ 32
-  repeated-below k j e h = field-below k j (2 ^ 32) e (ap (λ (w : ℕ). 16 ^ w) (List·getD-eq-default (fixed k) 8 h))
+  repeated-below k j e h = field-below k j (2 ^ 32) e (ap (λ (w : ℕ). 16 ^ w) (List·getD-eq-default (fixed k) listed h))
 
   as-many-at : (k : ℕ) → c .kind ≡ k → length (c .fields) ≡ length (fixed k) + repeats k (c .fields)
   as-many-at k e = subst (λ (j : ℕ). length (c .fields) ≡ length (fixed j) + repeats j (c .fields)) e (f .as-many)
 
-  short-at : (k : ℕ) → c .kind ≡ k → 2 + (total (fixed k) + 8 * repeats k (c .fields)) ≤ longest
-  short-at k e = subst (λ (j : ℕ). 2 + (total (fixed j) + 8 * repeats j (c .fields)) ≤ longest) e (f .short)
+  short-at : (k : ℕ) → c .kind ≡ k → 2 + (total (fixed k) + listed * repeats k (c .fields)) ≤ longest
+  short-at k e = subst (λ (j : ℕ). 2 + (total (fixed j) + listed * repeats j (c .fields)) ≤ longest) e (f .short)
 
-  -- how many fields the calls of each kind have
-  pub set-up-fields : c .kind ≡ 1 → length (c .fields) ≡ 5
-  unfolding fixed each
-  set-up-fields e = omega (arith, as-many-at 1 e)
-
-  pub registration-fields : c .kind ≡ 2 → (length (c .fields) ≡ 6 + getD (c .fields) 5 0) × (getD (c .fields) 5 0 ≤ 16)
-  unfolding fixed each count total
-  registration-fields e = let g = getD-take 6 (c .fields) 5 0 (omega arith) in (omega (arith, as-many-at 2 e, g), omega (arith, short-at 2 e, g))
-
-  pub opening-fields : c .kind ≡ 3 → length (c .fields) ≡ 1
-  unfolding fixed each
-  opening-fields e = omega (arith, as-many-at 3 e)
-
-  pub offer-fields : c .kind ≡ 4 → (length (c .fields) ≡ 2 + 2 * getD (c .fields) 1 0) × (getD (c .fields) 1 0 ≤ 9)
-  unfolding fixed each count total
-  offer-fields e = let g = getD-take 2 (c .fields) 1 0 (omega arith) in (omega (arith, as-many-at 4 e, g), omega (arith, short-at 4 e, g))
-
-  pub closing-fields : c .kind ≡ 5 → length (c .fields) ≡ 0
-  unfolding fixed each
-  closing-fields e = omega (arith, as-many-at 5 e)
-
-  pub settling-fields : c .kind ≡ 6 → length (c .fields) ≡ 1
-  unfolding fixed each
-  settling-fields e = omega (arith, as-many-at 6 e)
+  -- a list of fields: as many as the last fixed field counts, in a line that is not too long; at a kind of the table these are numerals
+  pub listed-fields : (k : ℕ) → c .kind ≡ k → 0 < length (fixed k) →
+      let n = each k * getD (c .fields) (length (fixed k) - 1) 0 in
+      (length (c .fields) ≡ length (fixed k) + n) × (2 + (total (fixed k) + listed * n) ≤ longest)
+  unfolding count
+  listed-fields k e h =
+      let g = getD-take (length (fixed k)) (c .fields) (length (fixed k) - 1) 0 (omega arith) in
+      (rw g at (as-many-at k e), rw g at (short-at k e))

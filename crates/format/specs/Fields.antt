@@ -5,41 +5,51 @@ use mathlib.Core.List.{List, [], _∷_, _++_}
 use mathlib.Core.Option.{Option, none, some}
 use lib.Dec.{leb, eqb}
 use lib.ListN.{length, getD, take, drop, replicate}
-use Rattle.numbers.specs.Lists.{total}
-use Rattle.format.specs.Hex.{allHex, number}
+use Rattle.numbers.specs.Lists.{total, any}
+use Rattle.format.specs.Hex.{allHex, digits, number}
 
--- the fields of a frame kind: the widths of the fixed ones, and how many of 8 digits follow for each one that the last fixed field counts
+-- the fields of a frame kind: the widths of the fixed ones, and how many follow for each one that the last fixed field counts
 pub record Row : Type 0 where
+  pub kind : ℕ
   pub widths : List ℕ
   pub repeated : ℕ
 
-abbrev pub row : List ℕ → ℕ → Row
-row ws n = record { widths = ws; repeated = n }
+abbrev pub row : ℕ → List ℕ → ℕ → Row
+row k ws n = record { kind = k; widths = ws; repeated = n }
 
 -- THE TABLE: a row for each kind
 abbrev pub rows : List Row
 rows =
-    row [] 0  -- 00 is no kind
-    ∷ row (8 ∷ 10 ∷ 10 ∷ 10 ∷ 8 ∷ []) 0  -- 01 set-up: CE, D, M1, M2, A
-    ∷ row (2 ∷ 2 ∷ 2 ∷ 8 ∷ 8 ∷ 2 ∷ []) 1  -- 02 registration: project, developer, kind, study, day, count; levels
-    ∷ row (8 ∷ []) 0  -- 03 open: C
-    ∷ row (2 ∷ 2 ∷ []) 2  -- 04 offer: developer, count; steps of price and level
-    ∷ row [] 0  -- 05 close
-    ∷ row (8 ∷ []) 0  -- 06 settle: limit
+    row 1 (8 ∷ 10 ∷ 10 ∷ 10 ∷ 8 ∷ []) 0  -- 01 set-up: CE, D, M1, M2, A
+    ∷ row 2 (2 ∷ 2 ∷ 2 ∷ 8 ∷ 8 ∷ 2 ∷ []) 1  -- 02 registration: project, developer, kind, study, day, count; levels
+    ∷ row 3 (8 ∷ []) 0  -- 03 open: C
+    ∷ row 4 (2 ∷ 2 ∷ []) 2  -- 04 offer: developer, count; steps of price and level
+    ∷ row 5 [] 0  -- 05 close
+    ∷ row 6 (8 ∷ []) 0  -- 06 settle: limit
     ∷ []
 
-abbrev pub lastKind : ℕ
-lastKind = 6
+-- the width of each field that follows the fixed ones
+abbrev pub listed : ℕ
+listed = 8
 
-abbrev pub known : ℕ → Bool
-known k = leb 1 k && leb k lastKind
+-- a kind that the table has
+unfoldable pub known : ℕ → Bool
+known k = any (λ r. eqb (r .kind) k) rows
+
+-- the row of a kind, and one of no kind and no fields where there is none
+abbrev pub noRow : Row
+noRow = row 0 [] 0
+
+abbrev pub rowIn : List Row → ℕ → Row
+rowIn [] k = noRow
+rowIn (r ∷ rs) k = cond (eqb (r .kind) k) r (rowIn rs k)
 
 -- the widths of a kind's fixed fields, and how many fields follow for each one counted
 unfoldable pub fixed : ℕ → List ℕ
-fixed k = getD rows k (row [] 0) .widths
+fixed k = rowIn rows k .widths
 
 unfoldable pub each : ℕ → ℕ
-each k = getD rows k (row [] 0) .repeated
+each k = rowIn rows k .repeated
 
 -- what the last of the fixed fields counts, where these are the fields; a kind that repeats nothing counts nothing (`each` is 0)
 unfoldable pub count : ℕ → List ℕ → ℕ
@@ -51,7 +61,19 @@ repeats k ns = each k * count k ns
 
 -- the widths of all fields of a frame of this kind, n of them behind the fixed ones
 unfoldable pub layout : ℕ → ℕ → List ℕ
-layout k n = fixed k ++ replicate n 8
+layout k n = fixed k ++ replicate n listed
+
+-- ---- numbers at widths, one behind the other
+
+-- the numbers that stand in bytes, at these widths
+unfoldable pub fieldsAt : List ℕ → List ℕ → List ℕ
+fieldsAt [] cs = []
+fieldsAt (w ∷ ws) cs = number (take w cs) ∷ fieldsAt ws (drop w cs)
+
+-- the digits of numbers, at these widths
+unfoldable pub textAt : List ℕ → List ℕ → List ℕ
+textAt [] ns = []
+textAt (w ∷ ws) ns = digits w (getD ns 0 0) ++ textAt ws (drop 1 ns)
 
 -- ---- reading
 
@@ -59,11 +81,6 @@ layout k n = fixed k ++ replicate n 8
 pub record RawCall : Type 0 where
   pub kind : ℕ
   pub fields : List ℕ
-
--- the numbers that stand in bytes, at these widths
-unfoldable pub fieldsAt : List ℕ → List ℕ → List ℕ
-fieldsAt [] cs = []
-fieldsAt (w ∷ ws) cs = number (take w cs) ∷ fieldsAt ws (drop w cs)
 
 unfoldable pub kindOf : List ℕ → ℕ
 kindOf l = number (take 2 l)
@@ -75,7 +92,7 @@ asked l = layout (kindOf l) (repeats (kindOf l) (fieldsAt (fixed (kindOf l)) (dr
 abbrev pub longest : ℕ
 longest = 160
 
--- at most 160 characters, all digits, a known kind, and as long as kind and count ask
+-- at most 160 characters, all digits, a kind of the table, and as long as kind and count ask
 unfoldable pub wellFormed : List ℕ → Bool
 wellFormed l = leb (length l) longest && allHex l && known (kindOf l) && eqb (length l) (2 + total (asked l))
 

@@ -1,18 +1,20 @@
--- Laws of digits: one byte more of a number, how large a number of so many digits can be, and how long digits are.
+-- Laws of digits: one byte more of a number, how large a number of so many digits can be, how long digits are, and what they read as.
 use Prim.Native.Nat.{ℕ, zero, suc, _+_, _-_, _*_, _/_, _%_, _^_, _≤_, _<_}
-use mathlib.Core.Path.{_≡_, refl, ap}
+use mathlib.Core.Path.{_≡_, refl, ap, _∙_}
 use mathlib.Core.Bool.{Bool, true, false, cond, _&&_}
-use mathlib.Core.List.{List, [], _∷_}
+use mathlib.Core.List.{List, [], _∷_, _++_}
 use native.Mathlib.Numerals.{add-one}
-use native.Mathlib.Nat.{div-div-eq-div-mul, div-one, one-le-pow, one-mul, pow-zero, pow-suc, pow-le-pow-right, div-lt-iff-lt-mul, lt-of-lt-of-le, zero-lt-suc}
+use native.Mathlib.Nat.{add-assoc, add-mul, add-zero, div-div-eq-div-mul, div-lt-iff-lt-mul, div-one, lt-of-lt-of-le, mod-eq-of-lt, mod-lt, mod-one}
+use native.Mathlib.Nat.{mul-assoc, mul-comm, mul-one, one-le-pow, one-mul, pow-le-pow-right, pow-suc, pow-zero, zero-add, zero-lt-suc, zero-mul}
 use native.Mathlib.Omega.{arith}
-use borrow.Author.Tests.{leb-true}
-use lib.Arith.{digits-div}
-use lib.Dec.{leb}
+use borrow.Author.Tests.{leb-true, le-leb, lt-leb, ltb-true, ltb-false}
+use lib.Arith.{digits-div, mod-mul}
+use lib.Dec.{leb, ltb}
 use lib.ListN.{length, take, drop, getD, length-take}
 use lib.Seq.{drop-cons}
+use Rattle.numbers.specs.Cases.{and-true}
 use Rattle.numbers.specs.Lists.{all}
-use Rattle.format.specs.Hex.{isHex, allHex, valueOf, digits, numberFrom, number}
+use Rattle.format.specs.Hex.{isHex, allHex, valueOf, charOf, digits, numberFrom, number}
 
 pub hex-step : (s : List ℕ) (i : ℕ) → i < length s → allHex (drop i s) ≡ isHex (getD s i 0) && allHex (drop (i + 1) s)
 unfolding all
@@ -62,3 +64,49 @@ pub length-digits : (w n : ℕ) → length (digits w n) ≡ w
 unfolding digits
 length-digits zero n = refl
 length-digits (suc k) n = ap suc (length-digits k n)
+
+-- ---- digits read as the number that they were written for
+
+-- the digit of each value below 16
+value-char : (d : ℕ) → d < 16 → valueOf (charOf d) ≡ d
+unfolding valueOf charOf
+value-char d h = go (ltb d 10) refl
+  where
+    go : (t : Bool) → ltb d 10 ≡ t → valueOf (cond t (48 + d) (55 + d)) ≡ d
+    go true e = let g : d < 10 = ltb-true d 10 e in rw (le-leb (48 + d) 57 (omega arith)) (omega arith)
+    go false e = let g : 10 ≤ d = ltb-false d 10 e in rw (lt-leb (55 + d) 57 (omega arith)) (omega arith)
+
+hex-char : (d : ℕ) → d < 16 → isHex (charOf d) ≡ true
+unfolding isHex charOf
+hex-char d h = go (ltb d 10) refl
+  where
+    go : (t : Bool) → ltb d 10 ≡ t → isHex (cond t (48 + d) (55 + d)) ≡ true
+    go true e = let g : d < 10 = ltb-true d 10 e in rw (le-leb 48 (48 + d) (omega arith), le-leb (48 + d) 57 (omega arith))
+    go false e =
+        let g : 10 ≤ d = ltb-false d 10 e in
+        rw (le-leb 48 (55 + d) (omega arith), lt-leb (55 + d) 57 (omega arith), le-leb 65 (55 + d) (omega arith), le-leb (55 + d) 70 (omega arith))
+
+pub hex-digits : (w n : ℕ) → allHex (digits w n) ≡ true
+unfolding digits all
+hex-digits zero n = refl
+hex-digits (suc k) n = rw (hex-char (n / 16 ^ k % 16) (mod-lt _ (zero-lt-suc 15))) (hex-digits k n)
+
+pub hex-append : (cs ds : List ℕ) → allHex cs ≡ true → allHex ds ≡ true → allHex (cs ++ ds) ≡ true
+unfolding all
+hex-append [] ds e g = g
+hex-append (c ∷ cs) ds e g = let b = and-true (isHex c) (allHex cs) e in rw (b .0) (hex-append cs ds (b .1) g)
+
+one-more : (k n before : ℕ) → (before * 16 + n / 16 ^ k % 16) * 16 ^ k + n % 16 ^ k ≡ before * 16 ^ suc k + n % 16 ^ suc k
+one-more k n before =
+    rw (pow-suc 16 k, mul-comm (16 ^ k) 16, mod-mul n (zero-lt-suc 15) (power-pos k)) (simp (add-mul, mul-assoc, add-assoc))
+
+-- w digits read as the number less its multiples of 16 to the w
+number-digits-from : (w n before : ℕ) → numberFrom before (digits w n) ≡ before * 16 ^ w + n % 16 ^ w
+unfolding numberFrom digits
+number-digits-from zero n before = simp (pow-zero, mul-one, mod-one, add-zero)
+number-digits-from (suc k) n before =
+    ap (λ (d : ℕ). numberFrom (before * 16 + d) (digits k n)) (value-char (n / 16 ^ k % 16) (mod-lt _ (zero-lt-suc 15)))
+    ∙ number-digits-from k n (before * 16 + n / 16 ^ k % 16) ∙ one-more k n before
+
+pub number-digits : (w n : ℕ) → n < 16 ^ w → number (digits w n) ≡ n
+number-digits w n h = number-digits-from w n 0 ∙ rw (zero-mul, zero-add) (mod-eq-of-lt h)

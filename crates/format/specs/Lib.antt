@@ -3,4 +3,6 @@ pub mod Lines
 pub mod Fields
 pub mod HexLaws
 pub mod LineLaws
+pub mod WidthLaws
+pub mod TableLaws
 pub mod FieldLaws

@@ -1,3 +1,5 @@
 mod Tables
+mod Shaping
 mod Reading
 mod Writing
+mod Putting

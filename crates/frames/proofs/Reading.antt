@@ -1,26 +1,22 @@
 -- Reading a line by the table: its fields one by one, and what the tests of `decode` say of the line.
-use Prim.Native.Nat.{ℕ, suc, _+_, _-_, _*_, _≤_, _<_}
-use mathlib.Core.Path.{_≡_, refl, sym, ap, _∙_}
-use mathlib.Core.Bool.{Bool, true, _||_}
-use mathlib.Core.Logic.{⊎-elim}
+use Prim.Native.Nat.{ℕ, _+_, _-_, _*_, _^_, _≤_, _<_}
+use mathlib.Core.Path.{_≡_, refl, sym, ap, ap₂, _∙_}
+use mathlib.Core.Bool.{true}
 use mathlib.Core.List.{List, [], _∷_, _++_, append-assoc, append-nil}
 use mathlib.Core.Option.{some}
 use native.Mathlib.Numerals.{add-one}
-use native.Mathlib.Nat.{zero-mul, mul-le-mul}
+use native.Mathlib.Nat.{zero-mul, mul-le-mul, pow-le-pow-right, zero-lt-suc}
 use native.Mathlib.Omega.{arith}
-use lib.Dec.{eqb}
 use lib.ListN.{length, take, drop, getD, set, length-set, drop-of-length-le}
-use lib.Seq.{drop-cons, drop-drop, take-suc-set}
-use borrow.Author.Tests.{eqb-true}
-use Rattle.numbers.specs.Cases.{or-true}
+use lib.Seq.{drop-cons, drop-drop, getD-take, take-suc-set}
 use Rattle.numbers.specs.Lists.{total}
 use Rattle.format.specs.Hex.{allHex, number}
-use Rattle.format.specs.Fields.{lastKind, longest, RawCall, Row, row, rows, fixed, each, count, repeats, layout, fieldsAt, kindOf, asked, callOf, read}
-use Rattle.format.specs.HexLaws.{field-fits}
-use Rattle.format.specs.FieldLaws.{WellFormed, reads, reads-none, total-layout, length-layout, take-fields}
+use Rattle.format.specs.Fields.{listed, known, longest, RawCall, fixed, each, count, repeats, layout, fieldsAt, kindOf, asked, callOf, read}
+use Rattle.format.specs.WidthLaws.{take-fields, fields-fit}
+use Rattle.format.specs.FieldLaws.{WellFormed, reads, reads-none, total-layout}
 use Rattle.frames.specs.declared.Frame.{Frame}
 use Rattle.frames.specs.Decoded.{callIn, call-none, call-some}
-use Rattle.frames.proofs.Tables.{at}
+use Rattle.frames.proofs.Shaping.{fitting-kind}
 
 -- ---- field by field: what was read, and what is left of the widths and of the line
 
@@ -34,9 +30,9 @@ module _ (ws s out : List ℕ) where
   pub reading-first : length out ≡ 32 → 2 + total ws ≤ length s → Reading ws s out 2 0
   reading-first l h = record { inside = omega arith; long = l; room = h; right = refl }
 
-  module _ (at j : ℕ) (r : Reading ws s out at j) (w : ℕ) (h : j < length ws) (e : w ≡ getD ws j 8) where
+  module _ (at j : ℕ) (r : Reading ws s out at j) (w : ℕ) (h : j < length ws) (e : w ≡ getD ws j 0) where
     next : drop j ws ≡ w ∷ drop (j + 1) ws
-    next = rw (add-one, e) (drop-cons ws j 8 h)
+    next = rw (add-one, e) (drop-cons ws j 0 h)
 
     pub reading-room : at + w + total (drop (j + 1) ws) ≤ length s
     unfolding total
@@ -65,55 +61,37 @@ module _ (ws s out : List ℕ) where
       ∙ ap (λ (a : List ℕ). take j out ++ fieldsAt a (drop at s)) (sym (drop-of-length-le ws {i = j} (omega arith)))
       ∙ r .right
 
--- as many fields as widths, which an array of 32 holds
-pub layout-long : (k n m : ℕ) → m ≡ length (fixed k) → m ≤ 8 → n ≤ 24 → (m + n ≡ length (layout k n)) × (length (layout k n) ≤ 32)
-layout-long k n m e h g = let l = length-layout k n in (omega arith, omega arith)
-
--- ---- the count: the last fixed field, of 2 digits, where fields follow
-
-inTwo : ℕ → Row → Bool
-inTwo k r = eqb (r .repeated) 0 || eqb (getD (r .widths) (length (r .widths) - 1) 0) 2
-
-last-in-two : (k : ℕ) → k ≤ lastKind → (each k ≡ 0 → ⊥) → getD (fixed k) (length (fixed k) - 1) 0 ≡ 2
-unfolding inTwo fixed each
-last-in-two k h n = ⊎-elim
-    (λ e. absurd (n (eqb-true (each k) 0 e)))
-    (λ e. eqb-true (getD (fixed k) (length (fixed k) - 1) 0) 2 e)
-    (or-true (eqb (each k) 0) (eqb (getD (fixed k) (length (fixed k) - 1) 0) 2) (at inTwo (row [] 0) rows refl k (omega arith)))
-
--- at the end of widths that are not none
-last-of : (w : ℕ) (ws cs : List ℕ) → getD (w ∷ ws) (length ws) 0 ≡ 2 → (2 ≤ total (w ∷ ws)) × (getD (fieldsAt (w ∷ ws) cs) (length ws) 0 ≡ number (take 2 (drop (total (w ∷ ws) - 2) cs)))
-unfolding total fieldsAt
-last-of w [] cs e = let z : w + 0 - 2 ≡ 0 = omega arith in (omega arith, rw (z, e))
-last-of w (v ∷ ws) cs e =
-    let r = last-of v ws (drop w cs) e in
-    let z : w + (v + total ws) - 2 ≡ w + (v + total ws - 2) = omega (arith, r .0) in
-    (omega (arith, r .0), rw (z, ← drop-drop (v + total ws - 2) w cs) (r .1))
-
-last-field : (ws cs : List ℕ) → getD ws (length ws - 1) 0 ≡ 2 → (2 ≤ total ws) × (getD (fieldsAt ws cs) (length ws - 1) 0 ≡ number (take 2 (drop (total ws - 2) cs)))
-last-field [] cs e = absurd (omega arith)
-last-field (w ∷ ws) cs e = let z : suc (length ws) - 1 ≡ length ws = omega arith in rw z (last-of w ws cs (rw z at e))
+-- ---- the count: the last of the fixed fields, where fields follow
 
 pub repeats-none : (k e : ℕ) (ns : List ℕ) → e ≡ each k → e ≡ 0 → 0 ≡ repeats k ns
 repeats-none k e ns p z = let q : each k ≡ 0 = sym p ∙ z in rw (q, zero-mul)
 
-pub repeats-are : (k e n : ℕ) (s : List ℕ) → k ≤ lastKind → e ≡ each k → (e ≡ 0 → ⊥) → n ≡ number (take 2 (drop (total (fixed k)) s)) → e * n ≡ repeats k (fieldsAt (fixed k) (drop 2 s))
-unfolding count
-repeats-are k e n s h p z q =
-    let r = last-field (fixed k) (drop 2 s) (last-in-two k h (λ y. z (p ∙ y))) in
-    let z : 2 + (total (fixed k) - 2) ≡ total (fixed k) = omega (arith, r .0) in
-    let d : drop (total (fixed k) - 2) (drop 2 s) ≡ drop (total (fixed k)) s =
-    drop-drop (total (fixed k) - 2) 2 s ∙ ap (λ (m : ℕ). drop m s) z in
-    let c : n ≡ getD (fieldsAt (fixed k) (drop 2 s)) (length (fixed k) - 1) 0 = q ∙ ap (λ (a : List ℕ). number (take 2 a)) (sym d) ∙ sym (r .1) in
-    rw (take-fields (fixed k) (drop 2 s), c, p)
+-- first holds the fixed fields that stand in cs
+module _ (k e m : ℕ) (first cs : List ℕ) (p : e ≡ each k) (q : m ≡ length (fixed k)) (r : take m first ≡ fieldsAt (fixed k) cs) (z : e ≡ 0 → ⊥) where
+  pub some-fixed : 1 ≤ m
+  some-fixed = omega (arith, fitting-kind k .counts (λ y. z (p ∙ y)) .0)
 
-pub repeats-few : (e n : ℕ) (cs : List ℕ) → e ≤ 2 → n ≡ number (take 2 cs) → e * n ≤ 512
-repeats-few e n cs h q = mul-le-mul {n₂ = 2} {m₂ = 256} h (omega (arith, q, field-fits 2 cs))
+  last-is : getD first (m - 1) 0 ≡ getD (fieldsAt (fixed k) cs) (length (fixed k) - 1) 0
+  last-is =
+      let h : m - 1 < m = omega (arith, some-fixed) in
+      sym (getD-take m first (m - 1) 0 h) ∙ ap₂ (λ (l : List ℕ) (i : ℕ). getD l (i - 1) 0) r q
+
+  pub repeats-are : e * getD first (m - 1) 0 ≡ repeats k (fieldsAt (fixed k) cs)
+  unfolding count
+  repeats-are = rw (take-fields (fixed k) cs, p) (ap (λ (n : ℕ). each k * n) last-is)
+
+  pub repeats-few : e * getD first (m - 1) 0 ≤ 512
+  repeats-few =
+      let ws : List ℕ = fixed k in
+      let f = fitting-kind k in
+      let w : getD ws (length ws - 1) listed ≤ 2 = f .counts (λ y. z (p ∙ y)) .1 in
+      let b : 16 ^ getD ws (length ws - 1) listed ≤ 256 = pow-le-pow-right (zero-lt-suc 15) w in
+      mul-le-mul {n₂ = 2} {m₂ = 256} (omega (arith, f .follow)) (omega (arith, last-is, fields-fit ws cs (length ws - 1)))
 
 -- ---- what the tests of `decode` say of a line
 
 -- the length that its kind and count ask
-pub asked-length : (l : List ℕ) → WellFormed l → (k : ℕ) → k ≡ kindOf l → length l ≡ 2 + total (fixed k) + 8 * repeats k (fieldsAt (fixed k) (drop 2 l))
+pub asked-length : (l : List ℕ) → WellFormed l → (k : ℕ) → k ≡ kindOf l → length l ≡ 2 + total (fixed k) + listed * repeats k (fieldsAt (fixed k) (drop 2 l))
 unfolding asked
 asked-length l w k e = rw e (omega (arith, w .exact, total-layout (kindOf l) (repeats (kindOf l) (fieldsAt (fixed (kindOf l)) (drop 2 l)))))
 
@@ -121,13 +99,14 @@ module _ (l : List ℕ) (f : Frame) where
   pub refused : f .kind ≡ 0 → (WellFormed l → ⊥) → callIn f ≡ read l
   refused z h = call-none f z ∙ sym (reads-none l h)
 
-  pub accepted : (k n : ℕ) → k ≡ kindOf l → n ≡ repeats k (fieldsAt (fixed k) (drop 2 l)) → length l ≤ longest → allHex l ≡ true → 1 ≤ k → k ≤ lastKind
-      → length l ≡ 2 + total (fixed k) + 8 * n → f .kind ≡ k → take (f .count) (f .fields) ≡ fieldsAt (layout k n) (drop 2 l) → callIn f ≡ read l
+  pub accepted : (k n : ℕ) → k ≡ kindOf l → n ≡ repeats k (fieldsAt (fixed k) (drop 2 l)) → length l ≤ longest → allHex l ≡ true → known k ≡ true
+      → length l ≡ 2 + total (fixed k) + listed * n → (f .kind ≡ 0 → ⊥) → f .kind ≡ k → take (f .count) (f .fields) ≡ fieldsAt (layout k n) (drop 2 l)
+      → callIn f ≡ read l
   unfolding asked callOf
-  accepted k n e q short hex low high exact fk ff =
+  accepted k n e q short hex there exact fz fk ff =
       let a : asked l ≡ layout k n = rw (q, e) in
-      let w : WellFormed l = record { short = short; hex = hex; kind-low = omega arith; kind-high = omega arith; exact = exact ∙ omega (arith, ap total a, total-layout k n) } in
-      call-some f (λ z. omega arith) ∙ ap some (same (fk ∙ e) (ff ∙ ap (λ (ws : List ℕ). fieldsAt ws (drop 2 l)) (sym a))) ∙ sym (reads l w)
+      let w : WellFormed l = record { short = short; hex = hex; kind-known = rw e at there; exact = exact ∙ omega (arith, ap total a, total-layout k n) } in
+      call-some f fz ∙ ap some (same (fk ∙ e) (ff ∙ ap (λ (ws : List ℕ). fieldsAt ws (drop 2 l)) (sym a))) ∙ sym (reads l w)
     where
       same : {i j : ℕ} {a b : List ℕ} → i ≡ j → a ≡ b → _≡_ {A = RawCall} (record { kind = i; fields = a }) (record { kind = j; fields = b })
       same p q = λ i. record { kind = p i; fields = q i }

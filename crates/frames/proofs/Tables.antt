@@ -1,47 +1,58 @@
--- A rule of a table, proved at all its entries by one test that antt computes.
-use Prim.Native.Nat.{ℕ, zero, suc, _+_, _≤_, _<_}
-use mathlib.Core.Path.{_≡_, subst}
-use mathlib.Core.Bool.{Bool, true, _&&_}
-use mathlib.Core.List.{List, [], _∷_}
-use native.Mathlib.Nat.{add-zero, zero-add}
+-- Looking for the row of a kind: the rows behind a place have it, if it was not among those before. The rows in the code are the format's, coded.
+use Prim.Native.Nat.{ℕ, _+_, _≤_, _<_}
+use mathlib.Core.Path.{_≡_, refl, sym, ap, _∙_}
+use mathlib.Core.List.{List, map}
+use native.Mathlib.Numerals.{add-one}
 use native.Mathlib.Omega.{arith}
-use borrow.Author.Tests.{eqb-true, leb-true}
-use lib.Dec.{eqb, leb}
-use lib.ListN.{length, getD}
-use Rattle.numbers.specs.Cases.{and-true}
+use borrow.Author.Tests.{eq-eqb, ne-eqb}
+use lib.ListN.{length, drop, getD, length-map, drop-of-length-le, List·getD-map}
+use lib.Seq.{drop-cons}
+use Rattle.numbers.specs.Lists.{any, padded}
+use Rattle.format.specs.Fields as format
+use Rattle.format.specs.Fields.{noRow, rowIn}
+use Rattle.format.specs.Fields.{rows, known, fixed, each}
+use Rattle.format.specs.TableLaws.{row-here, row-kind}
+use Rattle.frames.specs.declared.Row.{Row}
+use Rattle.frames.specs.Shapes.{Tabled}
 
--- the test passes at each entry and its place, counted from i
-abbrev pub every : {A : Type 0} → (ℕ → A → Bool) → ℕ → List A → Bool
-every f i [] = true
-every f i (x ∷ xs) = f i x && every f (suc i) xs
+-- a row whose widths a 0 ends
+abbrev pub coded : format.Row → Row
+coded r = record { 0 = r .kind; 1 = padded 9 (r .widths); 2 = r .repeated }
 
-from : {A : Type 0} (f : ℕ → A → Bool) (d : A) (xs : List A) (i : ℕ) → every f i xs ≡ true → (k : ℕ) → k < length xs → f (i + k) (getD xs k d) ≡ true
-from f d [] i t k h = absurd (omega arith)
-from f d (x ∷ xs) i t zero h = rw add-zero (and-true (f i x) (every f (suc i) xs) t .0)
-from f d (x ∷ xs) i t (suc k) h =
-    let e : suc i + k ≡ i + suc k = omega arith in
-    subst (λ (m : ℕ). f m (getD xs k d) ≡ true) e (from f d xs (suc i) (and-true (f i x) (every f (suc i) xs) t .1) k (omega arith))
+pub tabled : (k : ℕ) (r : Row) → r ≡ coded (rowIn rows k) → Tabled k r
+unfolding known fixed each any
+tabled k r e = record { kind = ap (λ (q : Row). q .0) e ∙ row-kind rows k; widths = ap (λ (q : Row). q .1) e; follow = ap (λ (q : Row). q .2) e }
 
-pub at : {A : Type 0} (f : ℕ → A → Bool) (d : A) (xs : List A) → every f 0 xs ≡ true → (k : ℕ) → k < length xs → f k (getD xs k d) ≡ true
-at f d xs t k h = rw zero-add at (from f d xs 0 t k h)
+pub record Looking (rs : List format.Row) (k i : ℕ) : Type 0 where
+  pub inside : i ≤ length rs
+  pub left : rowIn (drop i rs) k ≡ rowIn rs k
 
--- f of its place at each place, and nothing above the most
-abbrev pub right : (ℕ → ℕ) → ℕ → ℕ → ℕ → Bool
-right f most k x = eqb x (f k) && leb x most
+module _ (rs : List format.Row) (k : ℕ) where
+  pub looking-first : Looking rs k 0
+  looking-first = record { inside = omega arith; left = refl }
 
-pub by-table : (f : ℕ → ℕ) (most : ℕ) (xs : List ℕ) → every (right f most) 0 xs ≡ true → (k : ℕ) → k < length xs → (getD xs k 0 ≡ f k) × (getD xs k 0 ≤ most)
-by-table f most xs t k h =
-    let r = and-true (eqb (getD xs k 0) (f k)) (leb (getD xs k 0) most) (at (right f most) 0 xs t k h) in
-    (eqb-true _ _ (r .0), leb-true _ _ (r .1))
+  -- the coded row at a place, whatever stands for those past the end
+  row-at : (i : ℕ) (d : Row) → i < length rs → getD (map coded rs) i d ≡ coded (getD rs i noRow)
+  row-at i d h =
+      let g : i < length (map coded rs) = omega (arith, length-map rs coded) in
+      let e : getD (map coded rs) i d ≡ getD (map coded rs) i (coded noRow) =
+      cc (drop-cons (map coded rs) i d g, drop-cons (map coded rs) i (coded noRow) g) in
+      e ∙ List·getD-map coded rs i noRow
 
--- and in a table of rows of one length
-abbrev pub rightRow : (ℕ → ℕ → ℕ) → ℕ → ℕ → ℕ → List ℕ → Bool
-rightRow f most wide k xs = eqb (length xs) wide && every (right (f k) most) 0 xs
+  module _ (i : ℕ) (l : Looking rs k i) (d : Row) (h : i < length rs) where
+    kind-at : getD (map coded rs) i d .0 ≡ getD rs i noRow .kind
+    kind-at = ap (λ (r : Row). r .0) (row-at i d h)
 
-pub by-rows : (f : ℕ → ℕ → ℕ) (most wide : ℕ) (xss : List (List ℕ)) → every (rightRow f most wide) 0 xss ≡ true
-    → (k j : ℕ) → k < length xss → j < wide → (getD (getD xss k []) j 0 ≡ f k j) × (getD (getD xss k []) j 0 ≤ most)
-by-rows f most wide xss t k j h g =
-    let xs : List ℕ = getD xss k [] in
-    let r = and-true (eqb (length xs) wide) (every (right (f k) most) 0 xs) (at (rightRow f most wide) [] xss t k h) in
-    let e : length xs ≡ wide = eqb-true (length xs) wide (r .0) in
-    by-table (f k) most xs (r .1) j (omega arith)
+    pub looking-found : getD (map coded rs) i d .0 ≡ k → getD (map coded rs) i d ≡ coded (rowIn rs k)
+    looking-found e =
+        let f : rowIn (drop i rs) k ≡ getD rs i noRow = row-here rs i k h ∙ rw (eq-eqb (getD rs i noRow .kind) k (sym kind-at ∙ e)) in
+        row-at i d h ∙ ap coded (sym f ∙ l .left)
+
+    pub looking-next : (getD (map coded rs) i d .0 ≡ k → ⊥) → Looking rs k (i + 1)
+    looking-next n =
+        let f : rowIn (drop i rs) k ≡ rowIn (drop (i + 1) rs) k =
+        rw add-one (row-here rs i k h ∙ rw (ne-eqb (getD rs i noRow .kind) k (λ e. n (kind-at ∙ e)))) in
+        record { inside = omega arith; left = sym f ∙ l .left }
+
+  pub looking-end : (i : ℕ) → Looking rs k i → length rs ≤ i → coded noRow ≡ coded (rowIn rs k)
+  looking-end i l h = ap coded (ap (λ (qs : List format.Row). rowIn qs k) (sym (drop-of-length-le rs {i = i} h)) ∙ l .left)

@@ -2,62 +2,79 @@
 // The contracts are equations with the definitions of the crate `format`.
 ghost use mathlib.Core.Path.{_≡_};
 ghost use mathlib.Core.List.{[], _∷_};
-ghost use Prim.Native.Nat.{_+_, _≤_, _<_};
+ghost use Prim.Native.Nat.{ℕ, _+_, _≤_, _<_};
 ghost use lib.ListN.{length, getD, take, drop};
 ghost use Rattle.numbers.specs.Lists.{total};
 ghost use Rattle.format.specs.Hex.{isHex, allHex, valueOf, charOf, number, digits};
 ghost use Rattle.numbers.specs.Tails.{laid};
 ghost use Rattle.format.specs.Lines.{run, part, lineStart, lineEnd};
-ghost use Rattle.format.specs.Fields.{lastKind, fixed, each, repeats, layout, fieldsAt, read};
+ghost use Rattle.format.specs.Fields.{fixed, repeats, fieldsAt, textAt, read};
+ghost use Rattle.frames.specs.Shapes.{Tabled, Shaped};
 ghost use Rattle.frames.specs.Decoded.{callIn};
 
-// THE TABLE: for each kind from 0, which is none, the widths of its fixed fields. Behind the last stands 8, the width of what is repeated.
-const WIDTHS: [[usize; 8]; 7] = [
-    [8, 8, 8, 8, 8, 8, 8, 8], // 00 is no kind
-    [8, 10, 10, 10, 8, 8, 8, 8], // 01 set-up: CE, D, M1, M2, A
-    [2, 2, 2, 8, 8, 2, 8, 8], // 02 registration: project, developer, kind, study, day, count; levels
-    [8, 8, 8, 8, 8, 8, 8, 8], // 03 open: C
-    [2, 2, 8, 8, 8, 8, 8, 8], // 04 offer: developer, count; steps of price and level
-    [8, 8, 8, 8, 8, 8, 8, 8], // 05 close
-    [8, 8, 8, 8, 8, 8, 8, 8], // 06 settle: limit
+// The fields of a frame kind: the kind, the widths of its fixed fields, which a 0 ends, and how many fields follow for each one that the last of
+// them counts.
+struct Row(usize, [usize; 9], usize);
+
+// THE TABLE: a row for each kind.
+const ROWS: [Row; 6] = [
+    Row(1, [8, 10, 10, 10, 8, 0, 0, 0, 0], 0), // 01 set-up: CE, D, M1, M2, A
+    Row(2, [2, 2, 2, 8, 8, 2, 0, 0, 0], 1), // 02 registration: project, developer, kind, study, day, count; levels
+    Row(3, [8, 0, 0, 0, 0, 0, 0, 0, 0], 0), // 03 open: C
+    Row(4, [2, 2, 0, 0, 0, 0, 0, 0, 0], 2), // 04 offer: developer, count; steps of price and level
+    Row(5, [0, 0, 0, 0, 0, 0, 0, 0, 0], 0), // 05 close
+    Row(6, [8, 0, 0, 0, 0, 0, 0, 0, 0], 0), // 06 settle: limit
 ];
 
-// How many fixed fields a kind has, how many digits they have in all, and how many fields are repeated for each one that the last of them counts.
-const FIXED: [usize; 7] = [0, 5, 6, 1, 2, 0, 1];
+// The width of each field that follows the fixed ones.
+const LISTED: usize = 8;
 
-const SPAN: [usize; 7] = [0, 46, 24, 8, 4, 0, 8];
-
-const EACH: [usize; 7] = [0, 0, 1, 0, 2, 0, 0];
-
-fn width_at(kind: usize, j: usize) -> usize
-    requires { ⌜ kind ≤ lastKind ⌝ }
-    ensures { λ r. ⌜ (r ≡ getD (fixed kind) j 8) × (r ≤ 16) ⌝ }
+// The row of a kind; where the table has none, one of kind 0 and no fields.
+fn row_of(kind: usize) -> Row
+    ensures { λ r. ⌜ Tabled kind r ⌝ }
 {
-    if j < 8 {
-        return WIDTHS[kind][j];
+    let mut i: usize = 0;
+    while i < ROWS.len() {
+        let row = ROWS[i];
+        if row.0 == kind {
+            return row;
+        }
+        i += 1;
     }
-    8
+    Row(0, [0; 9], 0)
 }
 
-fn fixed_count(kind: usize) -> usize
-    requires { ⌜ kind ≤ lastKind ⌝ }
-    ensures { λ r. ⌜ (r ≡ length (fixed kind)) × (r ≤ 8) ⌝ }
-{
-    FIXED[kind]
+// The widths of a frame kind's fields: those of its fixed fields, then `LISTED` to the end; how many fixed fields there are and how many digits they
+// have in all; how many fields follow for each one that the last of them counts. The kind is 0 where the table has none.
+struct Shape {
+    kind: usize,
+    fixed: usize,
+    span: usize,
+    each: usize,
+    widths: [usize; 32],
 }
 
-fn span(kind: usize) -> usize
-    requires { ⌜ kind ≤ lastKind ⌝ }
-    ensures { λ r. ⌜ (r ≡ total (fixed kind)) × (r ≤ 64) ⌝ }
+fn shape_of(kind: usize) -> Shape
+    ensures { λ r. ⌜ Shaped kind r ⌝ }
 {
-    SPAN[kind]
-}
-
-fn each_of(kind: usize) -> usize
-    requires { ⌜ kind ≤ lastKind ⌝ }
-    ensures { λ r. ⌜ (r ≡ each kind) × (r ≤ 2) ⌝ }
-{
-    EACH[kind]
+    let row = row_of(kind);
+    let fixed = row.1;
+    let mut widths: [usize; 32] = [LISTED; 32];
+    let mut count: usize = 0;
+    let mut span: usize = 0;
+    while fixed[count] != 0 {
+        let w = fixed[count];
+        widths[count] = w;
+        span += w;
+        count += 1;
+    }
+    Shape {
+        kind: row.0,
+        fixed: count,
+        span: span,
+        each: row.2,
+        widths: widths,
+    }
 }
 
 // Whether a byte is one of 0-9 and A-F.
@@ -90,7 +107,7 @@ fn all_hex(line: &[u8]) -> bool
 }
 
 // The value of a digit; some number below 16 of any other byte.
-fn value_of(c: u8) -> u64
+pub fn value_of(c: u8) -> u64
     ensures { λ r. ⌜ r ≡ valueOf c ⌝ }
 {
     if c < 48 {
@@ -124,18 +141,6 @@ fn field(line: &[u8], start: usize, width: usize) -> u64
     number_of(&line[start..start + width])
 }
 
-// How many fields follow the fixed ones: the last of those counts, in 2 digits, where any follow.
-fn repeated(line: &[u8], kind: usize) -> usize
-    requires { ⌜ (kind ≤ lastKind) × (2 + total (fixed kind) ≤ length (now line)) ⌝ }
-    ensures { λ r. ⌜ (r ≡ repeats kind (fieldsAt (fixed kind) (drop 2 (now (line .entry))))) × (r ≤ 512) ⌝ }
-{
-    let each = each_of(kind);
-    if each == 0 {
-        return 0;
-    }
-    each * field(line, span(kind), 2) as usize
-}
-
 // A frame that was read: its kind, or 0 of a malformed line, and its fields, of which there are `count`.
 pub struct Frame {
     pub kind: usize,
@@ -144,9 +149,7 @@ pub struct Frame {
 }
 
 impl Frame {
-    // The kinds are 1 to this, and a line has at most so many characters.
-    pub const LAST_KIND: usize = 6;
-
+    // The most characters of a line.
     pub const LONGEST: usize = 160;
 }
 
@@ -166,26 +169,35 @@ fn malformed() -> Frame
     }
 }
 
-// The fields of a line of this kind, so many of them behind the fixed ones.
-fn read_fields(line: &[u8], kind: usize, more: usize) -> Frame
-    requires { ⌜ (kind ≤ lastKind) × (more ≤ 24) × (2 + total (layout kind more) ≤ length (now line)) ⌝ }
-    ensures { λ r. ⌜ (r .kind ≡ kind) × (take (r .count) (r .fields) ≡ fieldsAt (layout kind more) (drop 2 (now (line .entry)))) ⌝ }
+// The numbers that stand at the first n widths behind the kind.
+fn read_fields(line: &[u8], widths: [usize; 32], n: usize) -> [u64; 32]
+    requires { ⌜ (n ≤ 32) × (2 + total (take n widths) ≤ length (now line)) × ((j : ℕ) → getD widths j 0 ≤ 16) ⌝ }
+    ensures { λ r. ⌜ take n r ≡ fieldsAt (take n widths) (drop 2 (now (line .entry))) ⌝ }
 {
-    let n = fixed_count(kind) + more;
     let mut fields = no_fields();
     let mut at: usize = 2;
     let mut j: usize = 0;
     while j < n {
-        let w = width_at(kind, j);
+        let w = widths[j];
         fields[j] = field(line, at, w);
         at += w;
         j += 1;
     }
-    Frame {
-        kind: kind,
-        count: n,
-        fields: fields,
+    fields
+}
+
+// How many fields follow the fixed ones: so many for each one that the last of those counts.
+fn repeated(line: &[u8], shape: Shape) -> usize
+    requires { ⌜ Shaped (shape .kind) shape × (2 + shape .span ≤ length (now line)) ⌝ }
+    ensures { λ r. ⌜ (r ≡ repeats (shape .kind) (fieldsAt (fixed (shape .kind)) (drop 2 (now (line .entry))))) × (r ≤ 512) ⌝ }
+{
+    if shape.each == 0 {
+        return 0;
     }
+    let widths = shape.widths;
+    let first = read_fields(line, widths, shape.fixed);
+    let last = shape.fixed - 1;
+    shape.each * first[last] as usize
 }
 
 // A line read by the table.
@@ -202,22 +214,25 @@ pub fn decode(line: &[u8]) -> Frame
     if !all_hex(line) {
         return malformed();
     }
-    let kind = field(line, 0, 2) as usize;
-    if kind < 1 {
+    let shape = shape_of(field(line, 0, 2) as usize);
+    if shape.kind == 0 {
         return malformed();
     }
-    if Frame::LAST_KIND < kind {
-        return malformed();
-    }
-    let head = 2 + span(kind);
+    let head = 2 + shape.span;
     if len < head {
         return malformed();
     }
-    let more = repeated(line, kind);
-    if len != head + 8 * more {
+    let more = repeated(line, shape);
+    if len != head + LISTED * more {
         return malformed();
     }
-    read_fields(line, kind, more)
+    let n = shape.fixed + more;
+    let widths = shape.widths;
+    Frame {
+        kind: shape.kind,
+        count: n,
+        fields: read_fields(line, widths, n),
+    }
 }
 
 // How many bytes stand before the first 0A, or before the end.
@@ -277,4 +292,35 @@ pub fn put_byte(out: &mut [u8], b: u8)
     ensures { λ _. ⌜ now (out .exit) ≡ laid (b ∷ []) (now (out .entry)) ⌝ }
 {
     out[0] = b;
+}
+
+// How many digits fields of these widths have.
+pub fn span_of(widths: &[usize]) -> usize
+    requires { ⌜ total (now widths) ≤ 65536 ⌝ }
+    ensures { λ r. ⌜ r ≡ total (now (widths .entry)) ⌝ }
+{
+    let mut sum: usize = 0;
+    let mut j: usize = 0;
+    while j < widths.len() {
+        sum += widths[j];
+        j += 1;
+    }
+    sum
+}
+
+// Writes values at their widths, one behind the other, at the start of a buffer, and gives how many digits that are.
+pub fn put_fields(out: &mut [u8], widths: &[usize], values: &[u64]) -> usize
+    requires { ⌜ (length (now widths) ≤ length (now values)) × (total (now widths) ≤ length (now out)) ⌝ }
+    ensures { λ r. ⌜ r ≡ total (now (widths .entry)) ⌝ }
+    ensures { λ _. ⌜ now (out .exit) ≡ laid (textAt (now (widths .entry)) (now (values .entry))) (now (out .entry)) ⌝ }
+{
+    let mut at: usize = 0;
+    let mut j: usize = 0;
+    while j < widths.len() {
+        let w = widths[j];
+        put_hex(&mut out[at..], values[j], w);
+        at += w;
+        j += 1;
+    }
+    at
 }

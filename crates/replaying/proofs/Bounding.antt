@@ -4,33 +4,21 @@ use mathlib.Core.Path.{_≡_, sym, ap}
 use mathlib.Core.Bool.{true, false}
 use mathlib.Core.List.{List, map}
 use native.Mathlib.Omega.{arith}
-use borrow.Author.Tests.{le-leb, lt-leb, leb-true, ne-eqb}
+use borrow.Author.Tests.{le-leb, lt-leb, leb-true}
 use lib.Dec.{leb}
 use lib.ListN.{length, drop, getD, List·getD-eq-default}
 use Rattle.numbers.specs.Lists.{total}
+use Rattle.format.specs.Hex.{valueOf}
 use Rattle.format.specs.Lines.{part, lineStart, lineEnd}
 use Rattle.format.specs.LineLaws.{line-inside, next-line, no-line}
 use Rattle.replies.specs.Replies.{replies}
-use Rattle.replies.specs.Lengths.{mostTo, mostIn, replies-bound}
+use Rattle.replies.specs.Lengths.{mostOf, mostTo, mostIn, replies-bound}
 
--- ---- one line, by its second digit
+-- a line too short to have a second digit
 
-module _ (l : List ℕ) where
-  pub most-short : length l < 2 → 5 ≡ mostTo l
-  unfolding mostTo
-  most-short h = let e : getD l 1 0 ≡ 0 = List·getD-eq-default l 0 {n = 1} (omega arith) in rw e
-
-  pub most-closing : getD l 1 0 ≡ 53 → 21 ≡ mostTo l
-  unfolding mostTo
-  most-closing e = rw e
-
-  pub most-settling : getD l 1 0 ≡ 54 → 435 ≡ mostTo l
-  unfolding mostTo
-  most-settling e = rw e
-
-  pub most-other : (getD l 1 0 ≡ 53 → ⊥) → (getD l 1 0 ≡ 54 → ⊥) → 5 ≡ mostTo l
-  unfolding mostTo
-  most-other h k = rw (ne-eqb (getD l 1 0) 53 h, ne-eqb (getD l 1 0) 54 k)
+pub most-short : (l : List ℕ) → length l < 2 → mostOf 0 ≡ mostTo l
+unfolding mostTo valueOf
+most-short l h = let e : getD l 1 0 ≡ 0 = List·getD-eq-default l 0 {n = 1} (omega arith) in rw e
 
 -- ---- all lines: what was added and what is left are all
 

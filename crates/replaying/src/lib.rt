@@ -23,20 +23,14 @@ fn step(auction: Auction, line: &[u8]) -> Turn
     turns::respond(auction, frames::decode(line))
 }
 
-// At least as many bytes as the reply to a line has.
+// At least as many bytes as the reply to a line has, by its second digit.
 fn most(line: &[u8]) -> usize
     ensures { λ r. ⌜ r ≡ mostTo (now (line .entry)) ⌝ }
 {
     if line.len() < 2 {
-        return 5;
+        return reply_text::most(0);
     }
-    if line[1] == 53 {
-        return 21;
-    }
-    if line[1] == 54 {
-        return 435;
-    }
-    5
+    reply_text::most(frames::value_of(line[1]) as u8)
 }
 
 // Whether so many bytes are surely enough for the replies, by the lines alone: no call is made.
@@ -102,10 +96,9 @@ fn write(bytes: &[u8], out: &mut [u8]) -> usize
         let line = frames::next_line(bytes, read);
         let turn = step(auction, line);
         let reply = turn.reply;
-        reply_text::put(&mut out[written..], reply);
+        written += reply_text::put(&mut out[written..], reply);
         let next = turn.auction;
         auction = next;
-        written += reply_text::size(reply);
         read = read + line.len() + 1;
     }
     written

@@ -1,35 +1,54 @@
 -- How long replies are: award records in digits, and a bound on the reply to a line by the line's second digit alone.
-use Prim.Native.Nat.{ℕ, suc, min, _+_, _-_, _*_, _%_, _≤_}
+use Prim.Native.Nat.{ℕ, suc, min, _+_, _*_, _≤_, _<_}
 use mathlib.Core.Path.{_≡_, refl, sym, ap, _∙_}
-use mathlib.Core.Logic.{⊎-elim}
-use mathlib.Core.Bool.{Bool, true, false, cond, _&&_}
+use mathlib.Core.Logic.{_⊎_, inl, inr, ⊎-elim}
+use mathlib.Core.Bool.{Bool, true, false, cond}
 use mathlib.Core.List.{List, [], _∷_, _++_, map, flatten, append-assoc, List·Memᴰ, List·Memᴰ·head, List·Memᴰ·tail, List·Memᴰ·not-nil, List·Memᴰ·cases-cons}
 use mathlib.Core.Option.{Option, none, some}
 use native.Mathlib.Omega.{arith}
-use borrow.Author.Tests.{leb-true, eqb-true, eqb-false}
+use borrow.Author.Tests.{leb-true, ne-eqb, eqb-true, eqb-false}
 use lib.Dec.{eqb, leb}
 use lib.ListN.{length, getD, length-append}
-use Rattle.numbers.specs.Cases.{and-true, or-true, clash}
-use Rattle.numbers.specs.Lists.{total, all}
+use Rattle.numbers.specs.Lists.{total}
 use Rattle.numbers.specs.ListLaws.{Each}
-use Rattle.format.specs.Hex.{isHex, valueOf, digits, numberFrom}
+use Rattle.format.specs.Hex.{valueOf, digits, numberFrom}
 use Rattle.format.specs.HexLaws.{length-digits, value-lt}
 use Rattle.format.specs.Fields.{RawCall, callOf, read}
 use Rattle.format.specs.Fields as fields
 use Rattle.format.specs.Lines.{lines}
+use Rattle.format.specs.WidthLaws.{length-text}
 use Rattle.format.specs.FieldLaws.{WellFormed, was-read}
-use Rattle.rules.specs.Ledger.{SetUp, Register, Open, By, Close, Ledger, start}
+use Rattle.rules.specs.Ledger.{Ledger, start}
 use Rattle.rules.specs.Refusals.{check, isClosed}
-use Rattle.rules.specs.Rounds.{answer}
+use Rattle.rules.specs.Rounds.{Answered, answer}
 use Rattle.rules.specs.Award.{award, winner, admissible}
 use Rattle.rules.specs.Clearing.{closingPrice}
 use Rattle.rules.specs.Settling.{recordOf, recordsFrom, records, settlementAt, settlement, settlingNumber}
-use Rattle.replies.specs.Orders.{Order, Malformed, Asks, Settle, setUpOf, registrationOf, offerOf, orderOf, ordered, orderIn}
-use Rattle.replies.specs.Replies.{kindOf, extra, twosComplement, recordDigits, settledDigits, answerLine, replyTo, after, repliesFrom, replies}
+use Rattle.replies.specs.Orders.{Order, Malformed, Asks, Settle, orderOf, ordered, orderIn}
+use Rattle.replies.specs.Replies.{kindOf, widthsOf, valuesOf, closingFields, settlingHead, settlingTail, recordDigits, closingText, settlingText}
+use Rattle.replies.specs.Replies.{answerLine, awardRoom, replyTo, after, repliesFrom, replies}
 
--- at least as many bytes as the reply to a line has: 21 to a closing, 435 to a settling with 32 awards, 5 to any other line
+-- what a reply of this kind can add: the widths of the fields before its award records, the most bytes of those, the widths behind them
+unfoldable pub headWidths : ℕ → List ℕ
+headWidths k = cond (eqb k 5) (widthsOf closingFields) (cond (eqb k 6) (widthsOf settlingHead) [])
+
+unfoldable pub roomOf : ℕ → ℕ
+roomOf k = cond (eqb k 6) awardRoom 0
+
+unfoldable pub tailWidths : ℕ → List ℕ
+tailWidths k = cond (eqb k 6) (widthsOf settlingTail) []
+
+-- kind, answer and 0A
+abbrev pub bare : ℕ
+bare = 5
+
+-- the most bytes of a reply of this kind, each byte of a record being two digits
+unfoldable pub mostOf : ℕ → ℕ
+mostOf k = bare + total (headWidths k) + 2 * roomOf k + total (tailWidths k)
+
+-- at least as many bytes as the reply to a line has, by its second digit, which is its kind if that is below 16
 unfoldable pub mostTo : List ℕ → ℕ
-mostTo line = cond (eqb (getD line 1 0) 53) 21 (cond (eqb (getD line 1 0) 54) 435 5)
+mostTo line = mostOf (valueOf (getD line 1 0))
 
 -- the same of a record
 unfoldable pub mostIn : List ℕ → ℕ
@@ -74,124 +93,121 @@ pub six : (l : Ledger) → Each (λ r. length r ≡ 6) (settlement l .records)
 unfolding records settlement settlementAt
 six l = six-from l (closingPrice l) 1 (award l (closingPrice l))
 
-pub few : (l : Ledger) (limit : ℕ) → settlingNumber l limit 192 ≡ 0 → length (settlement l .records) ≤ 32
+pub few : (l : Ledger) (limit : ℕ) → settlingNumber l limit awardRoom ≡ 0 → 6 * length (settlement l .records) ≤ awardRoom
 unfolding settlingNumber settlement settlementAt
-few l limit e = go (isClosed (l .phase)) (leb (length (admissible l (closingPrice l))) (min limit 65536)) (leb (6 * length (records l (closingPrice l))) 192) refl e
+few l limit e = go (isClosed (l .phase)) (leb (length (admissible l (closingPrice l))) (min limit 65536)) (leb size awardRoom) refl e
   where
-    go : (x y z : Bool) → leb (6 * length (records l (closingPrice l))) 192 ≡ z → check x 2 (check y 10 (check z 11 0)) ≡ 0 → length (records l (closingPrice l)) ≤ 32
-    go true true true h e = omega (arith, leb-true (6 * length (records l (closingPrice l))) 192 h)
+    size : ℕ
+    size = 6 * length (records l (closingPrice l))
+
+    go : (x y z : Bool) → leb size awardRoom ≡ z → check x 2 (check y 10 (check z 11 0)) ≡ 0 → size ≤ awardRoom
+    go true true true h e = leb-true size awardRoom h
     go true true false h e = absurd (omega arith)
     go true false z h e = absurd (omega arith)
     go false y z h e = absurd (omega arith)
 
-settled-length : (l : Ledger) → length (settledDigits (settlement l)) ≡ 46 + 12 * length (settlement l .records)
-unfolding settledDigits
+settled-length : (l : Ledger) → length (settlingText (settlement l)) ≡ total (headWidths 6) + 12 * length (settlement l .records) + total (tailWidths 6)
+unfolding settlingText headWidths tailWidths
 settled-length l =
     let rs : List (List ℕ) = settlement l .records in
     let n : length (flatten (map recordDigits rs)) ≡ 12 * length rs =
     omega (arith, ap length (flat-digits rs), bytes-length (flatten rs), flat-length rs (six l)) in
-    simp (length-append, length-digits) (omega (arith, n))
+    simp (length-append, length-text) (omega (arith, n))
 
 -- ---- the reply to an order
 
-line-length : (k n b : ℕ) (added : List ℕ) → (n ≡ 0 → length added ≤ b) → length (answerLine k n added) ≤ 5 + b
+line-length : (k n b : ℕ) (added : List ℕ) → (n ≡ 0 → bare + length added ≤ b) → bare ≤ b → length (answerLine k n added) ≤ b
 unfolding answerLine
-line-length k n b added h = simp (length-append, length-digits) (omega (arith, go (eqb n 0) refl))
+line-length k n b added h least = simp (length-append, length-digits) (omega (arith, go (eqb n 0) refl))
   where
-    go : (t : Bool) → eqb n 0 ≡ t → length (cond t added []) ≤ b
+    go : (t : Bool) → eqb n 0 ≡ t → bare + length (cond t added []) ≤ b
     go true e = h (eqb-true n 0 e)
     go false e = omega arith
 
+least-most : (k : ℕ) → bare ≤ mostOf k
+unfolding mostOf
+least-most k = omega arith
+
+call-length : (r : Answered) (k : ℕ) → length (cond (eqb k 5) (closingText r) []) ≤ total (headWidths k)
+unfolding closingText headWidths
+call-length r k = go (eqb k 5)
+  where
+    go : (t : Bool) → length (cond t (closingText r) []) ≤ total (cond t (widthsOf closingFields) (cond (eqb k 6) (widthsOf settlingHead) []))
+    go true = omega (arith, length-text (widthsOf closingFields) (valuesOf closingFields r))
+    go false = omega arith
+
+call-most : (r : Answered) (k : ℕ) → bare + length (cond (eqb k 5) (closingText r) []) ≤ mostOf k
+unfolding mostOf
+call-most r k = omega (arith, call-length r k)
+
+settling-most : (l : Ledger) (limit : ℕ) → settlingNumber l limit awardRoom ≡ 0 → bare + length (settlingText (settlement l)) ≤ mostOf 6
+unfolding mostOf roomOf
+settling-most l limit e = omega (arith, settled-length l, few l limit e)
+
 -- by what is asked: the most bytes of the reply
 unfoldable most : Order → ℕ
-most Malformed = 5
-most (Asks (SetUp s)) = 5
-most (Asks (Register n x)) = 5
-most (Asks (Open c)) = 5
-most (Asks (By n m)) = 5
-most (Asks Close) = 21
-most (Settle limit) = 435
+most Malformed = bare
+most (Asks c) = mostOf (kindOf c)
+most (Settle limit) = mostOf 6
 
 reply-most : (l : Ledger) (o : Order) → length (replyTo l o) ≤ most o
 unfolding replyTo most
-reply-most l Malformed = line-length 255 12 0 [] (λ e. omega arith)
-reply-most l (Asks (SetUp s)) = line-length 1 (answer l (SetUp s) .number) 0 [] (λ e. omega arith)
-reply-most l (Asks (Register n x)) = line-length 2 (answer l (Register n x) .number) 0 [] (λ e. omega arith)
-reply-most l (Asks (Open c)) = line-length 3 (answer l (Open c) .number) 0 [] (λ e. omega arith)
-reply-most l (Asks (By n m)) = line-length (kindOf (By n m)) (answer l (By n m) .number) 0 [] (λ e. omega arith)
-reply-most l (Asks Close) = line-length 5 (answer l Close .number) 16 (extra Close (answer l Close)) (λ e. omega (arith, length-digits 16 (twosComplement (answer l Close .excess))))
-reply-most l (Settle limit) =
-    line-length 6 (settlingNumber l limit 192) 430 (settledDigits (settlement l)) (λ e. omega (arith, settled-length l, few l limit e))
+reply-most l Malformed = line-length 255 12 bare [] (λ e. omega arith) (omega arith)
+reply-most l (Asks c) = line-length (kindOf c) (answer l c .number) (mostOf (kindOf c)) _ (λ e. call-most (answer l c) (kindOf c)) (least-most (kindOf c))
+reply-most l (Settle limit) = line-length 6 (settlingNumber l limit awardRoom) (mostOf 6) _ (settling-most l limit) (least-most 6)
 
 -- ---- the second digit of a line says what it asks
 
-value-of-digit : (c : ℕ) → isHex c ≡ true → valueOf c ≤ 9 → c ≡ 48 + valueOf c
-unfolding isHex valueOf
-value-of-digit c h v = go (leb c 57) refl v
-  where
-    go : (t : Bool) → leb c 57 ≡ t → cond t (c - 48) ((c - 55) % 16) ≤ 9 → c ≡ 48 + cond t (c - 48) ((c - 55) % 16)
-    go true e v =
-        ⊎-elim
-        (λ g. omega (arith, leb-true 48 c (and-true (leb 48 c) (leb c 57) g .0)))
-        (λ g. omega (arith, leb-true 65 c (and-true (leb 65 c) (leb c 70) g .0), leb-true c 57 e))
-        (or-true (leb 48 c && leb c 57) (leb 65 c && leb c 70) h)
-    go false e v =
-        ⊎-elim
-        (λ g. absurd (clash (and-true (leb 48 c) (leb c 57) g .1) e))
-        (λ g. let b = and-true (leb 65 c) (leb c 70) g in omega (arith, leb-true 65 c (b .0), leb-true c 70 (b .1), v))
-        (or-true (leb 48 c && leb c 57) (leb 65 c && leb c 70) h)
-
-second : (l : List ℕ) (k : ℕ) → WellFormed l → fields.kindOf l ≡ k → k ≤ 9 → getD l 1 0 ≡ 48 + k
-unfolding fields.kindOf numberFrom all
+second : (l : List ℕ) (k : ℕ) → WellFormed l → fields.kindOf l ≡ k → k < 16 → valueOf (getD l 1 0) ≡ k
+unfolding fields.kindOf numberFrom
 second [] k w e h = absurd (omega (arith, w .exact))
 second (c ∷ []) k w e h = absurd (omega (arith, w .exact))
 second (c ∷ d ∷ rest) k w e h =
-    let t = and-true (isHex c) (isHex d && all isHex rest) (w .hex) in
-    let hex : isHex d ≡ true = and-true (isHex d) (all isHex rest) (t .1) .0 in
     let v : (0 * 16 + valueOf c) * 16 + valueOf d ≡ k = e in
-    omega (arith, value-lt d, v, value-of-digit d hex (omega (arith, value-lt d, v)))
+    omega (arith, value-lt d, v)
 
-least : (line : List ℕ) → 5 ≤ mostTo line
-unfolding mostTo
-least line = go (eqb (getD line 1 0) 53) (eqb (getD line 1 0) 54)
+cond-most : (b : Bool) (x y : Order) → most (cond b x y) ≡ cond b (most x) (most y)
+cond-most true x y = refl
+cond-most false x y = refl
+
+cond-same : (b : Bool) (n : ℕ) → cond b n n ≡ n
+cond-same true n = refl
+cond-same false n = refl
+
+-- the kinds that add nothing
+others-most : (c : RawCall) → (c .kind ≡ 5 → ⊥) → (c .kind ≡ 6 → ⊥) → most (orderOf c) ≡ bare
+unfolding most orderOf mostOf headWidths roomOf tailWidths total
+others-most c h5 h6 = simp (cond-most, ne-eqb (c .kind) 5 h5, ne-eqb (c .kind) 6 h6, cond-same)
+
+adding-most : (k : ℕ) (ns : List ℕ) → (k ≡ 5) ⊎ (k ≡ 6) → most (orderOf (record { kind = k; fields = ns })) ≡ mostOf k
+unfolding most orderOf
+adding-most k ns e = ⊎-elim (λ h. rw h) (λ h. rw h) e
+
+line-most : (line : List ℕ) → WellFormed line → most (orderOf (callOf line)) ≤ mostTo line
+unfolding callOf mostTo
+line-most line w = go (eqb k 5) (eqb k 6) refl refl
   where
-    go : (s t : Bool) → 5 ≤ cond s 21 (cond t 435 5)
-    go true t = omega arith
-    go false true = omega arith
-    go false false = omega arith
+    k : ℕ
+    k = fields.kindOf line
 
-module _ (line : List ℕ) (w : WellFormed line) where
-  closing-most : fields.kindOf line ≡ 5 → 21 ≤ mostTo line
-  unfolding mostTo
-  closing-most e = rw (second line 5 w e (omega arith)) (omega arith)
+    known : (k ≡ 5) ⊎ (k ≡ 6) → k < 16
+    known e = ⊎-elim (λ h. omega arith) (λ h. omega arith) e
 
-  settling-most : fields.kindOf line ≡ 6 → 435 ≤ mostTo line
-  unfolding mostTo
-  settling-most e = rw (second line 6 w e (omega arith)) (omega arith)
+    adds : (k ≡ 5) ⊎ (k ≡ 6) → most (orderOf (callOf line)) ≤ mostTo line
+    adds e = omega (arith, adding-most k (callOf line .fields) e, ap mostOf (second line k w refl (known e)))
 
-  call-most : most (orderOf (callOf line)) ≤ mostTo line
-  unfolding most orderOf callOf
-  call-most = go (eqb k 1) (eqb k 2) (eqb k 3) (eqb k 4) (eqb k 5) refl refl refl refl refl
-    where
-      k : ℕ
-      k = fields.kindOf line
-
-      go : (a b c d e : Bool) → eqb k 1 ≡ a → eqb k 2 ≡ b → eqb k 3 ≡ c → eqb k 4 ≡ d → eqb k 5 ≡ e → most (cond a (Asks (setUpOf (callOf line .fields))) (cond b (Asks (registrationOf (callOf line .fields))) (cond c (Asks (Open (getD (callOf line .fields) 0 0))) (cond d (Asks (offerOf (callOf line .fields))) (cond e (Asks Close) (Settle (getD (callOf line .fields) 0 0))))))) ≤ mostTo line
-      go true b c d e h1 h2 h3 h4 h5 = least line
-      go false true c d e h1 h2 h3 h4 h5 = least line
-      go false false true d e h1 h2 h3 h4 h5 = least line
-      go false false false true e h1 h2 h3 h4 h5 = least line
-      go false false false false true h1 h2 h3 h4 h5 = closing-most (eqb-true k 5 h5)
-      go false false false false false h1 h2 h3 h4 h5 =
-          settling-most (omega (arith, w .kind-low, w .kind-high, eqb-false k 1 h1, eqb-false k 2 h2, eqb-false k 3 h3, eqb-false k 4 h4, eqb-false k 5 h5))
+    go : (a b : Bool) → eqb k 5 ≡ a → eqb k 6 ≡ b → most (orderOf (callOf line)) ≤ mostTo line
+    go true b e f = adds (inl (eqb-true k 5 e))
+    go false true e f = adds (inr (eqb-true k 6 f))
+    go false false e f = omega (arith, others-most (callOf line) (eqb-false k 5 e) (eqb-false k 6 f), least-most (valueOf (getD line 1 0)))
 
 order-most : (line : List ℕ) → most (orderIn line) ≤ mostTo line
-unfolding orderIn ordered most
+unfolding orderIn ordered most mostTo
 order-most line = go (read line) refl
   where
     go : (r : Option RawCall) → read line ≡ r → most (ordered r) ≤ mostTo line
-    go none e = least line
-    go (some c) e = let r = was-read line c e in rw (sym (r .1)) (call-most line (r .0))
+    go none e = least-most (valueOf (getD line 1 0))
+    go (some c) e = let r = was-read line c e in rw (sym (r .1)) (line-most line (r .0))
 
 reply-bound : (l : Ledger) (line : List ℕ) → length (replyTo l (orderIn line)) ≤ mostTo line
 reply-bound l line = omega (arith, reply-most l (orderIn line), order-most line)
@@ -200,7 +216,8 @@ bound-from : (l : Ledger) (ls : List (List ℕ)) → length (repliesFrom l ls) �
 unfolding repliesFrom total
 bound-from l [] = omega arith
 bound-from l (line ∷ ls) =
-    omega (arith, length-append (replyTo l (orderIn line)) (repliesFrom (after l (orderIn line)) ls), reply-bound l line, bound-from (after l (orderIn line)) ls)
+    let next : Ledger = after l (orderIn line) in
+    omega (arith, length-append (replyTo l (orderIn line)) (repliesFrom next ls), reply-bound l line, bound-from next ls)
 
 pub replies-bound : (bytes : List ℕ) → length (replies bytes) ≤ mostIn bytes
 unfolding replies mostIn

@@ -42,7 +42,7 @@ registrationOf ns = Register (getD ns 1 0) (record {
 abbrev pub offerOf : List ℕ → Call
 offerOf ns = By (getD ns 0 0) (Offer (firsts (drop 2 ns)) (seconds (drop 2 ns)))
 
--- by the frame's kind
+-- by the frame's kind; a kind that asks nothing would be malformed, though the table had it
 unfoldable pub orderOf : RawCall → Order
 orderOf c =
     cond (eqb (c .kind) 1) (Asks (setUpOf (c .fields)))
@@ -50,7 +50,8 @@ orderOf c =
     (cond (eqb (c .kind) 3) (Asks (Open (getD (c .fields) 0 0)))
     (cond (eqb (c .kind) 4) (Asks (offerOf (c .fields)))
     (cond (eqb (c .kind) 5) (Asks Close)
-    (Settle (getD (c .fields) 0 0))))))
+    (cond (eqb (c .kind) 6) (Settle (getD (c .fields) 0 0))
+    Malformed)))))
 
 unfoldable pub ordered : Option RawCall → Order
 ordered none = Malformed

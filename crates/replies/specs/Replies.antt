@@ -6,6 +6,7 @@ use lib.Dec.{eqb}
 use lib.IntN.{ℤ, pos, negsuc}
 use lib.ListN.{length}
 use Rattle.format.specs.Hex.{digits}
+use Rattle.format.specs.Fields.{textAt}
 use Rattle.format.specs.Lines.{lines}
 use Rattle.rules.specs.Ledger.{Offer, Call, SetUp, Register, Open, By, Close, Ledger, start}
 use Rattle.rules.specs.Rounds.{step, Answered, answer}
@@ -24,23 +25,55 @@ abbrev pub twosComplement : ℤ → ℕ
 twosComplement (pos n) = n
 twosComplement (negsuc n) = 2 ^ 64 - suc n
 
--- what the accepted answer to a call adds: to a closing its excess, 16 digits
-abbrev pub extra : Call → Answered → List ℕ
-extra (SetUp s) r = []
-extra (Register n x) r = []
-extra (Open c) r = []
-extra (By n m) r = []
-extra Close r = digits 16 (twosComplement (r .excess))
+-- ---- what an accepted reply adds: fields at their widths, and between them the award records
 
--- an award record's bytes project, developer, quantity (4), as digits: each byte is two of them
+-- so many digits of a value
+pub record Field (A : Type 0) : Type 0 where
+  pub width : ℕ
+  pub value : A → ℕ
+
+abbrev pub field : {A : Type 0} → ℕ → (A → ℕ) → Field A
+field w v = record { width = w; value = v }
+
+abbrev pub widthsOf : {A : Type 0} → List (Field A) → List ℕ
+widthsOf fs = map (λ f. f .width) fs
+
+abbrev pub valuesOf : {A : Type 0} → List (Field A) → A → List ℕ
+valuesOf fs x = map (λ f. f .value x) fs
+
+abbrev pub fieldsText : {A : Type 0} → List (Field A) → A → List ℕ
+fieldsText fs x = textAt (widthsOf fs) (valuesOf fs x)
+
+-- 05 adds the excess, in two's complement
+abbrev pub closingFields : List (Field Answered)
+closingFields = field 16 (λ r. twosComplement (r .excess)) ∷ []
+
+-- 06 adds P, Dem, total, choices, covering, awards, ..
+abbrev pub settlingHead : List (Field Settlement)
+settlingHead =
+    field 8 (λ s. s .price)
+    ∷ field 10 (λ s. s .demand)
+    ∷ field 10 (λ s. s .total)
+    ∷ field 8 (λ s. s .choices)
+    ∷ field 8 (λ s. s .covering)
+    ∷ field 2 (λ s. length (s .records))
+    ∷ []
+
+-- .. then each award record's bytes project, developer, quantity (4), two digits a byte, ..
 abbrev pub recordDigits : List ℕ → List ℕ
 recordDigits bytes = flatten (map (digits 2) bytes)
 
--- what an accepted settling adds: P 8, Dem 10, total 10, choices 8, covering 8, awards 2, then project 2, developer 2, quantity 8
-unfoldable pub settledDigits : Settlement → List ℕ
-settledDigits s =
-    digits 8 (s .price) ++ digits 10 (s .demand) ++ digits 10 (s .total) ++ digits 8 (s .choices) ++ digits 8 (s .covering)
-    ++ digits 2 (length (s .records)) ++ flatten (map recordDigits (s .records))
+-- .. and behind the records nothing
+abbrev pub settlingTail : List (Field Settlement)
+settlingTail = []
+
+unfoldable pub closingText : Answered → List ℕ
+closingText r = fieldsText closingFields r
+
+unfoldable pub settlingText : Settlement → List ℕ
+settlingText s = fieldsText settlingHead s ++ flatten (map recordDigits (s .records)) ++ fieldsText settlingTail s
+
+-- ---- the replies
 
 -- the kind, the answer, what is added if it is accepted, and 0A
 unfoldable pub answerLine : ℕ → ℕ → List ℕ → List ℕ
@@ -53,8 +86,8 @@ awardRoom = 192
 -- a malformed line gets FF0C
 unfoldable pub replyTo : Ledger → Order → List ℕ
 replyTo l Malformed = answerLine 255 12 []
-replyTo l (Asks c) = answerLine (kindOf c) (answer l c .number) (extra c (answer l c))
-replyTo l (Settle limit) = answerLine 6 (settlingNumber l limit awardRoom) (settledDigits (settlement l))
+replyTo l (Asks c) = answerLine (kindOf c) (answer l c .number) (cond (eqb (kindOf c) 5) (closingText (answer l c)) [])
+replyTo l (Settle limit) = answerLine 6 (settlingNumber l limit awardRoom) (settlingText (settlement l))
 
 -- settling and malformed lines change no auction
 unfoldable pub after : Ledger → Order → Ledger

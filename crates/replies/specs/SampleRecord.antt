@@ -17,10 +17,10 @@ use Rattle.rules.specs.Settling.{recordsFrom, records, settlingNumber, settleme
 use Rattle.curve.specs.Marked.{MarkedCases}
 use Rattle.rules.specs.Sample.{sample, SampleSettled, shown-jointly}
 use Rattle.format.specs.Hex.{isHex, valueOf, charOf, digits, numberFrom}
-use Rattle.format.specs.Fields.{fixed, each, count, layout, fieldsAt, kindOf, asked, wellFormed, callOf, read}
+use Rattle.format.specs.Fields.{known, fixed, each, count, layout, fieldsAt, textAt, kindOf, asked, wellFormed, callOf, read}
 use Rattle.format.specs.Lines.{onFirst, lines}
 use Rattle.replies.specs.Orders.{Order, Asks, Settle, firsts, seconds, orderOf, ordered, orderIn}
-use Rattle.replies.specs.Replies.{settledDigits, answerLine, replyTo, after, repliesFrom, replies}
+use Rattle.replies.specs.Replies.{closingText, settlingText, answerLine, replyTo, after, repliesFrom, replies}
 
 -- n characters of a text from place i on, as bytes
 unfoldable pub codes : String → ℕ → ℕ → List ℕ
@@ -66,8 +66,8 @@ sampleReply = text (
     ∷ [])
 
 sample-asks : map orderIn (lines sampleRecord) ≡ map Asks sample ++ (Settle 100 ∷ [])
-unfolding codes line text all total
-    isHex valueOf numberFrom fixed each count layout fieldsAt kindOf asked wellFormed callOf read onFirst lines
+unfolding codes line text all any total
+    isHex valueOf numberFrom known fixed each count layout fieldsAt textAt kindOf asked wellFormed callOf read onFirst lines
     firsts seconds orderOf ordered orderIn
 sample-asks = refl
 
@@ -79,8 +79,8 @@ unfolding codes line text flatten oneTo keep total greatest lastOr any all least
     spread choices covering larger before best bestOf
     openBetween openToDeveloper openTo insert insertAll declaredBy openLevels row rows admissible coveringChoices award preferred mostPreferred firstPreferred winner
     recordsFrom records settlingNumber settlementAt settlement
-    isHex valueOf charOf digits numberFrom fixed each count layout fieldsAt kindOf asked wellFormed callOf read onFirst lines
-    firsts seconds orderOf ordered orderIn settledDigits answerLine replyTo after repliesFrom replies
+    isHex valueOf charOf digits numberFrom known fixed each count layout fieldsAt textAt kindOf asked wellFormed callOf read onFirst lines
+    firsts seconds orderOf ordered orderIn closingText settlingText answerLine replyTo after repliesFrom replies
 sample-replied = refl
 
 -- the ten marked cases, the sample's settling, and the sample as bytes, jointly

@@ -1,30 +1,44 @@
 -- The text of a reply in numbers.
-use Prim.Native.Nat.{ℕ, min, _*_}
+use Prim.Native.Nat.{ℕ, min, _+_, _*_}
+use mathlib.Core.Path.{_≡_}
 use mathlib.Core.Bool.{cond}
-use mathlib.Core.List.{List, [], _++_, map, flatten}
+use mathlib.Core.List.{List, [], _++_}
 use lib.Dec.{eqb}
 use lib.ListN.{take}
-use Rattle.format.specs.Hex.{digits}
-use Rattle.replies.specs.Replies.{answerLine}
-use Rattle.settling.specs.declared.Settled.{Settled}
+use Rattle.numbers.specs.Lists.{total, padded}
+use Rattle.format.specs.Fields.{textAt}
+use Rattle.rules.specs.Settling.{Settlement}
+use Rattle.replies.specs.Replies.{valuesOf, settlingHead, settlingTail, recordDigits, answerLine}
+use Rattle.replies.specs.Lengths.{headWidths, roomOf, tailWidths, bare}
+use Rattle.reply_text.specs.declared.Form.{Form}
 use Rattle.reply_text.specs.declared.Reply.{Reply}
+use Rattle.reply_text.specs.declared.Values.{Values}
 
--- how many award records a reply can have
-abbrev pub recordsIn : Settled → ℕ
-recordsIn s = min (s .records) 32
+-- what a reply of a kind can add, as the code holds it
+pub record FormOf (k : ℕ) (f : Form) : Type 0 where
+  pub head : f .head ≡ padded 8 (headWidths k)
+  pub room : f .room ≡ roomOf k
+  pub tail : f .tail ≡ padded 8 (tailWidths k)
 
--- what an accepted settling adds: P 8, Dem 10, total 10, choices 8, covering 8, awards 2, then the award records' bytes
-unfoldable pub numbersText : Settled → List ℕ
-numbersText s =
-    digits 8 (s .price) ++ digits 10 (s .demand) ++ digits 10 (s .total) ++ digits 8 (s .choices) ++ digits 8 (s .covering)
-    ++ digits 2 (recordsIn s)
+-- the values of a settling's fields
+pub record Valued (s : Settlement) (v : Values) : Type 0 where
+  pub head : v .head ≡ padded 8 (valuesOf settlingHead s)
+  pub tail : v .tail ≡ padded 8 (valuesOf settlingTail s)
 
-unfoldable pub settledText : Settled → List ℕ → List ℕ
-settledText s awards = numbersText s ++ flatten (map (digits 2) (take (6 * recordsIn s) awards))
+-- the bytes of award records that a reply shows, of so many
+abbrev pub shown : ℕ → ℕ → ℕ
+shown k n = min n (roomOf k)
 
--- what is added to an accepted reply of this kind
+-- the size of an accepted reply of this kind
+unfoldable pub sizeOf : ℕ → ℕ → ℕ
+sizeOf k n = bare + total (headWidths k) + 2 * shown k n + total (tailWidths k)
+
+-- what is added to an accepted reply: its fields at the widths of its kind, and between them its award records
 unfoldable pub addedText : Reply → List ℕ
-addedText r = cond (eqb (r .kind) 5) (digits 16 (r .excess)) (cond (eqb (r .kind) 6) (settledText (r .settled) (r .awards)) [])
+addedText r =
+    textAt (headWidths (r .kind)) (r .values .head)
+    ++ recordDigits (take (shown (r .kind) (r .filled)) (r .awards))
+    ++ textAt (tailWidths (r .kind)) (r .values .tail)
 
 -- what stands between the answer and 0A: nothing in a refusal
 unfoldable pub shownText : Reply → List ℕ

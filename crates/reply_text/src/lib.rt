@@ -1,48 +1,157 @@
 // A reply in numbers, its size, and its text written at the start of the tail that it is handed.
 ghost use mathlib.Core.Path.{_≡_};
 ghost use mathlib.Core.List.{map, flatten};
-ghost use Prim.Native.Nat.{_*_, _≤_};
+ghost use Prim.Native.Nat.{min, _*_, _≤_};
 ghost use lib.ListN.{length, take};
 ghost use Rattle.format.specs.Hex.{digits};
+ghost use Rattle.format.specs.Fields.{textAt};
+ghost use Rattle.numbers.specs.Lists.{total, padded};
 ghost use Rattle.numbers.specs.Tails.{laid};
-ghost use Rattle.reply_text.specs.Texts.{recordsIn, numbersText, settledText, shownText, textOf};
+ghost use Rattle.rules.specs.Rounds.{Answered};
+ghost use Rattle.rules.specs.Settling.{Settlement};
+ghost use Rattle.replies.specs.Replies.{twosComplement, valuesOf, closingFields};
+ghost use Rattle.replies.specs.Lengths.{mostOf};
+ghost use Rattle.settling.specs.Settles.{settledAs};
+ghost use Rattle.reply_text.specs.Texts.{FormOf, Valued, sizeOf, shownText, textOf};
 use settling::Settled;
 
-// The kind (255 for a malformed line) and the answer; the excess of a closing, in two's complement; what a settling answered, with its
-// award records.
+// The values of the fields that an accepted reply adds before its award records and behind them.
+pub struct Values {
+    pub head: [u64; 8],
+    pub tail: [u64; 8],
+}
+
+// The kind (255 for a malformed line) and the answer; what an accepted reply adds, with so many bytes of award records.
 pub struct Reply {
     pub kind: u8,
     pub number: u8,
-    pub excess: u64,
-    pub settled: Settled,
+    pub values: Values,
+    pub filled: usize,
     pub awards: [u8; 192],
 }
 
-// The number of award records: 192 bytes hold 32.
-fn records(settled: Settled) -> usize
-    ensures { λ r. ⌜ (r ≡ recordsIn settled) × (r ≤ 32) ⌝ }
+// What a reply of a kind can add: the widths of its fields before its award records, the most bytes of those, and the widths behind them. A
+// place of width 0 is none.
+struct Form {
+    head: [usize; 8],
+    room: usize,
+    tail: [usize; 8],
+}
+
+// 05: the excess.
+const CLOSING: Form = Form {
+    head: [16, 0, 0, 0, 0, 0, 0, 0],
+    room: 0,
+    tail: [0, 0, 0, 0, 0, 0, 0, 0],
+};
+
+// 06: P, Dem, total, choices, covering, awards.
+const SETTLING: Form = Form {
+    head: [8, 10, 10, 8, 8, 2, 0, 0],
+    room: 192,
+    tail: [0, 0, 0, 0, 0, 0, 0, 0],
+};
+
+// The others add nothing.
+const PLAIN: Form = Form {
+    head: [0, 0, 0, 0, 0, 0, 0, 0],
+    room: 0,
+    tail: [0, 0, 0, 0, 0, 0, 0, 0],
+};
+
+fn form_of(kind: u8) -> Form
+    ensures { λ r. ⌜ FormOf kind r ⌝ }
 {
-    if settled.records < 32 {
-        return settled.records;
+    if kind == 5 {
+        return CLOSING;
     }
-    32
+    if kind == 6 {
+        return SETTLING;
+    }
+    PLAIN
+}
+
+// ---- the values of a reply's fields
+
+// Of a closing, by the excess in two's complement.
+pub fn closing_values(bits: u64) -> Values
+    ensures { λ r. ⌜ ((x : Answered) → bits ≡ twosComplement (x .excess) → r .head ≡ padded 8 (valuesOf closingFields x)) ⌝ }
+{
+    Values {
+        head: [bits, 0, 0, 0, 0, 0, 0, 0],
+        tail: [0, 0, 0, 0, 0, 0, 0, 0],
+    }
+}
+
+// Of a settling.
+pub fn settling_values(settled: Settled) -> Values
+    ensures { λ r. ⌜ ((s : Settlement) → settled ≡ settledAs s → Valued s r) ⌝ }
+{
+    Values {
+        head: [
+            settled.price as u64,
+            settled.demand,
+            settled.total,
+            settled.choices,
+            settled.covering,
+            settled.records as u64,
+            0,
+            0,
+        ],
+        tail: [0, 0, 0, 0, 0, 0, 0, 0],
+    }
+}
+
+// The bytes of so many award records: 192 bytes hold 32.
+pub fn award_bytes(records: usize) -> usize
+    ensures { λ r. ⌜ r ≡ 6 * min records 32 ⌝ }
+{
+    if records < 32 {
+        return 6 * records;
+    }
+    192
+}
+
+// ---- sizes
+
+fn least(x: usize, y: usize) -> usize
+    ensures { λ r. ⌜ r ≡ min x y ⌝ }
+{
+    if x < y {
+        return x;
+    }
+    y
+}
+
+// How many bytes an accepted reply of this kind has, if so many bytes of award records are there: each shown is two digits; kind, answer and 0A
+// are five bytes.
+fn size_of(kind: u8, filled: usize) -> usize
+    ensures { λ r. ⌜ r ≡ sizeOf kind filled ⌝ }
+{
+    let form = form_of(kind);
+    let head = form.head;
+    let tail = form.tail;
+    5 + frames::span_of(&head) + 2 * least(filled, form.room) + frames::span_of(&tail)
+}
+
+// The most bytes of a reply of this kind.
+pub fn most(kind: u8) -> usize
+    ensures { λ r. ⌜ r ≡ mostOf kind ⌝ }
+{
+    size_of(kind, 192)
 }
 
 // How many bytes the reply has.
 pub fn size(reply: Reply) -> usize
-    ensures { λ r. ⌜ (r ≡ length (textOf reply)) × (r ≤ 435) ⌝ }
+    ensures { λ r. ⌜ r ≡ length (textOf reply) ⌝ }
 {
     if reply.number != 0 {
         return 5;
     }
-    if reply.kind == 5 {
-        return 21;
-    }
-    if reply.kind == 6 {
-        return 51 + 12 * records(reply.settled);
-    }
-    5
+    size_of(reply.kind, reply.filled)
 }
+
+// ---- text
 
 // Writes the first n bytes, two digits each, at the start of `out`.
 fn put_bytes(out: &mut [u8], bytes: [u8; 192], n: usize)
@@ -56,57 +165,47 @@ fn put_bytes(out: &mut [u8], bytes: [u8; 192], n: usize)
     }
 }
 
-// Writes the numbers of an accepted settling at the start of `out`.
-fn put_numbers(out: &mut [u8], settled: Settled)
-    requires { ⌜ 46 ≤ length (now out) ⌝ }
-    ensures { λ _. ⌜ now (out .exit) ≡ laid (numbersText settled) (now (out .entry)) ⌝ }
+// Writes the values at the widths at the start of `out`, and gives how many digits that are.
+fn put_values(out: &mut [u8], widths: [usize; 8], values: [u64; 8]) -> usize
+    requires { ⌜ total widths ≤ length (now out) ⌝ }
+    ensures { λ r. ⌜ r ≡ total widths ⌝ }
+    ensures { λ _. ⌜ now (out .exit) ≡ laid (textAt widths values) (now (out .entry)) ⌝ }
 {
-    let n = records(settled);
-    frames::put_hex(out, settled.price as u64, 8);
-    frames::put_hex(&mut out[8..], settled.demand, 10);
-    frames::put_hex(&mut out[18..], settled.total, 10);
-    frames::put_hex(&mut out[28..], settled.choices, 8);
-    frames::put_hex(&mut out[36..], settled.covering, 8);
-    frames::put_hex(&mut out[44..], n as u64, 2);
+    frames::put_fields(out, &widths, &values)
 }
 
-// Writes what an accepted settling adds at the start of `out`.
-fn put_settled(out: &mut [u8], settled: Settled, awards: [u8; 192])
-    requires { ⌜ length (settledText settled awards) ≤ length (now out) ⌝ }
-    ensures { λ _. ⌜ now (out .exit) ≡ laid (settledText settled awards) (now (out .entry)) ⌝ }
-{
-    let n = records(settled);
-    put_numbers(out, settled);
-    put_bytes(&mut out[46..], awards, 6 * n);
-}
-
-// Writes what the reply adds between its answer and its 0A at the start of `out`.
-fn put_added(out: &mut [u8], reply: Reply)
+// Writes what the reply adds between its answer and its 0A at the start of `out`, and gives how many bytes that are.
+fn put_added(out: &mut [u8], reply: Reply) -> usize
     requires { ⌜ length (shownText reply) ≤ length (now out) ⌝ }
+    ensures { λ r. ⌜ r ≡ length (shownText reply) ⌝ }
     ensures { λ _. ⌜ now (out .exit) ≡ laid (shownText reply) (now (out .entry)) ⌝ }
 {
     if reply.number != 0 {
-        return;
+        return 0;
     }
-    if reply.kind == 5 {
-        frames::put_hex(out, reply.excess, 16);
-        return;
-    }
-    if reply.kind == 6 {
-        let awards = reply.awards;
-        put_settled(out, reply.settled, awards);
-        return;
-    }
+    let form = form_of(reply.kind);
+    let n = least(reply.filled, form.room);
+    let values = reply.values;
+    let head = form.head;
+    let first = values.head;
+    let records = put_values(out, head, first);
+    let awards = reply.awards;
+    put_bytes(&mut out[records..], awards, n);
+    let behind = records + 2 * n;
+    let tail = form.tail;
+    let last = values.tail;
+    behind + put_values(&mut out[behind..], tail, last)
 }
 
-// Writes the reply at the start of `out`.
-pub fn put(out: &mut [u8], reply: Reply)
+// Writes the reply at the start of `out`, and gives how many bytes it has.
+pub fn put(out: &mut [u8], reply: Reply) -> usize
     requires { ⌜ length (textOf reply) ≤ length (now out) ⌝ }
+    ensures { λ r. ⌜ r ≡ length (textOf reply) ⌝ }
     ensures { λ _. ⌜ now (out .exit) ≡ laid (textOf reply) (now (out .entry)) ⌝ }
 {
-    let end = size(reply) - 1;
     frames::put_hex(out, reply.kind as u64, 2);
     frames::put_hex(&mut out[2..], reply.number as u64, 2);
-    put_added(&mut out[4..], reply);
+    let end = 4 + put_added(&mut out[4..], reply);
     frames::put_byte(&mut out[end..], 10);
+    end + 1
 }

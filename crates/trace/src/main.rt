@@ -3,7 +3,6 @@
 ghost use mathlib.Core.Path.{_≡_};
 ghost use lib.ListN.{length};
 use auction::Auction;
-use reply_text::Reply;
 use turns::Turn;
 
 // The most bytes of a record (document 01, Frames).
@@ -21,10 +20,10 @@ fn step(auction: Auction, line: &[u8]) -> Turn {
     turns::respond(auction, frames::decode(line))
 }
 
-// Writes a reply and what stands below it.
-fn show(reply: Reply) {
+// Writes the reply of a turn and what stands below it.
+fn show(turn: Turn) {
     let mut text = io::buffer();
-    let n = trace_text::put(&mut text, reply);
+    let n = trace_text::put(&mut text, turn.reply, turn.excess, turn.settled);
     io::write_all(libc::STDOUT_FILENO, &text[..n]);
 }
 
@@ -34,7 +33,7 @@ fn trace(bytes: &[u8]) {
     while at < bytes.len() {
         let line = frames::next_line(bytes, at);
         let turn = step(auction, line);
-        show(turn.reply);
+        show(turn);
         let next = turn.auction;
         auction = next;
         at = at + line.len() + 1;

@@ -11,6 +11,7 @@ use lib.Dec.{eqb}
 use lib.ListN.{length, take, drop, getD, set, length-append, length-take, length-drop, take-append-drop}
 use lib.Seq.{take-at, drop-at, drop-drop, take-suc, set-split, append-snoc}
 use Rattle.numbers.specs.Tails.{laid}
+use Rattle.settling.specs.declared.Settled.{Settled}
 use Rattle.reply_text.specs.declared.Reply.{Reply}
 use Rattle.reply_text.specs.Texts.{textOf}
 use Rattle.trace_text.specs.Decimal.{bytesOf}
@@ -83,20 +84,20 @@ laid-puts t o xs m b e d h g = record { holds = e ∙ ap (λ (k : ℕ). t ++ dro
 
 -- ---- what stands below a reply, by its answer and its kind
 
-module _ (r : Reply) where
-  pub words-refused : (r .number ≡ 0 → ⊥) → wordsOf r ≡ []
+module _ (r : Reply) (excess : ℕ) (s : Settled) where
+  pub words-refused : (r .number ≡ 0 → ⊥) → wordsOf r excess s ≡ []
   unfolding wordsOf
   words-refused h = rw (ne-eqb (r .number) 0 h)
 
-  pub words-closing : r .number ≡ 0 → r .kind ≡ 5 → wordsOf r ≡ signedItem (bytesOf "excess ") (r .excess)
+  pub words-closing : r .number ≡ 0 → r .kind ≡ 5 → wordsOf r excess s ≡ signedItem (bytesOf "excess ") excess
   unfolding wordsOf
   words-closing h k = rw (eq-eqb (r .number) 0 h, eq-eqb (r .kind) 5 k)
 
-  pub words-settling : r .number ≡ 0 → r .kind ≡ 6 → wordsOf r ≡ settledLines (r .settled) (r .awards)
+  pub words-settling : r .number ≡ 0 → r .kind ≡ 6 → wordsOf r excess s ≡ settledLines s (r .awards)
   unfolding wordsOf
   words-settling h k = rw (eq-eqb (r .number) 0 h, ne-eqb (r .kind) 5 (λ e. omega arith), eq-eqb (r .kind) 6 k)
 
-  pub words-other : (r .kind ≡ 5 → ⊥) → (r .kind ≡ 6 → ⊥) → wordsOf r ≡ []
+  pub words-other : (r .kind ≡ 5 → ⊥) → (r .kind ≡ 6 → ⊥) → wordsOf r excess s ≡ []
   unfolding wordsOf
   words-other h k = rw (ne-eqb (r .kind) 5 h, ne-eqb (r .kind) 6 k) (go (eqb (r .number) 0))
     where
@@ -105,8 +106,8 @@ module _ (r : Reply) where
       go false = refl
 
   -- the reply's line at the buffer's start, and what stands below it
-  pub whole : {t o xs ys : List ℕ} {m n b : ℕ} → Puts (textOf r) 435 o xs 0 n → Puts t m xs ys n b → wordsOf r ≡ t → m ≤ 3000 →
-      (b ≡ length (traceOf r)) × (b ≤ 4096) × (ys ≡ laid (traceOf r) o)
+  pub whole : {t o xs ys : List ℕ} {m n b : ℕ} → Puts (textOf r) 435 o xs 0 n → Puts t m xs ys n b → wordsOf r excess s ≡ t → m ≤ 3000 →
+      (b ≡ length (traceOf r excess s)) × (b ≤ 4096) × (ys ≡ laid (traceOf r excess s) o)
   unfolding traceOf
   whole {t} p w e h =
       let q = puts-then p w in rw e (omega (arith, q .next), omega (arith, q .next, q .short), puts-laid q)

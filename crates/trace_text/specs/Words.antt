@@ -45,13 +45,13 @@ items s =
 unfoldable pub settledLines : Settled → List ℕ → List ℕ
 settledLines s awards = items s ++ awardLines awards (min (s .records) 32)
 
--- below a reply: nothing if it is refused or of another kind than closing and settling
-unfoldable pub wordsOf : Reply → List ℕ
-wordsOf r =
+-- below a reply, by the excess of a closing and what a settling answered: nothing if it is refused or of another kind
+unfoldable pub wordsOf : Reply → ℕ → Settled → List ℕ
+wordsOf r excess s =
     cond (eqb (r .number) 0)
-    (cond (eqb (r .kind) 5) (signedItem (bytesOf "excess ") (r .excess)) (cond (eqb (r .kind) 6) (settledLines (r .settled) (r .awards)) []))
+    (cond (eqb (r .kind) 5) (signedItem (bytesOf "excess ") excess) (cond (eqb (r .kind) 6) (settledLines s (r .awards)) []))
     []
 
 -- a reply's line and what stands below it
-unfoldable pub traceOf : Reply → List ℕ
-traceOf r = textOf r ++ wordsOf r
+unfoldable pub traceOf : Reply → ℕ → Settled → List ℕ
+traceOf r excess s = textOf r ++ wordsOf r excess s

@@ -152,9 +152,9 @@ fn put_settled(out: &mut [u8], at: usize, s: Settled, awards: [u8; 192]) -> usiz
 }
 
 // Writes the reply's line and what stands below it at the start of a buffer, and gives their number of bytes.
-pub fn put(out: &mut [u8], reply: Reply) -> usize
+pub fn put(out: &mut [u8], reply: Reply, excess: u64, settled: Settled) -> usize
     requires { ⌜ 4096 ≤ length (now out) ⌝ }
-    ensures { λ r. ⌜ (r ≡ length (traceOf reply)) × (r ≤ 4096) × (now (out .exit) ≡ laid (traceOf reply) (now (out .entry))) ⌝ }
+    ensures { λ r. ⌜ (r ≡ length (traceOf reply excess settled)) × (r ≤ 4096) × (now (out .exit) ≡ laid (traceOf reply excess settled) (now (out .entry))) ⌝ }
 {
     let line = reply_text::size(reply);
     reply_text::put(out, reply);
@@ -162,11 +162,11 @@ pub fn put(out: &mut [u8], reply: Reply) -> usize
         return line;
     }
     if reply.kind == 5 {
-        return put_signed_item(out, line, b"excess ", reply.excess);
+        return put_signed_item(out, line, b"excess ", excess);
     }
     if reply.kind == 6 {
         let awards = reply.awards;
-        return put_settled(out, line, reply.settled, awards);
+        return put_settled(out, line, settled, awards);
     }
     line
 }

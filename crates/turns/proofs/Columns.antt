@@ -1,13 +1,14 @@
 -- The fields of a frame, one by one and in columns.
-use Prim.Native.Nat.{ℕ, zero, suc, _+_, _*_, _^_, _≤_, _<_}
+use Prim.Native.Nat.{ℕ, zero, suc, _+_, _-_, _*_, _^_, _≤_, _<_}
 use mathlib.Core.Path.{_≡_, refl, sym, ap, ap₂, _∙_}
 use mathlib.Core.List.{List, [], _∷_, _++_}
 use native.Mathlib.Omega.{arith}
 use native.Mathlib.Numerals.{add-one}
 use lib.ListN.{length, take, drop, getD, set, length-take, length-set, drop-of-length-le, List·getD-eq-default}
 use lib.Seq.{drop-cons, getD-take, take-suc-set}
-use Rattle.format.specs.Fields.{fixed}
-use Rattle.format.specs.FieldLaws.{field-below, repeated-below, registration-fields, offer-fields}
+use Rattle.numbers.specs.Lists.{total}
+use Rattle.format.specs.Fields.{listed, longest, fixed, each}
+use Rattle.format.specs.FieldLaws.{field-below, repeated-below, listed-fields}
 use Rattle.replies.specs.Orders.{firsts, seconds}
 use Rattle.frames.specs.Decoded.{held}
 use Rattle.frames.specs.declared.Frame.{Frame}
@@ -26,7 +27,7 @@ unfolding fieldsOf
 field-there f j h = sym (getD-take (f .count) (f .fields) j 0 h)
 
 -- a field of the table is below 16 to its width
-pub below : (k : ℕ) (f : Frame) → Framed k f → (j b : ℕ) → 16 ^ getD (fixed k) j 8 ≡ b → getD (fieldsOf f) j 0 < b
+pub below : (k : ℕ) (f : Frame) → Framed k f → (j b : ℕ) → 16 ^ getD (fixed k) j listed ≡ b → getD (fieldsOf f) j 0 < b
 unfolding fieldsOf
 below k f w j b e = field-below (held f) (w .formed) k j b (w .kind) e
 
@@ -35,13 +36,12 @@ pub below-behind : (k : ℕ) (f : Frame) → Framed k f → (j : ℕ) → length
 unfolding fieldsOf
 below-behind k f w j h = repeated-below (held f) (w .formed) k j (w .kind) h
 
-pub registration-count : (f : Frame) → Framed 2 f → (length (fieldsOf f) ≡ 6 + getD (fieldsOf f) 5 0) × (getD (fieldsOf f) 5 0 ≤ 16)
+-- a list of fields behind the fixed ones: as many as the last of those counts, in a line that is not too long
+pub listed-count : (k : ℕ) (f : Frame) → Framed k f → 0 < length (fixed k) →
+    let n = each k * getD (fieldsOf f) (length (fixed k) - 1) 0 in
+    (length (fieldsOf f) ≡ length (fixed k) + n) × (2 + (total (fixed k) + listed * n) ≤ longest)
 unfolding fieldsOf
-registration-count f w = registration-fields (held f) (w .formed) (w .kind)
-
-pub offer-count : (f : Frame) → Framed 4 f → (length (fieldsOf f) ≡ 2 + 2 * getD (fieldsOf f) 1 0) × (getD (fieldsOf f) 1 0 ≤ 9)
-unfolding fieldsOf
-offer-count f w = offer-fields (held f) (w .formed) (w .kind)
+listed-count k f w h = listed-fields (held f) (w .formed) k (w .kind) h
 
 -- ---- columns
 

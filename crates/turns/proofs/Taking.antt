@@ -1,90 +1,83 @@
 -- From a call's contract to the turn's: its reply's text is the ledger's, and the next auction holds the next ledger.
-use Prim.Native.Nat.{ℕ}
+use Prim.Native.Nat.{ℕ, min, _*_}
 use mathlib.Core.Path.{_≡_, refl, sym, ap, ap₂, _∙_}
-use mathlib.Core.Bool.{Bool, true, false}
-use mathlib.Core.List.{List, [], flatten, append-nil}
-use mathlib.Core.Option.{none}
+use mathlib.Core.Bool.{Bool, true, false, cond}
+use mathlib.Core.List.{List, [], append-nil}
 use native.Mathlib.Omega.{arith}
 use lib.Dec.{eqb}
 use lib.ListN.{length, drop, getD}
 use borrow.Author.Tests.{ne-eqb, eqb-true, eqb-false}
-use Rattle.format.specs.Hex.{digits}
+use Rattle.numbers.specs.Lists.{padded}
 use Rattle.rules.specs.Ledger.{Settings, Declaration, Offer, Call, SetUp, Register, Open, By, Close, Ledger}
 use Rattle.rules.specs.Rounds.{ledger, Answered, numberAlone}
-use Rattle.rules.specs.Settling.{records, settlingNumber, settlementAt, settlement}
+use Rattle.rules.specs.Settling.{Settlement, settlingNumber, settlement}
 use Rattle.replies.specs.Orders.{Malformed, Asks, Settle, firsts, seconds, setUpOf, registrationOf, offerOf, orderOf, ordered}
 use Rattle.replies.specs.Lengths.{six, few}
-use Rattle.replies.specs.Replies.{kindOf, extra, twosComplement, settledDigits, answerLine, replyTo}
+use Rattle.replies.specs.Replies.{kindOf, twosComplement, valuesOf, closingFields, closingText, settlingText}
+use Rattle.replies.specs.Replies.{answerLine, awardRoom, replyTo}
 use Rattle.auction.specs.Called.{Called, setsUp, registers}
 use Rattle.auction.specs.Holds.{auctionOf}
 use Rattle.auction.specs.declared.Auction.{Auction}
-use Rattle.numbers.specs.Tails.{laid}
 use Rattle.settling.specs.Settles.{Settles, settledAs}
 use Rattle.settling.specs.declared.Settled.{Settled}
 use Rattle.frames.specs.Decoded.{held, callIn, call-none, call-some}
 use Rattle.frames.specs.declared.Frame.{Frame}
-use Rattle.reply_text.specs.Texts.{settledText, addedText, textOf}
-use Rattle.reply_text.specs.TextLaws.{settled-text}
+use Rattle.reply_text.specs.Texts.{Valued, addedText, textOf}
+use Rattle.reply_text.specs.TextLaws.{plain-added, closing-added, settling-added}
 use Rattle.reply_text.specs.declared.Reply.{Reply}
 use Rattle.turns.specs.Turns.{fieldsOf, Framed, Reads, Answers, Takes}
 use Rattle.turns.specs.declared.Turn.{Turn}
 
 -- ---- texts
 
--- a kind that adds nothing
-pub plain-text : (r : Reply) (kind n : ℕ) → r .kind ≡ kind → r .number ≡ n → (kind ≡ 5 → ⊥) → (kind ≡ 6 → ⊥) → textOf r ≡ answerLine kind n []
-unfolding textOf addedText
-plain-text r kind n ek en z5 z6 = rw (ek, en, ne-eqb kind 5 z5, ne-eqb kind 6 z6)
+-- what is added to an accepted reply is read only there
+added-line : (k n : ℕ) (x y : List ℕ) → (n ≡ 0 → x ≡ y) → answerLine k n x ≡ answerLine k n y
+unfolding answerLine
+added-line k n x y e = go (eqb n 0) refl
+  where
+    go : (b : Bool) → eqb n 0 ≡ b → answerLine k n x ≡ answerLine k n y
+    go true z = ap (answerLine k n) (e (eqb-true n 0 z))
+    go false z = rw (ne-eqb n 0 (eqb-false n 0 z))
 
-closing-text : (r : Reply) (n x : ℕ) → r .kind ≡ 5 → r .number ≡ n → r .excess ≡ x → textOf r ≡ answerLine 5 n (digits 16 x)
-unfolding textOf addedText
-closing-text r n x ek en ex = rw (ek, en, ex)
+text-of : (r : Reply) (kind n : ℕ) (added : List ℕ) → r .kind ≡ kind → r .number ≡ n → (n ≡ 0 → addedText r ≡ added) → textOf r ≡ answerLine kind n added
+unfolding textOf
+text-of r kind n added ek en e = ap₂ (λ (k m : ℕ). answerLine k m (addedText r)) ek en ∙ added-line kind n (addedText r) added e
+
+-- a kind that adds nothing
+abbrev pub Bare : ℕ → Type 0
+Bare k = (k ≡ 5 → ⊥) × (k ≡ 6 → ⊥)
+
+plain-text : (r : Reply) (kind n : ℕ) → r .kind ≡ kind → r .number ≡ n → Bare kind → textOf r ≡ answerLine kind n []
+plain-text r kind n ek en bare = text-of r kind n [] ek en (λ z. plain-added r (λ e. bare .0 (sym ek ∙ e)) (λ e. bare .1 (sym ek ∙ e)))
 
 -- ---- turns
 
 pub takes-none : (a : Auction) (t : Turn) → t .auction ≡ a → t .reply .kind ≡ 255 → t .reply .number ≡ 12 → Takes a Malformed t
 unfolding replyTo
 takes-none a t ea ek en = record {
-  text = λ cs h. plain-text (t .reply) 255 12 ek en (omega arith) (omega arith);
+  text = λ cs h. plain-text (t .reply) 255 12 ek en (omega arith, omega arith);
   next = λ cs h. ea ∙ h ∙ ap (λ (xs : List Call). auctionOf (ledger xs)) (sym (append-nil cs));
 }
 
--- a call that adds nothing to its number
-pub record Bare (c : Call) : Type 0 where
-  pub none : (r : Answered) → extra c r ≡ []
-  pub no-closing : kindOf c ≡ 5 → ⊥
-  pub no-settling : kindOf c ≡ 6 → ⊥
-
-pub bare-set-up : (s : Settings) → Bare (SetUp s)
-bare-set-up s = record { none = λ r. refl; no-closing = omega arith; no-settling = omega arith }
-
-pub bare-registration : (n : ℕ) (x : Declaration) → Bare (Register n x)
-bare-registration n x = record { none = λ r. refl; no-closing = omega arith; no-settling = omega arith }
-
-pub bare-opening : (c : ℕ) → Bare (Open c)
-bare-opening c = record { none = λ r. refl; no-closing = omega arith; no-settling = omega arith }
-
-pub bare-offer : (n : ℕ) (ps qs : List ℕ) → Bare (By n (Offer ps qs))
-bare-offer n ps qs = record { none = λ r. refl; no-closing = omega arith; no-settling = omega arith }
-
 -- the engine's call is the order's
-pub takes-call : (c d : Call) (a next : Auction) (n : ℕ) (t : Turn) → c ≡ d → Bare d → Called c a next (numberAlone n) → Answers (kindOf d) next n t
+pub takes-call : (c d : Call) (a next : Auction) (n : ℕ) (t : Turn) → c ≡ d → Bare (kindOf d) → Called c a next (numberAlone n) → Answers (kindOf d) next n t
     → Takes a (Asks d) t
 unfolding replyTo
 takes-call c d a next n t e bare was answers =
     let called : Called d a next (numberAlone n) = rw e at was in
     record {
-      text = λ cs h. plain-text (t .reply) (kindOf d) n (answers .kind) (answers .number) (bare .no-closing) (bare .no-settling)
-          ∙ ap (answerLine (kindOf d) n) (sym (bare .none (numberAlone n))) ∙ ap (λ (r : Answered). answerLine (kindOf d) (r .number) (extra d r)) (called .answer cs h);
+      text = λ cs h. plain-text (t .reply) (kindOf d) n (answers .kind) (answers .number) bare
+          ∙ sym (ap (λ (b : Bool). answerLine (kindOf d) n (cond b (closingText (numberAlone n)) [])) (ne-eqb (kindOf d) 5 (bare .0)))
+          ∙ ap (λ (r : Answered). answerLine (kindOf d) (r .number) (cond (eqb (kindOf d) 5) (closingText r) [])) (called .answer cs h);
       next = λ cs h. answers .auction ∙ called .next cs h;
     }
 
-pub takes-close : (a next : Auction) (r : Answered) (t : Turn) → Called Close a next r → Answers 5 next (r .number) t → t .reply .excess ≡ twosComplement (r .excess)
-    → Takes a (Asks Close) t
+pub takes-close : (a next : Auction) (r : Answered) (t : Turn) → Called Close a next r → Answers 5 next (r .number) t
+    → t .reply .values .head ≡ padded 8 (valuesOf closingFields r) → Takes a (Asks Close) t
 unfolding replyTo
-takes-close a next r t called answers bits = record {
-  text = λ cs h. closing-text (t .reply) (r .number) (twosComplement (r .excess)) (answers .kind) (answers .number) bits
-      ∙ ap (λ (x : Answered). answerLine 5 (x .number) (extra Close x)) (called .answer cs h);
+takes-close a next r t called answers head = record {
+  text = λ cs h. text-of (t .reply) 5 (r .number) (closingText r) (answers .kind) (answers .number) (λ z. closing-added (t .reply) r (answers .kind) head)
+      ∙ ap (λ (x : Answered). answerLine 5 (x .number) (closingText x)) (called .answer cs h);
   next = λ cs h. answers .auction ∙ called .next cs h;
 }
 
@@ -103,45 +96,30 @@ offer-is ns ps qs n e f g = rw (e, f, g)
 
 -- ---- settling
 
--- a refusal adds nothing
-refused-line : (k n : ℕ) (x y : List ℕ) → (n ≡ 0 → ⊥) → answerLine k n x ≡ answerLine k n y
-unfolding answerLine
-refused-line k n x y z = rw (ne-eqb n 0 z)
+-- the reply holds what the settling answered
+pub record Holds (s : Settled) (r : Reply) : Type 0 where
+  pub kind : r .kind ≡ 6
+  pub number : r .number ≡ s .number
+  pub values : (m : Settlement) → s ≡ settledAs m → Valued m (r .values)
+  pub filled : r .filled ≡ 6 * min (s .records) 32
 
-module _ (l : Ledger) (limit : ℕ) (old new : List ℕ) (s : Settled) where
-  accepted-digits : settlingNumber l limit 192 ≡ 0 → s ≡ settledAs (settlement l) → new ≡ laid (flatten (settlement l .records)) old
-      → settledText s new ≡ settledDigits (settlement l)
-  unfolding settlement settlementAt records
-  accepted-digits z e b =
-      ap (λ (x : Settled). settledText x new) e
-      ∙ settled-text (settlement l) new old (few l limit z) (six l) b
-
-  settled-line : s .number ≡ settlingNumber l limit 192 → (s .number ≡ 0 → s ≡ settledAs (settlement l))
-      → (s .number ≡ 0 → new ≡ laid (flatten (settlement l .records)) old)
-      → answerLine 6 (s .number) (settledText s new) ≡ answerLine 6 (settlingNumber l limit 192) (settledDigits (settlement l))
-  settled-line n a b = go (eqb (s .number) 0) refl
-    where
-      go : (t : Bool) → eqb (s .number) 0 ≡ t → answerLine 6 (s .number) (settledText s new) ≡ answerLine 6 (settlingNumber l limit 192) (settledDigits (settlement l))
-      go true e =
-          let z : s .number ≡ 0 = eqb-true (s .number) 0 e in
-          ap₂ (answerLine 6) n (accepted-digits (sym n ∙ z) (a z) (b z))
-      go false e =
-          refused-line 6 (s .number) (settledText s new) (settledDigits (settlement l)) (eqb-false (s .number) 0 e)
-          ∙ ap (λ (m : ℕ). answerLine 6 m (settledDigits (settlement l))) n
-
-settling-text : (r : Reply) → r .kind ≡ 6 → textOf r ≡ answerLine 6 (r .number) (settledText (r .settled) (r .awards))
-unfolding textOf addedText
-settling-text r e = rw e
-
-pub takes-settling : (a : Auction) (limit : ℕ) (old : List ℕ) (t : Turn) → length old ≡ 192
-    → Settles a limit old (t .reply .awards) (t .reply .settled) → t .auction ≡ a → t .reply .kind ≡ 6 → t .reply .number ≡ t .reply .settled .number
-    → Takes a (Settle limit) t
+pub takes-settling : (a : Auction) (limit : ℕ) (old : List ℕ) (s : Settled) (t : Turn) → length old ≡ awardRoom → Settles a limit old (t .reply .awards) s
+    → t .auction ≡ a → Holds s (t .reply) → Takes a (Settle limit) t
 unfolding replyTo
-takes-settling a limit old t room w ea ek en = record {
-  text = λ cs h. settling-text (t .reply) ek ∙ ap (λ (n : ℕ). answerLine 6 n (settledText (t .reply .settled) (t .reply .awards))) en
-      ∙ settled-line (ledger cs) limit old (t .reply .awards) (t .reply .settled) (w .number cs h ∙ ap (settlingNumber (ledger cs) limit) room) (w .answer cs h) (w .buffer cs h);
+takes-settling a limit old s t room w ea holds = record {
+  text = text;
   next = λ cs h. ea ∙ h ∙ ap (λ (xs : List Call). auctionOf (ledger xs)) (sym (append-nil cs));
 }
+  where
+    text : (cs : List Call) → a ≡ auctionOf (ledger cs) → textOf (t .reply) ≡ replyTo (ledger cs) (Settle limit)
+    text cs h =
+        let l : Ledger = ledger cs in
+        let n : s .number ≡ settlingNumber l limit awardRoom = w .number cs h ∙ ap (settlingNumber l limit) room in
+        text-of (t .reply) 6 (settlingNumber l limit awardRoom) (settlingText (settlement l)) (holds .kind) (holds .number ∙ n)
+        (λ z.
+        let e : s ≡ settledAs (settlement l) = w .answer cs h (n ∙ z) in
+        settling-added (t .reply) (settlement l) old (holds .kind) (holds .values (settlement l) e)
+        (holds .filled ∙ ap (λ (x : Settled). 6 * min (x .records) 32) e) (w .buffer cs h (n ∙ z)) (few l limit z) (six l))
 
 -- ---- the order of a frame
 
@@ -153,19 +131,15 @@ module _ (a : Auction) (f : Frame) (t : Turn) where
       let o : Takes a (orderOf (held f)) t = rw (sym e) at w in
       rw (call-some f (λ y. z (sym e ∙ y))) o
 
-  pub ordered-none : f .kind ≡ 0 → Takes a Malformed t → Takes a (ordered (callIn f)) t
+  -- a kind that asks nothing
+  pub ordered-none : orderOf (held f) ≡ Malformed → Takes a Malformed t → Takes a (ordered (callIn f)) t
   unfolding ordered
-  ordered-none e w = rw (call-none f e) w
+  ordered-none e w = go (eqb (f .kind) 0) refl
+    where
+      go : (b : Bool) → eqb (f .kind) 0 ≡ b → Takes a (ordered (callIn f)) t
+      go true z = rw (call-none f (eqb-true (f .kind) 0 z)) w
+      go false z = rw (call-some f (eqb-false (f .kind) 0 z), e) w
 
 -- a frame of this kind that a line reads as
 pub framed : (k : ℕ) (f : Frame) → Reads f → (k ≡ 0 → ⊥) → f .kind ≡ k → Framed k f
 framed k f r z e = record { kind = e; formed = r (held f) (call-some f (λ y. z (sym e ∙ y))) }
-
--- of no other kind: it has none
-pub no-kind : (f : Frame) → Reads f → (f .kind ≡ 1 → ⊥) → (f .kind ≡ 2 → ⊥) → (f .kind ≡ 3 → ⊥) → (f .kind ≡ 4 → ⊥) → (f .kind ≡ 5 → ⊥)
-    → (f .kind ≡ 6 → ⊥) → f .kind ≡ 0
-no-kind f r n1 n2 n3 n4 n5 n6 = go (eqb (f .kind) 0) refl
-  where
-    go : (b : Bool) → eqb (f .kind) 0 ≡ b → f .kind ≡ 0
-    go true e = eqb-true (f .kind) 0 e
-    go false e = absurd (let w = r (held f) (call-some f (eqb-false (f .kind) 0 e)) in omega (arith, w .kind-high))

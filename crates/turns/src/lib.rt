@@ -11,12 +11,28 @@ use auction::Answer;
 use auction::Auction;
 use frames::Frame;
 use reply_text::Reply;
+use reply_text::Values;
 use settling::Settled;
 
+// What a frame leads to: the next auction and the reply, and for those who want to see more than the reply says the answer itself: the excess of
+// a closing in two's complement, and what a settling answered.
 pub struct Turn {
     pub auction: Auction,
     pub reply: Reply,
+    pub excess: u64,
+    pub settled: Settled,
 }
+
+// Nothing is settled.
+const UNSETTLED: Settled = Settled {
+    number: 0,
+    price: 0,
+    demand: 0,
+    total: 0,
+    choices: 0,
+    covering: 0,
+    records: 0,
+};
 
 // ---- the fields of a frame
 
@@ -51,7 +67,7 @@ fn word(frame: Frame, j: usize) -> u32
 
 // The n fields of eight digits from place `from` on, so far apart.
 fn column(frame: Frame, from: usize, apart: usize, n: usize) -> [u32; 16]
-    requires { ⌜ (from ≤ 6) × (apart ≤ 2) × (n ≤ 16) × ((i : ℕ) → getD (fieldsOf frame) (from + apart * i) 0 < 2 ^ 32) ⌝ }
+    requires { ⌜ (from ≤ 8) × (apart ≤ 2) × (n ≤ 16) × ((i : ℕ) → getD (fieldsOf frame) (from + apart * i) 0 < 2 ^ 32) ⌝ }
     ensures { λ r. ⌜ (take n r ≡ every from apart n (fieldsOf frame)) × (length r ≡ 16) ⌝ }
 {
     let mut values: [u32; 16] = [0; 16];
@@ -69,20 +85,15 @@ fn column(frame: Frame, from: usize, apart: usize, n: usize) -> [u32; 16]
 fn blank(kind: u8, number: u8) -> Reply
     ensures { λ r. ⌜ (r .kind ≡ kind) × (r .number ≡ number) × (length (r .awards) ≡ 192) ⌝ }
 {
-    let settled = Settled {
-        number: number,
-        price: 0,
-        demand: 0,
-        total: 0,
-        choices: 0,
-        covering: 0,
-        records: 0,
+    let values = Values {
+        head: [0; 8],
+        tail: [0; 8],
     };
     Reply {
         kind: kind,
         number: number,
-        excess: 0,
-        settled: settled,
+        values: values,
+        filled: 0,
         awards: [0; 192],
     }
 }
@@ -95,6 +106,8 @@ fn answered(kind: u8, answer: Answer) -> Turn
     Turn {
         auction: next,
         reply: blank(kind, answer.number),
+        excess: 0,
+        settled: UNSETTLED,
     }
 }
 
@@ -117,6 +130,8 @@ fn malformed(auction: Auction) -> Turn
     Turn {
         auction: auction,
         reply: blank(255, 12),
+        excess: 0,
+        settled: UNSETTLED,
     }
 }
 
@@ -172,11 +187,15 @@ fn close_turn(auction: Auction) -> Turn
 {
     let closing = auction.close();
     let mut reply = blank(5, closing.number);
-    reply.excess = bits_of(closing.excess);
+    let excess = bits_of(closing.excess);
+    let values = reply_text::closing_values(excess);
+    reply.values = values;
     let next = closing.auction;
     Turn {
         auction: next,
         reply: reply,
+        excess: excess,
+        settled: UNSETTLED,
     }
 }
 
@@ -187,12 +206,16 @@ fn settle_turn(auction: Auction, frame: Frame) -> Turn
     let mut reply = blank(6, 0);
     let mut awards = reply.awards;
     let settled = settling::settle(auction, word(frame, 0), &mut awards);
+    let values = reply_text::settling_values(settled);
     reply.number = settled.number;
-    reply.settled = settled;
+    reply.values = values;
+    reply.filled = reply_text::award_bytes(settled.records);
     reply.awards = awards;
     Turn {
         auction: auction,
         reply: reply,
+        excess: 0,
+        settled: settled,
     }
 }
 

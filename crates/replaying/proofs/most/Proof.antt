@@ -1,26 +1,44 @@
 -- The second digit of a line decides.
+use mathlib.Core.Path.{ap, _∙_}
+use native.Mathlib.Omega.{arith}
 use borrow.Author.Needs.{needs}
-use Rattle.replaying.proofs.Bounding.{most-short, most-closing, most-settling, most-other}
+use lib.ListN.{getD}
+use Rattle.format.specs.HexLaws.{value-lt}
+use Rattle.replies.specs.Lengths.{mostOf, mostTo}
+use Rattle.replaying.proofs.Bounding.{most-short}
 use Rattle.replaying.proofs.most.Statement.{statement}
 use Rattle.replaying.proofs.most.Tie as tie
 
-returns : tie.Need-returns
-returns c = most-short _ (c .if1 .taken)
+most-requires : tie.Need-most-requires
+most-requires c κs = search needs
 
-shared-slice-read-if2 : tie.Need-shared-slice-read-if2
-shared-slice-read-if2 c = search needs
+returns : tie.Need-returns
+returns c = c .most .ensures ∙ most-short _ (c .before .if1 .taken)
+
+shared-slice-read-value-of : tie.Need-shared-slice-read-value-of
+shared-slice-read-value-of c = search needs
+
+value-of-requires : tie.Need-value-of-requires
+value-of-requires c κs = search needs
+
+cast-most : tie.Need-cast-most
+cast-most c = omega (arith, c .value-of .ensures, value-lt (getD (c .before .before .before .before .args .line .now) 1 0))
+
+most-requires-2 : tie.Need-most-requires-2
+most-requires-2 c κs = search needs
 
 returns-2 : tie.Need-returns-2
-returns-2 c = most-closing _ (c .if2 .taken)
-
-shared-slice-read-if3 : tie.Need-shared-slice-read-if3
-shared-slice-read-if3 c = search needs
-
-returns-3 : tie.Need-returns-3
-returns-3 c = most-settling _ (c .if3 .taken)
-
-returns-4 : tie.Need-returns-4
-returns-4 c = most-other _ (c .before .before .if2 .left) (c .if3 .left)
+unfolding mostTo
+returns-2 c = c .most2 .ensures ∙ ap mostOf (c .before .value-of .ensures)
 
 pub most-spec : {M : Type 1} → statement M
-most-spec = tie.close (tie.spec returns shared-slice-read-if2 returns-2 shared-slice-read-if3 returns-3 returns-4)
+most-spec =
+    tie.close
+    (tie.spec
+    most-requires
+    returns
+    shared-slice-read-value-of
+    value-of-requires
+    cast-most
+    most-requires-2
+    returns-2)

@@ -1,7 +1,8 @@
 -- Each reply is written into the tail that is left, which has room for it since all fit.
-use Prim.Native.Nat.{_-_}
+use Prim.Native.Nat.{_+_, _-_, _≤_}
 use native.Mathlib.Omega.{arith}
 use lib.ListN.{length}
+use Rattle.reply_text.specs.Texts.{textOf}
 use Rattle.replaying.proofs.Running.{Steps, steps, Written, written-first, room, tail-room, written-again, written-end}
 use Rattle.replaying.proofs.write.Statement.{statement}
 use Rattle.replaying.proofs.write.Tie as tie
@@ -12,9 +13,26 @@ Inv-loop bytes out₀ auction₀ read₀ written₀ out auction read written = W
 abbrev μ-loop : tie.MeasureT-loop
 μ-loop bytes out₀ auction₀ read₀ written₀ out auction read written = length bytes - read
 
+-- the function's start and the loop's head, from the turn's step; the step, from where the reply is written
+abbrev start : tie.After-step Inv-loop μ-loop → tie.Start Inv-loop μ-loop
+start c = c .before .before .before .before .before .before .before
+
+abbrev head : tie.After-step Inv-loop μ-loop → tie.At-loop Inv-loop μ-loop
+head c = c .before .before .before
+
+abbrev step : tie.After-slice-known2 Inv-loop μ-loop → tie.After-step Inv-loop μ-loop
+step c = c .before .before .before .before .before
+
 -- the turn of the line
-stepped : (c : tie.After-step Inv-loop μ-loop) → Steps (c .before .before .before .before .before .before .before .args .bytes .now) (c .before .next-line .result .now) (c .before .before .before .loop .read) (c .before .before .before .loop .inv .calls) (c .step .result)
-stepped c = steps _ _ _ _ _ _ (c .before .before .loop-test .taken) (c .before .next-line .ensures) (c .before .before .before .loop .inv .holds) (c .step .ensures)
+abbrev Stepped : tie.After-step Inv-loop μ-loop → Type 0
+Stepped c = Steps (start c .args .bytes .now) (c .before .next-line .result .now) (head c .loop .read) (head c .loop .inv .calls) (c .step .result)
+
+stepped : (c : tie.After-step Inv-loop μ-loop) → Stepped c
+stepped c = steps _ _ _ _ _ _ (c .before .before .loop-test .taken) (c .before .next-line .ensures) (head c .loop .inv .holds) (c .step .ensures)
+
+-- its reply fits the buffer behind those before
+fitting : (c : tie.After-step Inv-loop μ-loop) → head c .loop .written + length (textOf (c .step .result .reply)) ≤ length (head c .loop .out)
+fitting c = room _ _ _ _ _ _ _ _ (start c .pre) (head c .loop .inv) (stepped c)
 
 new-requires : tie.Need-new-requires Inv-loop μ-loop
 new-requires c κs = tt
@@ -29,36 +47,34 @@ step-requires : tie.Need-step-requires Inv-loop μ-loop
 step-requires c κs = tt
 
 sub-put : tie.Need-sub-put Inv-loop μ-loop
-sub-put c = omega (arith, room _ _ _ _ _ _ _ _ (c .before .before .before .before .before .before .before .before .pre) (c .before .before .before .before .loop .inv) (stepped (c .before)))
+sub-put c = omega (arith, fitting (c .before))
 
 part-put-start : tie.Need-part-put-start Inv-loop μ-loop
-part-put-start c = omega (arith, room _ _ _ _ _ _ _ _ (c .before .before .before .before .before .before .before .before .pre) (c .before .before .before .before .loop .inv) (stepped (c .before)))
+part-put-start c = omega (arith, fitting (c .before))
 
 part-put-end : tie.Need-part-put-end Inv-loop μ-loop
-part-put-end c = omega (arith, room _ _ _ _ _ _ _ _ (c .before .before .before .before .before .before .before .before .pre) (c .before .before .before .before .loop .inv) (stepped (c .before)))
+part-put-end c = omega (arith, fitting (c .before))
 
 put-requires : tie.Need-put-requires Inv-loop μ-loop
-put-requires c κs = tail-room _ _ _ _ _ _ _ _ (c .before .before .before .before .before .before .before .before .before .pre) (c .before .before .before .before .before .loop .inv) (stepped (c .before .before))
-
-size-requires : tie.Need-size-requires Inv-loop μ-loop
-size-requires c κs = tt
+put-requires c κs = let s = c .before .before in tail-room _ _ _ _ _ _ _ _ (start s .pre) (head s .loop .inv) (stepped s)
 
 add-written : tie.Need-add-written Inv-loop μ-loop
-add-written c =
-    let r = room _ _ _ _ _ _ _ _ (c .before .before .before .before .before .before .before .before .before .before .before .before .before .before .pre) (c .before .before .before .before .before .before .before .before .before .before .loop .inv) (stepped (c .before .before .before .before .before .before .before)) in
-    omega (arith, r, c .size .ensures .0, c .before .before .before .before .before .before .before .before .before .before .loop .inv .same, c .before .before .before .before .before .before .before .before .before .before .before .before .before .before .good)
+add-written c = omega (arith, fitting (step c), c .before .before .put .ensures .0, head (step c) .loop .inv .same, start (step c) .good)
 
 add-read : tie.Need-add-read Inv-loop μ-loop
-add-read c = omega (arith, stepped (c .before .before .before .before .before .before .before) .inside, c .before .before .before .before .before .before .before .before .before .before .before .before .before .before .good)
+add-read c = let s = step (c .before) in omega (arith, stepped s .inside, start s .good)
 
 add-read-2 : tie.Need-add-read-2 Inv-loop μ-loop
-add-read-2 c = omega (arith, stepped (c .before .before .before .before .before .before .before) .inside, c .before .before .before .before .before .before .before .before .before .before .before .before .before .before .good)
+add-read-2 c = let s = step (c .before) in omega (arith, stepped s .inside, start s .good)
 
 loop-less : tie.Need-loop-less Inv-loop μ-loop
-loop-less c = omega (arith, stepped (c .before .before .before .before .before .before .before) .inside, c .before .before .before .before .before .before .before .before .before .loop-test .taken)
+loop-less c = let s = step (c .before) in omega (arith, stepped s .inside, s .before .before .loop-test .taken)
 
 loop-again : tie.Need-loop-again Inv-loop μ-loop
-loop-again c = written-again _ _ _ _ _ _ _ _ (c .before .before .before .before .before .before .before .before .before .before .before .before .before .before .pre) (c .before .before .before .before .before .before .before .before .before .before .loop .inv) (stepped (c .before .before .before .before .before .before .before)) _ _ (c .before .before .before .before .put .ensures) (c .size .ensures .0)
+loop-again c =
+    let s = step (c .before) in
+    let p = c .before .before .before .put .ensures in
+    written-again _ _ _ _ _ _ _ _ (start s .pre) (head s .loop .inv) (stepped s) _ _ (p .1) (p .0)
 
 same-length : tie.Need-same-length Inv-loop μ-loop
 same-length c = c .before .loop .inv .same
@@ -80,7 +96,6 @@ write-spec =
     part-put-start
     part-put-end
     put-requires
-    size-requires
     add-written
     add-read
     add-read-2

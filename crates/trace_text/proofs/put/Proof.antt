@@ -28,7 +28,7 @@ same-length : tie.Need-same-length
 same-length c = search needs
 
 returns : tie.Need-returns
-returns c = whole _ (line (c .before .before)) (puts-none _ 0 _ (omega arith)) (words-refused _ (c .if1 .taken)) (omega arith)
+returns c = whole _ _ _ (line (c .before .before)) (puts-none _ 0 _ (omega arith)) (words-refused _ _ _ (c .if1 .taken)) (omega arith)
 
 slice-aggregate-put-signed-item : tie.Need-slice-aggregate-put-signed-item
 slice-aggregate-put-signed-item c = refl
@@ -44,7 +44,7 @@ returns-2 c =
     let closing = c .before .before in
     let kind = closing .before .before .before in
     let accepted = kind .before .before in
-    whole _ (line (accepted .before .before)) (closing .put-signed-item .ensures) (words-closing _ (accepted .if1 .left) (kind .if2 .taken)) (omega arith)
+    whole _ _ _ (line (accepted .before .before)) (closing .put-signed-item .ensures) (words-closing _ _ _ (accepted .if1 .left) (kind .if2 .taken)) (omega arith)
 
 put-settled-requires : tie.Need-put-settled-requires
 put-settled-requires c κs = omega arith
@@ -57,7 +57,7 @@ returns-3 c =
     let settled = c .before .before in
     let kind = settled .before .before .before in
     let accepted = kind .before .before .before .before in
-    whole _ (line (accepted .before .before)) (settled .put-settled .ensures) (words-settling _ (accepted .if1 .left) (kind .if3 .taken)) (omega arith)
+    whole _ _ _ (line (accepted .before .before)) (settled .put-settled .ensures) (words-settling _ _ _ (accepted .if1 .left) (kind .if3 .taken)) (omega arith)
 
 same-length-4 : tie.Need-same-length-4
 same-length-4 c = search needs
@@ -65,7 +65,7 @@ same-length-4 c = search needs
 returns-4 : tie.Need-returns-4
 returns-4 c =
     let kind = c .before .before in
-    whole _ (line (kind .before .before .before .before)) (puts-none _ 0 _ (omega arith)) (words-other _ (kind .if2 .left) (c .if3 .left)) (omega arith)
+    whole _ _ _ (line (kind .before .before .before .before)) (puts-none _ 0 _ (omega arith)) (words-other _ _ _ (kind .if2 .left) (c .if3 .left)) (omega arith)
 
 pub put-spec : {M : Type 1} → statement M
 put-spec =

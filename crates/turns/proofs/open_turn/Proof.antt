@@ -3,7 +3,8 @@ use mathlib.Core.Path.{refl, ap}
 use Rattle.format.specs.Fields.{fixed}
 use Rattle.rules.specs.Ledger.{Open}
 use Rattle.turns.proofs.Columns.{below}
-use Rattle.turns.proofs.Taking.{bare-opening, takes-call}
+use Rattle.turns.proofs.Taking.{takes-call}
+use native.Mathlib.Omega.{arith}
 use borrow.Author.Needs.{needs}
 use Rattle.turns.proofs.open_turn.Statement.{statement}
 use Rattle.turns.proofs.open_turn.Tie as tie
@@ -20,7 +21,7 @@ answered-requires c κs = search needs
 
 returns : tie.Need-returns
 returns c =
-    takes-call _ _ _ _ _ _ (ap Open (c .before .before .word .ensures)) (bare-opening _) (c .before .«open» .ensures) (c .answered .ensures)
+    takes-call _ _ _ _ _ _ (ap Open (c .before .before .word .ensures)) (omega arith, omega arith) (c .before .«open» .ensures) (c .answered .ensures)
 
 pub open-turn-spec : {M : Type 1} → statement M
 open-turn-spec = tie.close (tie.spec word-requires open-requires answered-requires returns)

@@ -1,7 +1,10 @@
--- The turn of the frame's kind; a frame that is of none of them reads as none.
+-- The turn of the frame's kind; a frame of another kind asks nothing.
+use mathlib.Core.Path.{_≡_}
 use native.Mathlib.Omega.{arith}
-use Rattle.replies.specs.Orders.{orderOf}
-use Rattle.turns.proofs.Taking.{framed, no-kind, ordered-as, ordered-none}
+use borrow.Author.Tests.{ne-eqb}
+use Rattle.replies.specs.Orders.{Malformed, orderOf}
+use Rattle.frames.specs.Decoded.{held}
+use Rattle.turns.proofs.Taking.{framed, ordered-as, ordered-none}
 use Rattle.turns.proofs.respond.Statement.{statement}
 use Rattle.turns.proofs.respond.Tie as tie
 
@@ -51,9 +54,20 @@ malformed-requires : tie.Need-malformed-requires
 malformed-requires c κs = tt
 
 returns-7 : tie.Need-returns-7
+unfolding orderOf
 returns-7 c =
-    let k = no-kind _ (c .before .before .before .before .before .before .before .pre) (c .before .before .before .before .before .before .if1 .left) (c .before .before .before .before .before .if2 .left) (c .before .before .before .before .if3 .left) (c .before .before .before .if4 .left) (c .before .before .if5 .left) (c .before .if6 .left) in
-    ordered-none _ _ _ k (c .malformed .ensures)
+    let k = c .before .before .before .before .before .before in
+    let f = k .before .args .frame in
+    let none : orderOf (held f) ≡ Malformed =
+    rw (
+      ne-eqb (f .kind) 1 (k .if1 .left),
+      ne-eqb (f .kind) 2 (c .before .before .before .before .before .if2 .left),
+      ne-eqb (f .kind) 3 (c .before .before .before .before .if3 .left),
+      ne-eqb (f .kind) 4 (c .before .before .before .if4 .left),
+      ne-eqb (f .kind) 5 (c .before .before .if5 .left),
+      ne-eqb (f .kind) 6 (c .before .if6 .left),
+    ) in
+    ordered-none _ f _ none (c .malformed .ensures)
 
 pub respond-spec : {M : Type 1} → statement M
 respond-spec =

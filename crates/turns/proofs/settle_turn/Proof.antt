@@ -20,13 +20,29 @@ slice-aggregate-settle c = search needs
 settle-requires : tie.Need-settle-requires
 settle-requires c κs = search needs
 
+settling-values-requires : tie.Need-settling-values-requires
+settling-values-requires c κs = search needs
+
+award-bytes-requires : tie.Need-award-bytes-requires
+award-bytes-requires c κs = search needs
+
 returns : tie.Need-returns
 returns c =
-    let b = c .before .before .before .before .before .blank .ensures in
-    let w = rw (c .before .before .before .word .ensures) at (c .before .settle .ensures) in
-    takes-settling _ _ (c .before .before .before .before .before .blank .result .awards) _ (b .2) w refl (b .0) refl
+    let settled = c .before .before .before in
+    let asked = settled .before .before in
+    let b = asked .before .before .blank in
+    let w = rw (asked .word .ensures) at (settled .settle .ensures) in
+    takes-settling _ _ (b .result .awards) (settled .settle .result) _ (b .ensures .2) w refl
+    record { kind = b .ensures .0; number = refl; values = c .before .settling-values .ensures; filled = c .award-bytes .ensures }
 
 pub settle-turn-spec : {M : Type 1} → statement M
 settle-turn-spec =
     tie.close
-    (tie.spec blank-requires word-requires slice-aggregate-settle settle-requires returns)
+    (tie.spec
+    blank-requires
+    word-requires
+    slice-aggregate-settle
+    settle-requires
+    settling-values-requires
+    award-bytes-requires
+    returns)
