@@ -6,10 +6,10 @@ use mathlib.Core.Logic.{⊎-elim}
 use native.Mathlib.Omega.{arith}
 use lib.ListN.{length, length-drop}
 use borrow.Author.Needs.{needs}
-use Rattle.awarding.proofs.Writing.{Writing, writing-first, writing-passed, writing-room, writing-taken, writing-end}
+use Rattle.award_records.proofs.Writing.{Writing, writing-first, writing-passed, writing-room, writing-taken, writing-end}
 use Rattle.numbers.specs.Tails.{tail-is}
-use Rattle.awarding.proofs.write_awards.Statement.{statement}
-use Rattle.awarding.proofs.write_awards.Tie as tie
+use Rattle.award_records.proofs.write_awards.Statement.{statement}
+use Rattle.award_records.proofs.write_awards.Tie as tie
 
 abbrev Inv-loop : tie.InvT-loop
 Inv-loop awards₀ award winners used₀ i₀ awards used i = Writing award winners awards₀ awards used i

@@ -11,8 +11,8 @@ use lib.Seq.{drop-cons}
 use borrow.Author.Tests.{eq-eqb, ne-eqb}
 use borrow.Rule.Slice.PartMut.{putMid, midOf, same-len-mid}
 use Rattle.rules.specs.Settling.{recordOf}
-use Rattle.awarding.specs.Awarding.{awardCount, recordsOf}
-use Rattle.awarding.specs.AwardingLaws.{records-count, flat-length}
+use Rattle.award_records.specs.Records.{awardCount, recordsOf}
+use Rattle.award_records.specs.RecordLaws.{records-count, flat-length}
 use Rattle.numbers.specs.Tails.{laid, Filled, filled-more, filled-all}
 
 -- what is left at place i: the record of its level, if that is above 0, and what is left behind it

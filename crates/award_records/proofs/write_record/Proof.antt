@@ -5,8 +5,8 @@ use lib.ListN.{length-set}
 use borrow.Author.Needs.{needs}
 use Rattle.numbers.specs.Tails.{laid}
 use Rattle.rules.specs.Settling.{recordOf}
-use Rattle.awarding.proofs.write_record.Statement.{statement}
-use Rattle.awarding.proofs.write_record.Tie as tie
+use Rattle.award_records.proofs.write_record.Statement.{statement}
+use Rattle.award_records.proofs.write_record.Tie as tie
 
 slice-write-out : tie.Need-slice-write-out
 slice-write-out c = search needs

@@ -2,9 +2,9 @@
 use Prim.Native.Nat.{_-_}
 use mathlib.Core.Logic.{⊎-elim}
 use borrow.Author.Needs.{needs}
-use Rattle.awarding.proofs.Counting.{Counting, counting-first, counting-taken, counting-passed, counting-end}
-use Rattle.awarding.proofs.count_awards.Statement.{statement}
-use Rattle.awarding.proofs.count_awards.Tie as tie
+use Rattle.award_records.proofs.Counting.{Counting, counting-first, counting-taken, counting-passed, counting-end}
+use Rattle.award_records.proofs.count_awards.Statement.{statement}
+use Rattle.award_records.proofs.count_awards.Tie as tie
 
 abbrev Inv-loop : tie.InvT-loop
 Inv-loop award n₀ i₀ n i = Counting award n i

@@ -4,14 +4,13 @@ use mathlib.Core.Path.{_≡_, sym, ap}
 use mathlib.Core.Bool.{true, false}
 use mathlib.Core.List.{List, map}
 use native.Mathlib.Omega.{arith}
-use borrow.Author.Tests.{le-leb, lt-leb, leb-true, ne-eqb}
+use borrow.Author.Tests.{le-leb, lt-leb, ne-eqb}
 use lib.Dec.{leb}
 use lib.ListN.{length, drop, getD, List·getD-eq-default}
 use Rattle.numbers.specs.Lists.{total}
 use Rattle.format.specs.Lines.{part, lineStart, lineEnd}
 use Rattle.format.specs.LineLaws.{line-inside, next-line, no-line}
-use Rattle.replies.specs.Replies.{replies}
-use Rattle.replies.specs.Lengths.{mostTo, mostIn, replies-bound}
+use Rattle.replies.specs.Lengths.{mostTo, mostIn}
 
 -- ---- one line, by its second digit
 
@@ -60,8 +59,3 @@ module _ (s l : List ℕ) (limit at used n : ℕ) (z : Bounded s limit at used) 
 
   pub bounded-again : n ≤ limit - used → Bounded s limit (at + length l + 1) (used + n)
   bounded-again g = record { within = omega (arith, z .within); all = omega (arith, z .all, adds) }
-
--- ---- a bound within the limit is enough
-
-pub enough-fits : (s : List ℕ) (limit : ℕ) → true ≡ leb (mostIn s) limit → true ≡ leb (length (replies s)) limit
-enough-fits s limit e = sym (le-leb (length (replies s)) limit (omega (arith, replies-bound s, leb-true (mostIn s) limit (sym e))))

@@ -1,8 +1,8 @@
 -- The second digit of a line decides.
 use borrow.Author.Needs.{needs}
-use Rattle.replaying.proofs.Bounding.{most-short, most-closing, most-settling, most-other}
-use Rattle.replaying.proofs.most.Statement.{statement}
-use Rattle.replaying.proofs.most.Tie as tie
+use Rattle.reply_bound.proofs.Bounding.{most-short, most-closing, most-settling, most-other}
+use Rattle.reply_bound.proofs.most.Statement.{statement}
+use Rattle.reply_bound.proofs.most.Tie as tie
 
 returns : tie.Need-returns
 returns c = most-short _ (c .if1 .taken)

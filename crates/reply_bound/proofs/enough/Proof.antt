@@ -2,9 +2,9 @@
 use Prim.Native.Nat.{_+_, _-_, _≤_}
 use native.Mathlib.Omega.{arith}
 use lib.ListN.{length}
-use Rattle.replaying.proofs.Bounding.{Bounded, bounded-first, bounded-end, bounded-inside, bounded-over, bounded-again}
-use Rattle.replaying.proofs.enough.Statement.{statement}
-use Rattle.replaying.proofs.enough.Tie as tie
+use Rattle.reply_bound.proofs.Bounding.{Bounded, bounded-first, bounded-end, bounded-inside, bounded-over, bounded-again}
+use Rattle.reply_bound.proofs.enough.Statement.{statement}
+use Rattle.reply_bound.proofs.enough.Tie as tie
 
 abbrev Inv-loop : tie.InvT-loop
 Inv-loop bytes limit start₀ sum₀ start sum = Bounded bytes limit start sum

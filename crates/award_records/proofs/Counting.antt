@@ -11,7 +11,7 @@ use lib.Seq.{take-suc, take-all}
 use borrow.Author.Tests.{lt-ltb, le-ltb}
 use Rattle.numbers.specs.Lists.{keep}
 use Rattle.numbers.specs.ListLaws.{keep-append}
-use Rattle.awarding.specs.Awarding.{awardCount}
+use Rattle.award_records.specs.Records.{awardCount}
 
 count-more : (vs : List ℕ) (v : ℕ) → awardCount (vs ++ (v ∷ [])) ≡ awardCount vs + cond (ltb 0 v) 1 0
 unfolding keep
