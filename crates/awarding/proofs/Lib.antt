@@ -1,5 +1,3 @@
-mod Counting
-mod Writing
 mod Preferring
 mod Candidates
 mod Winning

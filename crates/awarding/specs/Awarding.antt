@@ -1,20 +1,15 @@
--- The developers of the awarded levels, taken from arrays of the developers' numbers; the award records, and how they lie in a buffer.
+-- The developers of the awarded levels, taken from arrays of the developers' numbers.
 use Prim.Native.Nat.{ℕ, suc}
 use mathlib.Core.Path.{_≡_}
 use mathlib.Core.Bool.{cond}
 use mathlib.Core.List.{List, [], _∷_}
-use lib.Dec.{ltb, eqb}
-use lib.ListN.{length}
-use Rattle.numbers.specs.Lists.{keep}
+use lib.Dec.{eqb}
 use Rattle.rules.specs.Ledger.{Ledger}
 use Rattle.rules.specs.Clearing.{ofEach, high, low}
 use Rattle.rules.specs.Award.{winner}
-use Rattle.rules.specs.Settling.{recordOf}
 use Rattle.sound.specs.Sound.{Sound}
 use Rattle.levels.specs.Held.{heldLevels}
 use Rattle.levels.specs.declared.Levels.{Levels}
-
--- ---- the developers
 
 -- the developers of the levels vs of the projects from k on; 0 for a level 0
 unfoldable pub winnersFrom : Ledger → ℕ → ℕ → List ℕ → List ℕ
@@ -33,15 +28,3 @@ pub record Arrays (l : Ledger) (p : ℕ) (ps ss ds : List ℕ) (xs : List Levels
 -- r has the developers of the awarded levels, where the arrays are those of a sound ledger's developers at price p
 pub record Winners (projects studies days : List ℕ) (declared : List Levels) (lows highs award r : List ℕ) : Type 0 where
   pub right : (l : Ledger) (p : ℕ) → Sound l → Arrays l p projects studies days declared lows highs → r ≡ winnersFrom l p 1 award
-
--- ---- the records
-
--- how many levels are above 0
-abbrev pub awardCount : List ℕ → ℕ
-awardCount vs = length (keep (ltb 0) vs)
-
--- the records of the levels vs with the developers ns of the projects from k on: one for each level above 0
-unfoldable pub recordsOf : ℕ → List ℕ → List ℕ → List (List ℕ)
-recordsOf k [] ns = []
-recordsOf k (v ∷ vs) [] = []
-recordsOf k (v ∷ vs) (n ∷ ns) = cond (eqb v 0) (recordsOf (suc k) vs ns) (recordOf k n v ∷ recordsOf (suc k) vs ns)

@@ -7,7 +7,6 @@ ghost use lib.ListN.{length};
 ghost use Rattle.numbers.specs.Tails.{laid};
 ghost use Rattle.replies.specs.Orders.{orderIn};
 ghost use Rattle.replies.specs.Replies.{replies};
-ghost use Rattle.replies.specs.Lengths.{mostTo, mostIn};
 ghost use Rattle.turns.specs.Turns.{Takes};
 ghost use Rattle.replaying.specs.Replayed.{hosted, over};
 use auction::Auction;
@@ -21,34 +20,6 @@ fn step(auction: Auction, line: &[u8]) -> Turn
     ensures { λ r. ⌜ Takes auction (orderIn (now (line .entry))) r ⌝ }
 {
     turns::respond(auction, frames::decode(line))
-}
-
-// At least as many bytes as the reply to a line has, by its second digit.
-fn most(line: &[u8]) -> usize
-    ensures { λ r. ⌜ r ≡ mostTo (now (line .entry)) ⌝ }
-{
-    if line.len() < 2 {
-        return reply_text::most(0);
-    }
-    reply_text::most(frames::value_of(line[1]) as u8)
-}
-
-// Whether so many bytes are surely enough for the replies, by the lines alone: no call is made.
-fn enough(bytes: &[u8], limit: usize) -> bool
-    ensures { λ r. ⌜ r ≡ leb (mostIn (now (bytes .entry))) limit ⌝ }
-{
-    let mut start: usize = 0;
-    let mut sum: usize = 0;
-    while start < bytes.len() {
-        let line = frames::next_line(bytes, start);
-        let n = most(line);
-        if limit - sum < n {
-            return false;
-        }
-        sum += n;
-        start = start + line.len() + 1;
-    }
-    true
 }
 
 // Whether the sizes of the replies to a record add up to at most so many bytes.
@@ -78,7 +49,7 @@ fn sizes_fit(bytes: &[u8], limit: usize) -> bool
 fn fits(bytes: &[u8], limit: usize) -> bool
     ensures { λ r. ⌜ r ≡ leb (length (replies (now (bytes .entry)))) limit ⌝ }
 {
-    if enough(bytes, limit) {
+    if reply_bound::enough(bytes, limit) {
         return true;
     }
     sizes_fit(bytes, limit)

@@ -31,11 +31,13 @@ use Rattle.table.specs.declared.Table.{Table}
 use Rattle.open_levels.specs.Tabled.{Tabled}
 use Rattle.selection.specs.Selection.{selectedOf, Selects}
 use Rattle.selection.specs.declared.Selected.{Selected}
-use Rattle.awarding.specs.Awarding.{Winners, awardCount, recordsOf}
+use Rattle.awarding.specs.Awarding.{Winners}
+use Rattle.award_records.specs.Records.{awardCount, recordsOf}
 use Rattle.numbers.specs.Tails.{laid, length-laid, behind-laid}
-use Rattle.awarding.specs.AwardingLaws.{records-are, records-from-count, records-few, flat-length}
+use Rattle.award_records.specs.RecordLaws.{records-few, flat-length}
 use Rattle.settling.specs.declared.Settled.{Settled}
 use Rattle.settling.specs.Settles.{Settles, refusedWith, settledAs}
+use Rattle.settling.proofs.Records.{records-are, records-from-count}
 
 closed-number : (p : Phase) → isClosed p ≡ eqb (phaseNumber p) 4
 closed-number Fresh = refl

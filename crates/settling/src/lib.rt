@@ -51,14 +51,14 @@ pub fn settle(auction: Auction, limit: u32, awards: &mut [u8]) -> Settled
         return refused(selected.number);
     }
     let award = selected.award;
-    let records = awarding::count_awards(award);
+    let records = award_records::count_awards(award);
     if awards.len() < 6 * records {
         return refused(11);
     }
     let studies = auction.studies;
     let days = auction.days;
     let winners = awarding::winners(projects, studies, days, declared, lows, highs, award);
-    awarding::write_awards(awards, award, winners);
+    award_records::write_awards(awards, award, winners);
     Settled {
         number: 0,
         price: p,

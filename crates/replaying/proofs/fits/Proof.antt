@@ -1,8 +1,19 @@
 -- A bound within the limit is enough; else the sizes decide.
-use mathlib.Core.Path.{sym, _∙_}
-use Rattle.replaying.proofs.Bounding.{enough-fits}
+use Prim.Native.Nat.{ℕ}
+use mathlib.Core.Path.{_≡_, sym, _∙_}
+use mathlib.Core.Bool.{true}
+use mathlib.Core.List.{List}
+use native.Mathlib.Omega.{arith}
+use borrow.Author.Tests.{le-leb, leb-true}
+use lib.Dec.{leb}
+use lib.ListN.{length}
+use Rattle.replies.specs.Replies.{replies}
+use Rattle.replies.specs.Lengths.{mostIn, replies-bound}
 use Rattle.replaying.proofs.fits.Statement.{statement}
 use Rattle.replaying.proofs.fits.Tie as tie
+
+enough-fits : (s : List ℕ) (limit : ℕ) → true ≡ leb (mostIn s) limit → true ≡ leb (length (replies s)) limit
+enough-fits s limit e = sym (le-leb (length (replies s)) limit (omega (arith, replies-bound s, leb-true (mostIn s) limit (sym e))))
 
 enough-requires : tie.Need-enough-requires
 enough-requires c κs = tt
