@@ -122,11 +122,17 @@ pub fn withdraws(kind: u8, quantity: u32) -> bool
     0 < quantity
 }
 
-// Whether a round closes the auction: there is no excess, or C is the floor.
+// A thousandth of a GWh in kWh: an excess below it reads as none (document 02, 1).
+const THOUSANDTH: u64 = 1_000;
+
+// Whether a round closes the auction: the excess is below a thousandth of a GWh, or C is the floor.
 pub fn clears(supply: u64, demand: u64, closing: u32, floor: u32) -> bool
     ensures { λ r. ⌜ r ≡ clears supply demand closing floor ⌝ }
 {
     if supply <= demand {
+        return true;
+    }
+    if supply - demand < THOUSANDTH {
         return true;
     }
     closing == floor

@@ -1,18 +1,19 @@
 -- Closing a round in words (document 01, Rounds): what it leaves of each developer, the excess, and when the auction is closed.
-use Prim.Native.Nat.{ℕ, _≤_, _<_}
-use mathlib.Core.Path.{_≡_, refl, ap, _∙_}
+use Prim.Native.Nat.{ℕ, suc, _+_, _-_, _/_, _<_}
+use mathlib.Core.Path.{_≡_, refl, sym, ap, _∙_}
 use mathlib.Core.Logic.{_⊎_, ⊎-elim, ⊎-map, _↔_}
 use mathlib.Core.Bool.{Bool, true, false, cond, _&&_, _||_, true≢false}
 use mathlib.Core.List.{List, [], _∷_, _++_}
 use native.Mathlib.Omega.{arith}
-use lib.Dec.{leb, ltb, eqb}
-use lib.IntN.{pos, _+ℤ_, -ℤ-+ℤ-cancel}
-use borrow.Author.Tests.{leb-true, le-leb, ltb-true, lt-ltb, eqb-true, eq-eqb}
-use Rattle.numbers.specs.Cases.{and-true, or-true, or-left, or-right}
+use lib.Dec.{ltb, eqb}
+use lib.IntN.{pos, negsuc, _+ℤ_, _-ℤ_, -ℤ-+ℤ-cancel}
+use borrow.Author.Tests.{ltb-true, ltb-false, lt-ltb, le-ltb, eqb-true, eq-eqb, ne-eqb}
+use Rattle.numbers.specs.Cases.{and-true, or-true, or-left, or-right, le-or-lt}
+use Rattle.curve.specs.Signs.{minus}
 use Rattle.rules.specs.Ledger.{Step, Close, Standing, none, made, Developer, Phase, Between, Closed, Ledger}
 use Rattle.rules.specs.Clearing.{developersOf, greatestOf, supply, demandAt}
 use Rattle.rules.specs.Refusals.{floor}
-use Rattle.rules.specs.Rounds.{withdrawsAll, added, lastLevel, applied, supplyAfter, clears, phaseAfter, accepted, excess}
+use Rattle.rules.specs.Rounds.{withdrawsAll, added, lastLevel, applied, supplyAfter, thousandths, atMostZero, clears, phaseAfter, accepted, excess}
 
 pub last-level-append : (q : ℕ) (ws vs : List Step) → lastLevel q (ws ++ vs) ≡ lastLevel (lastLevel q ws) vs
 unfolding lastLevel
@@ -75,6 +76,33 @@ module _ (l : Ledger) (n : ℕ) where
   unfolding lastLevel added
   offer-withdraws ss s e = rw (last-level-append (l .developers n .quantity) ss (s ∷ [])) at (after-closing (made (ss ++ (s ∷ []))) _ e refl)
 
+-- ---- the excess in thousandths of a GWh (document 02, 1)
+
+zero-or-less : (m : ℕ) → atMostZero (pos 0 -ℤ pos m) ≡ true
+zero-or-less m = rw (minus 0 m) (go (ltb 0 m))
+  where
+    go : (b : Bool) → atMostZero (cond b (negsuc (m - 1)) (pos (0 - m))) ≡ true
+    go true = refl
+    go false = eq-eqb (0 - m) 0 (omega arith)
+
+whole-thousands : (n : ℕ) → eqb (n / 1000) 0 ≡ ltb n 1000
+whole-thousands n = ⊎-elim
+    (λ h. ne-eqb (n / 1000) 0 (λ e. omega arith) ∙ sym (le-ltb n 1000 h))
+    (λ h. eq-eqb (n / 1000) 0 (omega arith) ∙ sym (lt-ltb n 1000 h))
+    (le-or-lt 1000 n)
+
+-- so read, an excess is 0 or less exactly when it is below 1,000 kWh
+pub below-a-thousand : (s d : ℕ) → atMostZero (thousandths (pos s -ℤ pos d)) ≡ ltb s (d + 1000)
+unfolding thousandths
+below-a-thousand s d = rw (minus s d) (go (ltb s d) refl)
+  where
+    go : (b : Bool) → ltb s d ≡ b → atMostZero (thousandths (cond b (negsuc (d - suc s)) (pos (s - d)))) ≡ ltb s (d + 1000)
+    go true e = zero-or-less (suc (d - suc s) / 1000) ∙ sym (lt-ltb s (d + 1000) (let h = ltb-true s d e in omega arith))
+    go false e = whole-thousands (s - d) ∙ ⊎-elim
+        (λ h. le-ltb (s - d) 1000 (omega arith) ∙ sym (le-ltb s (d + 1000) h))
+        (λ h. lt-ltb (s - d) 1000 (let g = ltb-false s d e in omega arith) ∙ sym (lt-ltb s (d + 1000) h))
+        (le-or-lt (d + 1000) s)
+
 -- ---- the auction after the closing
 
 module _ (l : Ledger) where
@@ -88,23 +116,26 @@ module _ (l : Ledger) where
   unfolding excess
   excess-is-difference = -ℤ-+ℤ-cancel (pos (supplyAfter l)) (pos (demandAt l (l .closing)))
 
-  -- the auction is closed exactly where supply is at most demand or C is the floor
-  pub closed-when : (accepted l Close .phase ≡ Closed) ↔ ((supplyAfter l ≤ demandAt l (l .closing)) ⊎ (l .closing ≡ floor l))
+  -- the auction is closed exactly where the excess is below 1,000 kWh or C is the floor
+  pub closed-when : (accepted l Close .phase ≡ Closed) ↔ ((supplyAfter l < demandAt l (l .closing) + 1000) ⊎ (l .closing ≡ floor l))
   unfolding accepted phaseAfter clears
   closed-when = (decided test refl, (λ h. ap (λ b. cond b Closed Between) (passes h)))
     where
       met : Bool
-      met = leb (supplyAfter l) (demandAt l (l .closing))
+      met = atMostZero (thousandths (pos (supplyAfter l) -ℤ pos (demandAt l (l .closing))))
+
+      met-is : met ≡ ltb (supplyAfter l) (demandAt l (l .closing) + 1000)
+      met-is = below-a-thousand (supplyAfter l) (demandAt l (l .closing))
 
       test : Bool
       test = met || eqb (l .closing) (floor l)
 
-      decided : (b : Bool) → test ≡ b → cond b Closed Between ≡ Closed → (supplyAfter l ≤ demandAt l (l .closing)) ⊎ (l .closing ≡ floor l)
-      decided true e h = ⊎-map (leb-true _ _) (eqb-true _ _) (or-true met _ e)
+      decided : (b : Bool) → test ≡ b → cond b Closed Between ≡ Closed → (supplyAfter l < demandAt l (l .closing) + 1000) ⊎ (l .closing ≡ floor l)
+      decided true e h = ⊎-map (λ t. ltb-true _ _ (sym met-is ∙ t)) (eqb-true _ _) (or-true met _ e)
       decided false e h = absurd (let z : _≡_ {A = ℕ} 0 1 = cc in omega arith)
 
-      passes : (supplyAfter l ≤ demandAt l (l .closing)) ⊎ (l .closing ≡ floor l) → test ≡ true
-      passes = ⊎-elim (λ h. or-left met _ (le-leb _ _ h)) (λ h. or-right met _ (eq-eqb _ _ h))
+      passes : (supplyAfter l < demandAt l (l .closing) + 1000) ⊎ (l .closing ≡ floor l) → test ≡ true
+      passes = ⊎-elim (λ h. or-left met _ (met-is ∙ lt-ltb _ _ h)) (λ h. or-right met _ (eq-eqb _ _ h))
 
   pub by-phase-after : (P : Phase → Type 0) → P Closed → P Between → P (phaseAfter l)
   unfolding phaseAfter

@@ -1,10 +1,10 @@
 -- What the accepted calls do to the ledger, the ledger of a list of calls, and the answers along it (document 01, Rounds and Closing
 -- price and award).
-use Prim.Native.Nat.{ℕ}
-use mathlib.Core.Bool.{Bool, cond, _&&_, _||_}
+use Prim.Native.Nat.{ℕ, suc, _/_}
+use mathlib.Core.Bool.{Bool, true, cond, _&&_, _||_}
 use mathlib.Core.List.{List, [], _∷_, _++_}
-use lib.Dec.{leb, ltb, eqb}
-use lib.IntN.{ℤ, pos, _-ℤ_}
+use lib.Dec.{ltb, eqb}
+use lib.IntN.{ℤ, pos, negsuc, _-ℤ_}
 use Rattle.rules.specs.Ledger.{Step, Move, Offer, Call, SetUp, Register, Open, By, Close, Standing, none, made, Developer, Phase, Ready, Round, Between, Closed, Ledger, start, withPhase, withSettings, withPrices, withDevelopers, withDeveloper, withOffer, newcomer}
 use Rattle.rules.specs.Clearing.{supply, demandAt}
 use Rattle.rules.specs.Refusals.{floor, openingPrice, number}
@@ -45,9 +45,18 @@ applied o x = record {
 unfoldable pub supplyAfter : Ledger → ℕ
 supplyAfter l = supply (λ x. applied (l .opening) x .quantity) l
 
--- the auction is closed if the excess of supply over demand is 0 or less, or C is the floor
+-- an excess in kWh per day read in thousandths of a GWh per day: what lies beyond the third decimal is dropped (document 02, 1)
+unfoldable pub thousandths : ℤ → ℤ
+thousandths (pos n) = pos (n / 1000)
+thousandths (negsuc n) = pos 0 -ℤ pos (suc n / 1000)
+
+abbrev pub atMostZero : ℤ → Bool
+atMostZero (pos n) = eqb n 0
+atMostZero (negsuc n) = true
+
+-- the auction is closed if the excess of supply over demand, so read, is 0 or less, or C is the floor (document 02, 1)
 unfoldable pub clears : ℕ → ℕ → ℕ → ℕ → Bool
-clears supply demand c floor = leb supply demand || eqb c floor
+clears supply demand c floor = atMostZero (thousandths (pos supply -ℤ pos demand)) || eqb c floor
 
 unfoldable pub phaseAfter : Ledger → Phase
 phaseAfter l = cond (clears (supplyAfter l) (demandAt l (l .closing)) (l .closing) (floor l)) Closed Between
