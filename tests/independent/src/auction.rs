@@ -1,4 +1,5 @@
-//! The ledger of document 01: what the calls of one auction leave behind, in order.
+//! The ledger of document 01, which closes by document 02's request 1: what the calls of one
+//! auction leave behind, in order.
 //! Each call makes the paper's checks in the paper's order; a refused one changes nothing.
 //! Numbers come in as wide as a caller can pass them and are held as u64.
 
@@ -26,6 +27,9 @@ pub const MOST_LEVELS: usize = 8;
 pub const HIGHEST_LEVEL: u32 = 1_000_000_000;
 /// Most steps of an offer (document 01, Rounds).
 pub const MOST_STEPS: usize = 8;
+/// Least excess after which another round may be opened: a thousandth of a GWh per day
+/// (document 02, request 1).
+pub const LEAST_OPEN_EXCESS: i64 = 1_000;
 
 /// The ledger, document 01's term (Closing price and award).
 #[derive(Clone, Debug, Default, PartialEq, Eq)]
@@ -213,7 +217,7 @@ impl Auction {
         }
         self.last_c = Some(c);
         let excess = self.supply().cast_signed() - self.settings.demand(c).cast_signed();
-        self.phase = if excess <= 0 || c == self.settings.floor() {
+        self.phase = if excess < LEAST_OPEN_EXCESS || c == self.settings.floor() {
             Phase::Closed
         } else {
             Phase::BetweenRounds

@@ -1,5 +1,6 @@
-//! An independent implementation of document 01, to run beside the engine.
-//! It is written from the paper's rules alone and shares no code with the engine.
+//! An independent implementation of document 01 with the requests of document 02, to run beside
+//! the engine.
+//! It is written from the papers' rules alone and shares no code with the engine.
 //! Where the paper gives a rule and a formula for it, this one takes the rule.
 
 pub mod auction;

@@ -2,6 +2,7 @@
 //! same record. Most are auctions that settle, with refused calls and damaged lines between
 //! their calls; each line is also made here, so that the next one can fit the auction.
 
+mod aimed;
 mod books;
 mod counted;
 mod damage;
@@ -15,6 +16,7 @@ use crate::auction::{Auction, Phase};
 use crate::random::Random;
 use crate::replay::{make, read_call, write_call, Call};
 use crate::settling::number_of_choices;
+pub use aimed::DECISIVE;
 pub use counted::{largest_book, LARGEST_BOOKS};
 pub use long::long_record;
 
@@ -133,6 +135,9 @@ impl Writer {
         self.make(&Call::Open { c: c as u32 });
         for offer in offers::offers(&mut self.random, &self.auction, last) {
             self.make(&offer);
+        }
+        if self.random.chance(15) {
+            self.aim();
         }
         self.make(&Call::Close);
     }

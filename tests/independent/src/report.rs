@@ -1,7 +1,11 @@
 //! What a program that compares replies prints: one line a group of records with what their
-//! replies were, and the first difference; and what it ends with.
+//! replies were, and the first difference; how often rounds closed where the closing rule
+//! decides; and what it ends with.
+
+mod closings;
 
 use crate::replay::lines;
+pub use closings::Closings;
 use std::collections::BTreeMap;
 use std::fmt::Write;
 use std::process::ExitCode;
@@ -23,6 +27,7 @@ pub struct Group {
     settled: u64,
     /// Replies by kind and answer, the first four digits.
     replies: BTreeMap<String, u64>,
+    closings: Closings,
     difference: Option<String>,
 }
 
@@ -33,12 +38,14 @@ impl Group {
             records: 0,
             settled: 0,
             replies: BTreeMap::new(),
+            closings: Closings::default(),
             difference: None,
         }
     }
 
     /// Counts a record by the replies to it.
-    pub fn count(&mut self, replies: &[u8]) {
+    pub fn count(&mut self, record: &[u8], replies: &[u8]) {
+        self.closings.count(record, replies);
         let replies = lines(replies);
         let settled = replies.iter().any(|reply| reply.starts_with(b"0600"));
         self.records += 1;
@@ -77,6 +84,7 @@ impl Group {
             "{name}: {records} records, {percent:.1}% settle, {replies} replies ({}): {verdict}",
             counts.join(", ")
         );
+        self.closings.print();
         self.difference.is_none()
     }
 }

@@ -2,7 +2,8 @@
 //! Each record is replayed into buffers that are one byte too short, exact, and longer; every
 //! byte of them, and of their surroundings, is compared.
 //! One line a group of records: their replies by kind and answer, and `ok` or the first
-//! difference. The exit status is 0 only if no group differs.
+//! difference; below it, how many rounds closed where the closing rule decides. The exit status
+//! is 0 only if no group differs.
 
 #[path = "../engine.rs"]
 mod engine;
@@ -48,7 +49,7 @@ fn compared(name: &'static str, records: Vec<Vec<u8>>) -> Group {
 /// Compares the engine with the independent implementation's replies to the same record.
 fn compare(group: &mut Group, record: &[u8]) {
     let independent = replay(record);
-    group.count(&independent);
+    group.count(record, &independent);
     for length in lengths_around(independent.len()) {
         compare_lent(group, record, &independent, length);
     }

@@ -47,7 +47,7 @@ fn sample_and_examples() -> Vec<Vec<u8>> {
 
 fn compare(group: &mut Group, record: &[u8], output: &Output) {
     let expected = printed(record);
-    group.count(&expected);
+    group.count(record, &expected);
     // Which exit status it has is left free; a signal is none.
     if output.stdout != expected || output.status.code().is_none() {
         let why = format!("the program ended with {}", output.status);

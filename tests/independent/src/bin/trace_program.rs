@@ -52,7 +52,7 @@ fn sample_and_examples() -> Vec<Vec<u8>> {
 
 fn compare(group: &mut Group, words: &mut BTreeMap<String, u64>, record: &[u8], output: &Output) {
     let expected = traced(record);
-    count(group, words, &expected);
+    count(group, words, record, &expected);
     // Which exit status it has is left free; a signal is none.
     if output.stdout != expected || output.status.code().is_none() {
         let why = format!("the program ended with {}", output.status);
@@ -63,11 +63,11 @@ fn compare(group: &mut Group, words: &mut BTreeMap<String, u64>, record: &[u8], 
 
 /// Counts the replies, which begin with a digit or a capital, and the words by their names; the
 /// excess by its sign.
-fn count(group: &mut Group, words: &mut BTreeMap<String, u64>, text: &[u8]) {
+fn count(group: &mut Group, words: &mut BTreeMap<String, u64>, record: &[u8], text: &[u8]) {
     let (below, replies): (Vec<&[u8]>, Vec<&[u8]>) = lines(text)
         .into_iter()
         .partition(|line| line[0].is_ascii_lowercase());
-    group.count(&replies.join(&b'\n'));
+    group.count(record, &replies.join(&b'\n'));
     for line in below {
         let line = String::from_utf8_lossy(line);
         let (name, number) = line.split_once(' ').expect("a name and a number");

@@ -43,11 +43,13 @@ fn sizes(random: &mut Random) -> Vec<usize> {
         .collect()
 }
 
-/// The levels of one book: few, so that developers share them and totals tie, and small or
-/// as large as can be declared.
+/// The levels of one book: few, so that developers share them and totals tie. They are small, or
+/// near the excess of 1,000 that another round takes, or as large as can be declared.
 fn scale(random: &mut Random) -> Vec<u32> {
     let most = random.one_of(&[3, 8, 9, 12, 20, 100]);
-    let unit = random.one_of(&[1, 7, 10, 100, 12_345, 10_000_000]);
+    let unit = random.one_of(&[
+        1, 7, 500, 2_000, 12_345, 12_345, 250_000, 1_000_000, 10_000_000,
+    ]);
     (1..=most).map(|multiple| multiple * unit).collect()
 }
 

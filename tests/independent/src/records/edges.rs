@@ -115,8 +115,9 @@ pub fn reply_sizes() -> Vec<Vec<u8>> {
 const SHORTEST_REPLY: usize = "FF0C\n".len();
 const CLOSING_REPLY: usize = "0500FFFFFFFFFFFFFFC9\n".len();
 
-/// A record with so many bytes of replies: rounds of an existing plant alone, then blank lines.
-/// Closings have the longer replies, so their number decides the rest by 5.
+/// A record with so many bytes of replies: rounds of an existing plant alone, whose excess stays
+/// above 1,000, then blank lines. Closings have the longer replies, so their number decides the
+/// rest by 5.
 fn replied_by(bytes: usize) -> Vec<u8> {
     let longer = CLOSING_REPLY - SHORTEST_REPLY;
     let closings = (0..SHORTEST_REPLY)

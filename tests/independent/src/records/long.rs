@@ -14,7 +14,8 @@ pub fn long_record(seed: u64, length: usize) -> Vec<u8> {
     writer.record
 }
 
-/// The existing plants cover the highest demand alone, so only the floor ends the auction.
+/// The existing plants alone leave an excess of more than 1,000 at the highest demand, so only
+/// the floor ends the auction.
 const EXISTING_PLANTS: u8 = 8;
 
 impl Writer {
@@ -48,7 +49,7 @@ fn registration(number: u8) -> Call {
         study_value: 0,
         start_day: 0,
         levels: if existing {
-            vec![200]
+            vec![300]
         } else {
             (1..=8).map(|multiple| multiple * 10).collect()
         },

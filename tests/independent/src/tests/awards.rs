@@ -80,6 +80,24 @@ fn closing_price_is_the_walk() {
     assert!(walked > 1_000, "{walked} walks");
 }
 
+/// Where the lows cover at the last C, it is the closing price: also where the last excess was
+/// from 1 to 999 (document 02, request 1).
+#[test]
+fn closing_price_after_an_excess() {
+    let mut from_1_to_999 = 0;
+    each_settling(|auction, settlement| {
+        let last_c = auction.last_c().expect("a closed round");
+        let demand = auction.settings().demand(last_c);
+        if auction.supply() >= demand {
+            assert_eq!(settlement.closing_price, last_c);
+            assert_eq!(settlement.covering, settlement.choices);
+            let excess = auction.supply() - demand;
+            from_1_to_999 += u64::from((1..=999).contains(&excess));
+        }
+    });
+    assert!(from_1_to_999 > 100, "{from_1_to_999} settlings");
+}
+
 /// The award as a list of levels by rising project.
 fn awarded_levels(auction: &Auction, settlement: &Settlement) -> Vec<u64> {
     let level = |project: &u8| {

@@ -2,8 +2,8 @@
 
 use super::{each_step, Step, RECORDS};
 use crate::auction::{Phase, NEW};
-use crate::records::record;
-use crate::replay::{lines, replay, replay_into, Accepted, Call};
+use crate::records::{edges, record};
+use crate::replay::{lines, replay, replay_into, Accepted, Call, PROGRAM_BYTES};
 use crate::{host_number, BUFFER_TOO_SHORT};
 
 /// How many of the records are looked at.
@@ -39,7 +39,8 @@ fn a_stays_covered() {
 }
 
 /// The excess is supply less Dem at C, supply there is the sum of the lows, and the phase goes
-/// by the excess and the floor.
+/// by the floor and the excess in GWh per day with what lies beyond the third decimal dropped
+/// (document 02, request 1).
 #[test]
 fn excess_and_phase_agree() {
     each_line(|Step { answer, after, .. }| {
@@ -54,7 +55,8 @@ fn excess_and_phase_agree() {
             i128::from(*excess),
             i128::from(lows) - i128::from(settings.demand(c))
         );
-        let closed = *excess <= 0 || c == settings.floor();
+        let thousandths = *excess / 1_000;
+        let closed = thousandths <= 0 || c == settings.floor();
         let phase = if closed {
             Phase::Closed
         } else {
@@ -115,6 +117,23 @@ fn replies_in_buffers() {
         assert!(replies.is_empty() || refused == host_number(Err(BUFFER_TOO_SHORT)));
         assert!(short.iter().all(|&byte| byte == 0xEE));
     }
+}
+
+/// Replies of each size around that of the program's buffer, then settlings that stay below it
+/// or go beyond it by one.
+#[test]
+fn sizes_of_replies() {
+    let sizes: Vec<usize> = edges::reply_sizes()
+        .iter()
+        .map(|record| replay(record).len())
+        .collect();
+    let (around, settlings) = sizes.split_at(13);
+    assert!(around
+        .iter()
+        .copied()
+        .eq(PROGRAM_BYTES - 6..=PROGRAM_BYTES + 6));
+    let settling = settlings[1] - settlings[0];
+    assert!(settlings[1] <= PROGRAM_BYTES && PROGRAM_BYTES < settlings[1] + settling);
 }
 
 /// Seeds give records of their own, none longer than the program `replay` takes.

@@ -15,9 +15,18 @@ fn quantity(auction: &Auction, developer: u8) -> u64 {
     auction.developers()[&developer].quantity
 }
 
-/// The sample's round closed after offers of no steps by 2, 3 and 4.
-fn all_stay(c: u32) -> (Auction, i64) {
+/// The sample's auction with an existing plant of 1,000 besides: as much as the excess that
+/// another round takes.
+fn sample_and_1_000() -> Auction {
     let mut auction = sample_registered();
+    let registered = auction.register(32, 32, EXISTING, 0, 0, &[1_000]);
+    registered.expect("a sound registration");
+    auction
+}
+
+/// Its first round closed after offers of no steps by 2, 3 and 4.
+fn all_stay(c: u32) -> (Auction, i64) {
+    let mut auction = sample_and_1_000();
     auction.open(c).expect("a sound opening");
     for developer in [2, 3, 4] {
         let offered = auction.offer(developer, &[], &[]);
@@ -57,12 +66,12 @@ fn calls_by_phase() {
     }
 }
 
-/// Supply takes the greatest of developers 2 and 3, not their sum: 820 + 200 + 150.
+/// Supply takes the greatest of developers 2 and 3, not their sum: 1,000 + 820 + 200 + 150.
 #[test]
 fn greatest_of_a_project() {
     let (auction, excess) = all_stay(30_000);
-    assert_eq!(auction.supply(), 1_170);
-    assert_eq!(excess, 1_170 - 950);
+    assert_eq!(auction.supply(), 2_170);
+    assert_eq!(excess, 2_170 - 950);
     assert_eq!(*auction.phase(), Phase::BetweenRounds);
     // 500 and 500 on one project do not cover the 900 at A.
     let mut short = sample_set_up();
@@ -95,50 +104,106 @@ fn missing_offers() {
 /// In a later round the opening price is the previous C; who is at 0 adds nothing.
 #[test]
 fn missing_offers_later() {
-    let mut auction = sample_registered();
+    let mut auction = sample_and_1_000();
     assert_eq!(auction.open(30_000), Ok(()));
     assert_eq!(auction.offer(2, &[30_000], &[100]), Ok(()));
     assert_eq!(auction.offer(3, &[], &[]), Ok(()));
-    assert_eq!(auction.close(), Ok(820 + 200 - 950));
+    assert_eq!(auction.close(), Ok(1_820 + 200 - 950));
     assert_eq!(history(&auction, 2), [(30_000, 100)]);
     assert_eq!(history(&auction, 4), [(40_000, 0)]);
     assert_eq!(auction.open(29_000), Ok(()));
     assert_eq!(auction.offer(3, &[29_999], &[0]), Ok(()));
-    assert_eq!(auction.close(), Ok(820 - 955));
+    assert_eq!(auction.close(), Ok(1_820 - 955));
     assert_eq!(history(&auction, 2), [(30_000, 100), (30_000, 0)]);
     assert_eq!(history(&auction, 3), [(29_999, 0)]);
     assert_eq!(history(&auction, 4), [(40_000, 0)]);
 }
 
-/// Closed at an excess of 0, open at 1, and closed at the floor whatever the excess.
+/// The sample's settings and an existing plant: the excess of the first round, down to C, and
+/// the phase after it.
+fn closed_at(c: u32, plant: u32) -> (i64, Phase) {
+    let mut auction = sample_set_up();
+    let registered = auction.register(1, 1, EXISTING, 0, 0, &[plant]);
+    assert_eq!(registered, Ok(()));
+    assert_eq!(auction.open(c), Ok(()));
+    let excess = auction.close().expect("a round is open");
+    (excess, auction.phase().clone())
+}
+
+/// Closed at an excess of 999 and less, open from 1,000 on; at the floor closed whatever the
+/// excess. Demand is 951 at 29,999, 950 at 30,000, 1,199 at 10,050, and 1,200 at the floor.
 #[test]
 fn when_closed() {
+    for (excess, phase) in [
+        (-1, Phase::Closed),
+        (0, Phase::Closed),
+        (1, Phase::Closed),
+        (998, Phase::Closed),
+        (999, Phase::Closed),
+        (1_000, Phase::BetweenRounds),
+        (1_001, Phase::BetweenRounds),
+        (1_999, Phase::BetweenRounds),
+        (1_000_000, Phase::BetweenRounds),
+    ] {
+        for (c, demand) in [(29_999, 951), (30_000, 950), (10_050, 1_199)] {
+            let plant = u32::try_from(demand + excess).expect("a level");
+            assert_eq!(closed_at(c, plant), (excess, phase.clone()), "C {c}");
+        }
+        let plant = u32::try_from(1_200 + excess).expect("a level");
+        assert_eq!(closed_at(10_000, plant), (excess, Phase::Closed));
+    }
+    let plenty = 1_000_000_000;
+    let (excess, phase) = closed_at(10_001, plenty);
+    assert_eq!((excess, phase), (999_998_800, Phase::BetweenRounds));
+    let (excess, phase) = closed_at(10_000, plenty);
+    assert_eq!((excess, phase), (999_998_800, Phase::Closed));
+}
+
+/// Between rounds at 1,000, and closed one thousandth further down, where demand is one higher.
+#[test]
+fn closed_in_a_later_round() {
     let mut auction = sample_set_up();
-    let registered = auction.register(1, 1, EXISTING, 0, 0, &[951]);
+    let registered = auction.register(1, 1, EXISTING, 0, 0, &[1_950]);
     assert_eq!(registered, Ok(()));
-    let mut later = auction.clone();
+    assert_eq!(auction.open(30_000), Ok(()));
+    assert_eq!(auction.close(), Ok(1_000));
+    assert_eq!(auction.settle(1, &mut [0; 192]), Err(2));
     assert_eq!(auction.open(29_999), Ok(()));
-    assert_eq!(auction.close(), Ok(0));
+    assert_eq!(auction.close(), Ok(999));
     assert_eq!(*auction.phase(), Phase::Closed);
-    assert_eq!(later.open(30_000), Ok(()));
-    assert_eq!(later.close(), Ok(1));
-    assert_eq!(*later.phase(), Phase::BetweenRounds);
-    assert_eq!(later.open(29_999), Ok(()));
-    let (floor, excess) = all_stay(10_000);
-    assert_eq!(excess, 1_170 - 1_200);
-    assert_eq!(*floor.phase(), Phase::Closed);
-    let mut plenty = sample_set_up();
-    let registered = plenty.register(1, 1, EXISTING, 0, 0, &[1_000_000_000]);
-    assert_eq!(registered, Ok(()));
-    assert_eq!(plenty.open(10_000), Ok(()));
-    assert_eq!(plenty.close(), Ok(1_000_000_000 - 1_200));
-    assert_eq!(*plenty.phase(), Phase::Closed);
+    assert_eq!(auction.open(29_998), Err(2));
+}
+
+/// With an excess from 0 to 999 the last C is covered, so it is the closing price, and every
+/// admissible choice covers; demand there is 950.
+#[test]
+fn closing_price_after_an_excess() {
+    for plant in [850, 851, 1_849, 1_900] {
+        let mut auction = sample_set_up();
+        for answer in [
+            auction.register(1, 1, EXISTING, 0, 0, &[plant]),
+            auction.register(2, 2, NEW, 0, 0, &[100, 200]),
+            auction.open(30_000),
+            auction.offer(2, &[30_000], &[100]),
+        ] {
+            assert_eq!(answer, Ok(()));
+        }
+        let excess = i64::from(plant) + 100 - 950;
+        assert_eq!(auction.close(), Ok(excess));
+        assert_eq!(*auction.phase() == Phase::Closed, excess <= 999);
+        if excess <= 999 {
+            let settlement = auction.settle(2, &mut [0; 192]).expect("two choices");
+            assert_eq!((settlement.closing_price, settlement.demand), (30_000, 950));
+            assert_eq!((settlement.choices, settlement.covering), (2, 2));
+            assert_eq!(settlement.total, u64::from(plant) + 100);
+        }
+    }
 }
 
 /// A refused offer may be corrected; an accepted one stands until its round is closed.
 #[test]
 fn one_offer_a_round() {
-    let mut auction = sample_registered();
+    let mut auction = sample_and_1_000();
     assert_eq!(auction.open(30_000), Ok(()));
     assert_eq!(auction.offer(2, &[30_000], &[50]), Err(7));
     assert_eq!(auction.offer(2, &[29_999], &[100]), Err(6));
@@ -152,7 +217,7 @@ fn one_offer_a_round() {
         200,
         "offers apply when the round is closed"
     );
-    assert_eq!(auction.close(), Ok(1_170 - 950));
+    assert_eq!(auction.close(), Ok(2_170 - 950));
     assert_eq!(quantity(&auction, 2), 100);
     assert_eq!(auction.open(29_000), Ok(()));
     assert_eq!(
@@ -168,12 +233,12 @@ fn one_offer_a_round() {
 fn most_rounds() {
     let mut auction = Auction::new();
     assert_eq!(auction.set_up(6, 2, 1, 3, 12), Ok(()));
-    assert_eq!(auction.register(1, 1, EXISTING, 0, 0, &[100]), Ok(()));
+    assert_eq!(auction.register(1, 1, EXISTING, 0, 0, &[1_100]), Ok(()));
     for c in (3..12).rev() {
         assert_eq!(auction.open(c + 1), Err(5));
         assert_eq!(auction.open(2), Err(5));
         assert_eq!(auction.open(c), Ok(()));
-        assert!(auction.close().is_ok_and(|excess| excess > 0));
+        assert!(auction.close().is_ok_and(|excess| excess > 1_000));
     }
     assert_eq!(*auction.phase(), Phase::Closed);
 }
@@ -186,11 +251,11 @@ fn longest_history() {
     let prices: Vec<u32> = (0..8).map(|step| 39_999 - step).collect();
     let mut auction = sample_set_up();
     assert_eq!(auction.register(1, 1, NEW, 0, 0, &levels), Ok(()));
-    assert_eq!(auction.register(2, 2, EXISTING, 0, 0, &[1_000]), Ok(()));
+    assert_eq!(auction.register(2, 2, EXISTING, 0, 0, &[2_000]), Ok(()));
     let mut slowly = auction.clone();
     assert_eq!(auction.open(39_992), Ok(()));
     assert_eq!(auction.offer(1, &prices, &falls), Ok(()));
-    assert_eq!(auction.close(), Ok(1_000 - 901));
+    assert_eq!(auction.close(), Ok(2_000 - 901));
     for (&price, &level) in prices.iter().zip(&falls) {
         assert_eq!(slowly.open(price), Ok(()));
         assert_eq!(slowly.offer(1, &[price], &[level]), Ok(()));

@@ -3,7 +3,9 @@
 
 use super::{each_step, Step, RECORDS};
 use crate::auction::Auction;
+use crate::records::DECISIVE;
 use crate::replay::{lines, replay, Accepted, Call};
+use crate::report::Closings;
 use crate::settling::{Award, Settlement};
 use std::collections::BTreeMap;
 
@@ -17,11 +19,13 @@ struct Shares {
     longest: usize,
     /// Replies by kind and answer.
     replies: BTreeMap<(u8, u8), u64>,
+    closings: Closings,
 }
 
 impl Shares {
     fn count(&mut self, record: &[u8]) {
         let replies = replay(record);
+        self.closings.count(record, &replies);
         let replies = lines(&replies);
         assert_eq!(replies.len(), lines(record).len(), "one reply a line");
         self.records += 1;
@@ -57,6 +61,7 @@ impl Shares {
         for ((kind, answer), count) in &self.replies {
             println!("kind {kind:02X}, answer {answer:02X}: {count}");
         }
+        self.closings.print();
     }
 }
 
@@ -88,6 +93,10 @@ fn shares_of_replies() {
         .collect();
     possible.sort_unstable();
     assert_eq!(occurring, possible);
+    for excess in DECISIVE {
+        let (all, large) = shares.closings.with(excess);
+        assert!(all >= 300 && large >= 100, "closings at {excess}");
+    }
 }
 
 /// A settled record: its auction at the end, the last settlement, and the rounds opened.
@@ -211,6 +220,8 @@ const FEATURES: &[Feature] = &[
     ("32 awards", |s| s.settlement.awards.len() == 32),
     ("closed with excess", |s| s.excess() > 0),
     ("closed at excess 0", |s| s.excess() == 0),
+    ("closed at 999", |s| s.excess() == 999),
+    ("closed at 1,000, the floor", |s| s.excess() == 1_000),
     ("highs at P are demand", Settled::just_covered),
     ("P is A", |s| {
         s.settlement.closing_price == s.auction.settings().a
