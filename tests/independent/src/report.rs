@@ -10,6 +10,15 @@ use std::collections::BTreeMap;
 use std::fmt::Write;
 use std::process::ExitCode;
 
+/// So many generated inputs, or a hundredth of them where `FEW` is set: enough for a coarse fault.
+pub fn inputs(many: u64) -> u64 {
+    if std::env::var_os("FEW").is_some() {
+        many / 100
+    } else {
+        many
+    }
+}
+
 /// The exit status of a program whose groups agree or not.
 pub fn verdict<'a>(agree: impl IntoIterator<Item = &'a bool>) -> ExitCode {
     if agree.into_iter().all(|&agrees| agrees) {

@@ -6,7 +6,7 @@
 mod engine;
 
 use independent::random::Random;
-use independent::report::verdict;
+use independent::report::{inputs, verdict};
 use independent::sample::MARKED_CASES;
 use independent::{demand, demand_by_scan, host_number, Answer};
 use independent::{BEYOND_BOUNDS, HIGHEST_CE, HIGHEST_M2};
@@ -277,7 +277,7 @@ fn digits(mut number: u64, bases: Call) -> Call {
 fn generated(name: &'static str, generate: Generator) -> Group {
     let mut group = Group::new(name);
     let mut random = Random::new(2026);
-    for _ in 0..GENERATED_INPUTS {
+    for _ in 0..inputs(GENERATED_INPUTS) {
         let call = generate(&mut random);
         group.compare(call, answer(call));
     }

@@ -11,7 +11,7 @@ mod engine;
 use independent::random::Random;
 use independent::records::{edges, fixed, record, Records};
 use independent::replay::{replay, write_replies};
-use independent::report::{verdict, Group};
+use independent::report::{inputs, verdict, Group};
 use independent::sample;
 use std::process::ExitCode;
 
@@ -32,9 +32,9 @@ const COMPARED: [(&str, Records); 7] = [
     ("sizes of replies", edges::reply_sizes),
     ("largest books", edges::largest_books),
     // The seeds whose shares the tests of the independent implementation look at.
-    ("generated", || (0..20_000).map(record).collect()),
+    ("generated", || (0..inputs(20_000)).map(record).collect()),
     ("few different bytes", || {
-        (0..5_000).map(few_different_bytes).collect()
+        (0..inputs(5_000)).map(few_different_bytes).collect()
     }),
 ];
 
