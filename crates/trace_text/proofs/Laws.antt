@@ -13,7 +13,10 @@ use lib.Seq.{take-at, drop-at, drop-drop, take-suc, set-split, append-snoc}
 use Rattle.numbers.specs.Tails.{laid}
 use Rattle.settling.specs.declared.Settled.{Settled}
 use Rattle.reply_text.specs.declared.Reply.{Reply}
-use Rattle.reply_text.specs.Texts.{textOf}
+use Rattle.format.specs.WidthLaws.{length-text}
+use Rattle.replies.specs.Lengths.{bytes-length}
+use Rattle.reply_text.specs.Texts.{addedText, shownText, textOf}
+use Rattle.reply_text.specs.TextLaws.{small, text-length}
 use Rattle.trace_text.specs.Decimal.{bytesOf}
 use Rattle.trace_text.specs.Puts.{Puts}
 use Rattle.trace_text.specs.Words.{signedItem, settledLines, wordsOf, traceOf}
@@ -82,6 +85,23 @@ pub laid-puts : (t o xs : List ℕ) (m b : ℕ) → xs ≡ laid t o → b ≡ le
 unfolding laid
 laid-puts t o xs m b e d h g = record { holds = e ∙ ap (λ (k : ℕ). t ++ drop k o) (sym d); next = d ∙ sym (zero-add (length t)); short = h; inside = g }
 
+-- ---- a reply's line
+
+added-short : (r : Reply) → length (addedText r) ≤ 640
+unfolding addedText
+added-short r = let s = small (r .kind) in simp (length-append, length-text, bytes-length, length-take) (omega arith)
+
+shown-short : (r : Reply) → length (shownText r) ≤ 640
+unfolding shownText
+shown-short r = go (eqb (r .number) 0)
+  where
+    go : (t : Bool) → length (cond t (addedText r) []) ≤ 640
+    go true = added-short r
+    go false = omega arith
+
+pub line-short : (r : Reply) → length (textOf r) ≤ 645
+line-short r = omega (arith, text-length r, shown-short r)
+
 -- ---- what stands below a reply, by its answer and its kind
 
 module _ (r : Reply) (excess : ℕ) (s : Settled) where
@@ -106,7 +126,7 @@ module _ (r : Reply) (excess : ℕ) (s : Settled) where
       go false = refl
 
   -- the reply's line at the buffer's start, and what stands below it
-  pub whole : {t o xs ys : List ℕ} {m n b : ℕ} → Puts (textOf r) 435 o xs 0 n → Puts t m xs ys n b → wordsOf r excess s ≡ t → m ≤ 3000 →
+  pub whole : {t o xs ys : List ℕ} {m n b : ℕ} → Puts (textOf r) 645 o xs 0 n → Puts t m xs ys n b → wordsOf r excess s ≡ t → m ≤ 3000 →
       (b ≡ length (traceOf r excess s)) × (b ≤ 4096) × (ys ≡ laid (traceOf r excess s) o)
   unfolding traceOf
   whole {t} p w e h =

@@ -156,8 +156,7 @@ pub fn put(out: &mut [u8], reply: Reply, excess: u64, settled: Settled) -> usize
     requires { ⌜ 4096 ≤ length (now out) ⌝ }
     ensures { λ r. ⌜ (r ≡ length (traceOf reply excess settled)) × (r ≤ 4096) × (now (out .exit) ≡ laid (traceOf reply excess settled) (now (out .entry))) ⌝ }
 {
-    let line = reply_text::size(reply);
-    reply_text::put(out, reply);
+    let line = reply_text::put(out, reply);
     if reply.number != 0 {
         return line;
     }

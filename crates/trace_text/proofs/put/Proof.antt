@@ -1,40 +1,43 @@
 -- The reply's line at the buffer's start, and behind it, by the answer and the kind, nothing, the excess, or what a settling says.
+use Prim.Native.Nat.{_≤_}
 use mathlib.Core.Path.{refl}
 use native.Mathlib.Omega.{arith}
 use borrow.Author.Needs.{needs}
 use Rattle.reply_text.specs.Texts.{textOf}
 use Rattle.trace_text.specs.Puts.{Puts}
-use Rattle.trace_text.proofs.Laws.{puts-none, laid-puts, whole, words-refused, words-closing, words-settling, words-other}
+use Rattle.trace_text.proofs.Laws.{line-short, puts-none, laid-puts, whole, words-refused, words-closing, words-settling, words-other}
 use Rattle.trace_text.proofs.put.Statement.{statement}
 use Rattle.trace_text.proofs.put.Tie as tie
 
--- the line, once it is written
+-- the line, once it is written, and how long it is
+abbrev written : tie.After-slice-known2 → tie.After-put
+written c = c .before .before
+
+line-fits : (c : tie.After-slice-known2) → written c .put .result ≤ 645
+line-fits c = omega (arith, written c .put .ensures .0, line-short (written c .before .before .before .args .reply))
+
 line :
     (c : tie.After-slice-known2) →
-    let size = c .before .before .before .before in
-    let a = size .before .before .args in
-    Puts (textOf (a .reply)) 435 (a .out .now) (c .before .before .put .last .0) 0 (size .size .result)
+    let a = written c .before .before .before .args in
+    Puts (textOf (a .reply)) 645 (a .out .now) (written c .put .last .0) 0 (written c .put .result)
 line c =
-    let size = c .before .before .before .before .size in
-    laid-puts _ _ _ 435 (size .result) (c .before .before .put .ensures) (size .ensures .0) (omega arith) (omega arith)
-
-size-requires : tie.Need-size-requires
-size-requires c κs = search needs
+    let put = written c .put in
+    laid-puts _ _ _ 645 (put .result) (put .ensures .1) (put .ensures .0) (line-short _) (omega (arith, line-fits c))
 
 put-requires : tie.Need-put-requires
-put-requires c κs = search needs
+put-requires c κs = omega (arith, line-short (c .before .before .args .reply))
 
 same-length : tie.Need-same-length
 same-length c = search needs
 
 returns : tie.Need-returns
-returns c = whole _ _ _ (line (c .before .before)) (puts-none _ 0 _ (omega arith)) (words-refused _ _ _ (c .if1 .taken)) (omega arith)
+returns c = whole _ _ _ (line (c .before .before)) (puts-none _ 0 _ (omega (arith, line-fits (c .before .before)))) (words-refused _ _ _ (c .if1 .taken)) (omega arith)
 
 slice-aggregate-put-signed-item : tie.Need-slice-aggregate-put-signed-item
 slice-aggregate-put-signed-item c = refl
 
 put-signed-item-requires : tie.Need-put-signed-item-requires
-put-signed-item-requires c κs = omega arith
+put-signed-item-requires c κs = omega (arith, line-fits (c .before .before .before .before .before .before))
 
 same-length-2 : tie.Need-same-length-2
 same-length-2 c = search needs
@@ -47,7 +50,7 @@ returns-2 c =
     whole _ _ _ (line (accepted .before .before)) (closing .put-signed-item .ensures) (words-closing _ _ _ (accepted .if1 .left) (kind .if2 .taken)) (omega arith)
 
 put-settled-requires : tie.Need-put-settled-requires
-put-settled-requires c κs = omega arith
+put-settled-requires c κs = omega (arith, line-fits (c .before .before .before .before .before .before .before .before))
 
 same-length-3 : tie.Need-same-length-3
 same-length-3 c = search needs
@@ -65,13 +68,12 @@ same-length-4 c = search needs
 returns-4 : tie.Need-returns-4
 returns-4 c =
     let kind = c .before .before in
-    whole _ _ _ (line (kind .before .before .before .before)) (puts-none _ 0 _ (omega arith)) (words-other _ _ _ (kind .if2 .left) (c .if3 .left)) (omega arith)
+    whole _ _ _ (line (kind .before .before .before .before)) (puts-none _ 0 _ (omega (arith, line-fits (kind .before .before .before .before)))) (words-other _ _ _ (kind .if2 .left) (c .if3 .left)) (omega arith)
 
 pub put-spec : {M : Type 1} → statement M
 put-spec =
     tie.close
     (tie.spec
-    size-requires
     put-requires
     same-length
     returns
