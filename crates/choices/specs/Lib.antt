@@ -14,3 +14,4 @@ pub mod CoveringCount
 pub mod Through
 pub mod SearchedThrough
 pub mod Kept
+pub mod Numbered
