@@ -5,7 +5,7 @@ use mathlib.Core.Logic.{_⊎_, inl, inr, ⊎-elim}
 use mathlib.Core.Bool.{true}
 use mathlib.Core.List.{List, [], _∷_, _++_, map, List·Memᴰ, List·Memᴰ·head, List·Memᴰ·tail, List·Memᴰ·not-nil, List·Memᴰ·cases-cons}
 use native.Mathlib.Omega.{arith}
-use native.Mathlib.Nat.{zero-mul, suc-mul, add-assoc, add-zero, zero-add, mul-le-mul-right}
+use native.Mathlib.Nat.{zero-mul, suc-mul, add-assoc, add-zero, zero-add, mul-le-mul-right, one-le-mul}
 use lib.ListN.{length, getD, length-map, List·getD-append}
 use lib.Seq.{getD-append-add}
 use lib.Dec.{leb}
@@ -65,9 +65,14 @@ choice-at (v ∷ vs) rows (suc k) m h g =
 
 -- ---- the place that the strides make is the place in the list
 
-count-row : (row : List ℕ) (rows : List (List ℕ)) → count (row ∷ rows) ≡ length row * count rows
+pub count-row : (row : List ℕ) (rows : List (List ℕ)) → count (row ∷ rows) ≡ length row * count rows
 unfolding product
 count-row row rows = choices-count (row ∷ rows) ∙ ap (λ n. length row * n) (sym (choices-count rows))
+
+pub count-some : (rows : List (List ℕ)) → Each (λ row. 0 < length row) rows → 0 < count rows
+unfolding choices
+count-some [] h = omega arith
+count-some (row ∷ rows) h = rw (count-row row rows) (one-le-mul (h row (List·Memᴰ·head refl)) (count-some rows (λ r m. h r (List·Memᴰ·tail m))))
 
 pub numbered-from : (rows : List (List ℕ)) (t i u j : ℕ) → Among (numbered rows) t i u j → (m : ℕ) × (m < count rows) × (j ≡ i + m) × (u ≡ t + total (getD (choices rows) m []))
 unfolding numbered choices total
@@ -100,7 +105,7 @@ numbered-to (row ∷ rows) t i j h =
 
 -- ---- the best by total and place
 
-nth-in : {A : Type 0} (d : A) (xs : List A) (j : ℕ) → j < length xs → List·Memᴰ (getD xs j d) xs
+pub nth-in : {A : Type 0} (d : A) (xs : List A) (j : ℕ) → j < length xs → List·Memᴰ (getD xs j d) xs
 nth-in d [] j h = absurd (omega arith)
 nth-in d (x ∷ xs) zero h = List·Memᴰ·head refl
 nth-in d (x ∷ xs) (suc j) h = List·Memᴰ·tail (nth-in d xs j (omega arith))
@@ -108,6 +113,12 @@ nth-in d (x ∷ xs) (suc j) h = List·Memᴰ·tail (nth-in d xs j (omega arith))
 nth-of : {A : Type 0} (d x : A) (xs : List A) → List·Memᴰ x xs → (j : ℕ) × (j < length xs) × (getD xs j d ≡ x)
 nth-of d x [] m = absurd (List·Memᴰ·not-nil m)
 nth-of d x (y ∷ xs) m = ⊎-elim (λ e. (0, omega arith, sym e)) (λ n. let k = nth-of d x xs n in (suc (k .0), omega (arith, k .1), k .2)) (List·Memᴰ·cases-cons m)
+
+-- a choice stands at a place
+pub choice-place : (rows : List (List ℕ)) (c : List ℕ) → List·Memᴰ c (choices rows) → (k : ℕ) × (k < count rows) × (getD (choices rows) k [] ≡ c) × Among (numbered rows) 0 0 (total c) k
+choice-place rows c m =
+    let k = nth-of [] c (choices rows) m in
+    (k .0, k .1, k .2, rw (zero-add (total (getD (choices rows) (k .0) [])), zero-add (k .0), k .2) at (numbered-to rows 0 0 (k .0) (k .1)))
 
 pairwise-nth : {A : Type 0} (R : A → A → Type 0) (d : A) (xs : List A) (m j : ℕ) → Pairwise R xs → m < j → j < length xs → R (getD xs m d) (getD xs j d)
 pairwise-nth R d [] m j p h g = absurd (omega arith)
@@ -133,10 +144,7 @@ module _ (d : ℕ) (rows : List (List ℕ)) (rise : Each StrictlyRising rows) {u
   -- a choice that covers stands at a place, and j is ahead of it
   ahead-of : (c : List ℕ) → List·Memᴰ c (choices rows) → d ≤ total c → (k : ℕ) × (k < count rows) × (at k ≡ c) × ((u < total c) ⊎ ((u ≡ total c) × (k ≤ j)))
   unfolding at
-  ahead-of c m h =
-      let k = nth-of [] c (choices rows) m in
-      let a : Among (numbered rows) 0 0 (total c) (k .0) = rw (zero-add (total (at (k .0))), zero-add (k .0), k .2) at (numbered-to rows 0 0 (k .0) (k .1)) in
-      (k .0, k .1, k .2, p .ahead (total c) (k .0) a h)
+  ahead-of c m h = let k = choice-place rows c m in (k .0, k .1, k .2, p .ahead (total c) (k .0) (k .3) h)
 
   is-best : IsBest d (choices rows) (at j)
   unfolding at

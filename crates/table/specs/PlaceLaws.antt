@@ -4,11 +4,13 @@ use mathlib.Core.Path.{_≡_, refl, sym, ap, subst, _∙_}
 use mathlib.Core.Logic.{⊎-elim}
 use mathlib.Core.List.{List, [], _∷_, map, List·Memᴰ, List·Memᴰ·head, List·Memᴰ·tail, List·Memᴰ·not-nil, List·Memᴰ·cases-cons}
 use native.Mathlib.Omega.{arith}
+use native.Mathlib.Nat.{add-zero}
 use native.Mathlib.Numerals.{add-one}
 use lib.ListN.{length, take, drop, getD, length-take, length-drop, drop-of-length-le}
-use lib.Seq.{drop-cons}
+use lib.Seq.{drop-cons, getD-take, getD-drop}
 use Rattle.numbers.specs.Cases.{le-or-lt}
-use Rattle.numbers.specs.ListLaws.{Each, map-intro}
+use Rattle.numbers.specs.ListLaws.{Each, map-intro, last-at}
+use Rattle.choices.specs.Search.{lowOf, highOf}
 use Rattle.table.specs.Rows.{rowsIn, EndsRise}
 use Rattle.table.specs.Places.{part, RowLaid, Laid, LaidOut, startOf, rowIn, numbersFrom}
 
@@ -78,3 +80,20 @@ module _ {levels ends : List ℕ} (t : LaidOut levels ends) where
 
   pub row-laid : (k : ℕ) → k < 32 → RowLaid (rowIn levels ends k)
   row-laid k h = (rw rows-numbered at (t .laid .1)) (rowIn levels ends k) (map-intro (rowIn levels ends) (numbersFrom 0 32) (numbers-in k 0 32 zero-le h))
+
+  -- its two ends
+  pub row-low : (k : ℕ) → k < 32 → getD levels (startOf ends k) 0 ≡ lowOf (rowIn levels ends k)
+  row-low k h =
+      let s : ℕ = startOf ends k in
+      sym (getD-take (getD ends k 0 - s) (drop s levels) 0 0 (omega (arith, row-ends k h .0)) ∙ getD-drop s levels 0 0 ∙ ap (λ (j : ℕ). getD levels j 0) (add-zero s))
+
+  pub row-high : (k : ℕ) → k < 32 → getD levels (getD ends k 0 - 1) 0 ≡ highOf (rowIn levels ends k)
+  row-high k h =
+      let s : ℕ = startOf ends k in
+      let e : ℕ = getD ends k 0 in
+      let b = row-ends k h in
+      sym
+      (last-at 0 (rowIn levels ends k) (e - s - 1) (omega (arith, row-length k h))
+      ∙ getD-take (e - s) (drop s levels) (e - s - 1) 0 (omega arith)
+      ∙ getD-drop s levels (e - s - 1) 0
+      ∙ ap (λ (j : ℕ). getD levels j 0) (omega arith))

@@ -1,9 +1,9 @@
 -- `row_is_laid` tells whether a row is laid out: from place k on it is exactly if it is as a whole.
 use Prim.Native.Nat.{_-_}
 use native.Mathlib.Omega.{arith}
-use Rattle.selection.proofs.Laying.{Rising, rising-first, rising-again, rising-stop, rising-end}
-use Rattle.selection.proofs.row_is_laid.Statement.{statement}
-use Rattle.selection.proofs.row_is_laid.Tie as tie
+use Rattle.counting.proofs.Laying.{Rising, rising-first, rising-again, rising-stop, rising-end}
+use Rattle.counting.proofs.row_is_laid.Statement.{statement}
+use Rattle.counting.proofs.row_is_laid.Tie as tie
 
 abbrev Inv-loop : tie.InvT-loop
 Inv-loop levels at end k₀ k = Rising levels at end k

@@ -2,9 +2,9 @@
 use Prim.Native.Nat.{_-_}
 use native.Mathlib.Omega.{arith}
 use borrow.Author.Tests.{not-true, not-false}
-use Rattle.selection.proofs.Laying.{Laying, laying-first, laying-empty, laying-long, laying-bad, laying-again, laying-end}
-use Rattle.selection.proofs.is_laid.Statement.{statement}
-use Rattle.selection.proofs.is_laid.Tie as tie
+use Rattle.counting.proofs.Laying.{Laying, laying-first, laying-empty, laying-long, laying-bad, laying-again, laying-end}
+use Rattle.counting.proofs.is_laid.Statement.{statement}
+use Rattle.counting.proofs.is_laid.Tie as tie
 
 abbrev Inv-loop : tie.InvT-loop
 Inv-loop levels ends at₀ i₀ at i = Laying levels ends at i

@@ -1,9 +1,9 @@
 -- `count_choices` multiplies the rows' lengths: no row is empty, so the product is never above the number of choices.
 use Prim.Native.Nat.{_-_}
 use native.Mathlib.Omega.{arith}
-use Rattle.selection.proofs.Tallying.{Tally, tally-first, tally-row, tally-fits, tally-again, tally-over, tally-end}
-use Rattle.selection.proofs.count_choices.Statement.{statement}
-use Rattle.selection.proofs.count_choices.Tie as tie
+use Rattle.counting.proofs.Tallying.{Tally, tally-first, tally-row, tally-fits, tally-again, tally-over, tally-end}
+use Rattle.counting.proofs.count_choices.Statement.{statement}
+use Rattle.counting.proofs.count_choices.Tie as tie
 
 abbrev Inv-loop : tie.InvT-loop
 Inv-loop ends limit n₀ at₀ i₀ n at i = Tally ends n at i

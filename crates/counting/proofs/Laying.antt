@@ -10,14 +10,12 @@ use lib.ListN.{length, take, drop, getD, drop-of-length-le}
 use borrow.Author.Tests.{le-leb, leb-true}
 use Rattle.numbers.specs.ListLaws.{Each}
 use Rattle.table.specs.Rows.{rowsIn, EndsRise}
-use Rattle.selection.specs.Places.{RowLaid, Laid, Tells}
-use Rattle.selection.proofs.Places.{part-cons, left-row, rise-row, rise-back, rise-end}
+use Rattle.table.specs.Places.{part, RowLaid, Laid}
+use Rattle.table.specs.PlaceLaws.{part-cons, rows-cons, rise-row, rise-back, rise-end}
+use Rattle.counting.specs.Counted.{Tells}
 
 tells-not : {P : Type 0} → (P → ⊥) → Tells false P
 tells-not n = ((λ e. absurd (false≢true e)), (λ p. absurd (n p)))
-
-abbrev part : List ℕ → ℕ → ℕ → List ℕ
-part levels at end = take (end - at) (drop at levels)
 
 -- ---- one row
 
@@ -79,7 +77,7 @@ laying-first levels ends = record { placed = omega arith; start = omega arith; f
 
 module _ {levels ends : List ℕ} {at i : ℕ} (c : Laying levels ends at i) (n : length ends ≡ 32) (h : i < 32) where
   rows : Laid levels at (drop i ends) → (at < getD ends i 0) × EndsRise (getD ends i 0) (drop (i + 1) ends) 288 × Each RowLaid (part levels at (getD ends i 0) ∷ rowsIn levels (getD ends i 0) (drop (i + 1) ends))
-  rows x = let r = rise-row ends i at (omega arith) (x .0) in (r .0, r .1, rw (left-row levels ends i at (omega arith)) at (x .1))
+  rows x = let r = rise-row ends i at (omega arith) (x .0) in (r .0, r .1, rw (rows-cons levels ends i at (omega arith)) at (x .1))
 
   pub laying-empty : getD ends i 0 ≤ at → Tells false (Laid levels 0 ends)
   laying-empty g = tells-not λ x. omega (arith, rows (c .into x) .0)
@@ -97,7 +95,7 @@ module _ {levels ends : List ℕ} {at i : ℕ} (c : Laying levels ends at i) (n 
       start = k;
       from = λ x. c .from (
         rise-back ends i at (omega arith) g (x .0),
-        rw (left-row levels ends i at (omega arith)) (λ r m. ⊎-elim (λ d. rw d (t .0 e)) (λ j. x .1 r j) (List·Memᴰ·cases-cons m)),
+        rw (rows-cons levels ends i at (omega arith)) (λ r m. ⊎-elim (λ d. rw d (t .0 e)) (λ j. x .1 r j) (List·Memᴰ·cases-cons m)),
       );
       into = λ x. let y = rows (c .into x) in (y .1, (λ r m. y .2 r (List·Memᴰ·tail m)));
     }

@@ -1,0 +1,6 @@
+mod InOrder
+mod Looking
+mod Tallying
+mod Exploring
+mod Orders
+mod Finding

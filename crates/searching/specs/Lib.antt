@@ -1,0 +1,4 @@
+pub mod Behind
+pub mod ByNumber
+pub mod Going
+pub mod Searches
