@@ -52,7 +52,7 @@ module _ (v : ℕ) (vs : List ℕ) (rows : List (List ℕ)) (j : ℕ) where
       let e : j ≡ length (map (λ c. v ∷ c) (choices rows)) + (j - count rows) = omega arith in
       ap (λ (m : ℕ). getD (choices ((v ∷ vs) ∷ rows)) m []) e ∙ getD-append-add (map (λ c. v ∷ c) (choices rows)) (spread vs (choices rows)) (j - count rows) []
 
-choice-at : (row : List ℕ) (rows : List (List ℕ)) (k m : ℕ) → k < length row → m < count rows → getD (choices (row ∷ rows)) (k * count rows + m) [] ≡ getD row k 0 ∷ getD (choices rows) m []
+pub choice-at : (row : List ℕ) (rows : List (List ℕ)) (k m : ℕ) → k < length row → m < count rows → getD (choices (row ∷ rows)) (k * count rows + m) [] ≡ getD row k 0 ∷ getD (choices rows) m []
 choice-at [] rows k m h g = absurd (omega arith)
 choice-at (v ∷ vs) rows zero m h g =
     let e : 0 * count rows + m ≡ m = omega (arith, zero-mul (count rows)) in

@@ -30,7 +30,7 @@ use Rattle.ordering.specs.Ranks.{searchOrder}
 use Rattle.searching.specs.Behind.{Orders, Behind}
 use Rattle.searching.specs.Going.{more, offered, strided, left, Ready}
 use Rattle.searching.specs.Searches.{Searchable, Searches}
-use Rattle.searching.proofs.InOrder.{high-fits, number-at, order-cons, from-cons, from-each, from-levels, from-fits}
+use Rattle.searching.specs.InOrder.{high-fits, number-at, order-cons, from-cons, from-each, from-levels, from-fits}
 use Rattle.searching.proofs.Orders.{top, numbers-order, strides-small, in-order, ordered, ordered-rows-are, same-choices}
 use Rattle.searching.proofs.Tallying.{plus, keeping, more-case, more-above, through-covers}
 

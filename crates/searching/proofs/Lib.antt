@@ -1,4 +1,3 @@
-mod InOrder
 mod Looking
 mod Tallying
 mod Exploring

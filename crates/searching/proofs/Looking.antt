@@ -16,7 +16,7 @@ use Rattle.choices.specs.Numbered.{count, count-row}
 use Rattle.table.specs.Places.{LaidOut, startOf, rowIn}
 use Rattle.table.specs.PlaceLaws.{row-ends, row-length, row-low, row-high}
 use Rattle.searching.specs.Behind.{Orders, rowsBehind, EachBehind, Behind}
-use Rattle.searching.proofs.InOrder.{number-at, from-cons, from-none, from-few, from-fits}
+use Rattle.searching.specs.InOrder.{number-at, from-cons, from-none, from-few, from-fits}
 
 -- one more is stored at place k
 stored : (f : List (List ℕ) → ℕ) (levels ends order out : List ℕ) (k x : ℕ) → length out ≡ 32 → k < 32 → x ≡ f (rowsBehind levels ends order k) → EachBehind f levels ends order out (k + 1) → EachBehind f levels ends order (set out k x) k

@@ -21,7 +21,7 @@ use Rattle.searching.specs.Behind.{Orders}
 use Rattle.searching.specs.ByNumber.{by-number}
 use Rattle.searching.specs.Searches.{Searchable}
 use Rattle.searching.specs.Going.{strided}
-use Rattle.searching.proofs.InOrder.{from-few}
+use Rattle.searching.specs.InOrder.{from-few}
 
 -- above all highs
 abbrev pub top : ℕ

@@ -39,7 +39,7 @@ highest-fits rows h = total-map-bound highOf 1000000000 rows (λ row m. high-fit
 
 module _ {levels ends order : List ℕ} (t : LaidOut levels ends) (o : Orders levels ends order) where
   -- the rows from place i on
-  abbrev from : ℕ → List (List ℕ)
+  abbrev pub from : ℕ → List (List ℕ)
   from i = map (rowIn levels ends) (drop i order)
 
   pub number-at : (i : ℕ) → i < 32 → getD order i 0 < 32
