@@ -29,7 +29,8 @@ unfolding keep
 keep-map p f [] = refl
 keep-map p f (x ∷ xs) = go (p (f x)) (keep-map p f xs)
   where
-    go : (b : Bool) → length (keep p (map f xs)) ≡ length (keep (λ y. p (f y)) xs) → length (cond b (f x ∷ keep p (map f xs)) (keep p (map f xs))) ≡ length (cond b (x ∷ keep (λ y. p (f y)) xs) (keep (λ y. p (f y)) xs))
+    go : (b : Bool) → length (keep p (map f xs)) ≡ length (keep (λ y. p (f y)) xs) →
+        length (cond b (f x ∷ keep p (map f xs)) (keep p (map f xs))) ≡ length (cond b (x ∷ keep (λ y. p (f y)) xs) (keep (λ y. p (f y)) xs))
     go true e = omega arith
     go false e = e
 
@@ -46,7 +47,7 @@ spread-covers d t (v ∷ vs) cs =
     ∙ rw (keep-map (λ c. leb d (t + total c)) (λ c. v ∷ c) cs, spread-covers d t vs cs)
     (simp (← add-assoc))
 
-pub covering-listed : (d : ℕ) (rows : List (List ℕ)) (t : ℕ) → coveringFrom d rows t ≡ length (keep (λ c. leb d (t + total c)) (choices rows))
+covering-listed : (d : ℕ) (rows : List (List ℕ)) (t : ℕ) → coveringFrom d rows t ≡ length (keep (λ c. leb d (t + total c)) (choices rows))
 unfolding coveringFrom choices keep total
 covering-listed d [] t = rw add-zero (go (leb d t))
   where

@@ -12,6 +12,6 @@ pub mod Between
 pub mod Searched
 pub mod CoveringCount
 pub mod Through
+pub mod Numbered
 pub mod SearchedThrough
 pub mod Kept
-pub mod Numbered

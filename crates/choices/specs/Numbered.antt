@@ -3,9 +3,9 @@ use Prim.Native.Nat.{ℕ, zero, suc, _+_, _-_, _*_, _≤_, _<_}
 use mathlib.Core.Path.{_≡_, refl, sym, ap, subst, _∙_}
 use mathlib.Core.Logic.{_⊎_, inl, inr, ⊎-elim}
 use mathlib.Core.Bool.{true}
-use mathlib.Core.List.{List, [], _∷_, _++_, map, List·Memᴰ, List·Memᴰ·head, List·Memᴰ·tail, List·Memᴰ·not-nil, List·Memᴰ·cases-cons}
+use mathlib.Core.List.{List, [], _∷_, map, List·Memᴰ, List·Memᴰ·head, List·Memᴰ·tail, List·Memᴰ·not-nil}
 use native.Mathlib.Omega.{arith}
-use native.Mathlib.Nat.{zero-mul, suc-mul, add-assoc, add-zero, zero-add, mul-le-mul-right, one-le-mul}
+use native.Mathlib.Nat.{zero-mul, suc-mul, add-zero, zero-add, mul-le-mul-right, one-le-mul}
 use lib.ListN.{length, getD, length-map, List·getD-append}
 use lib.Seq.{getD-append-add}
 use lib.Dec.{leb}
@@ -19,7 +19,7 @@ use Rattle.choices.specs.Pairwise.{Pairwise, StrictlyRising}
 use Rattle.choices.specs.Larger.{larger-differs}
 use Rattle.choices.specs.Order.{later-larger}
 use Rattle.choices.specs.Best.{best-choice, best-unique}
-use Rattle.choices.specs.Through.{Strided, rowOf, Among}
+use Rattle.choices.specs.Through.{nth-in, nth-of, Strided, rowOf, Among}
 
 abbrev pub count : List (List ℕ) → ℕ
 count rows = length (choices rows)
@@ -41,18 +41,19 @@ module _ (v : ℕ) (vs : List ℕ) (rows : List (List ℕ)) (j : ℕ) where
   front-at (c ∷ cs) zero h = refl
   front-at (c ∷ cs) (suc j) h = front-at cs j (omega arith)
 
-  pub choice-here : j < count rows → getD (choices ((v ∷ vs) ∷ rows)) j [] ≡ v ∷ getD (choices rows) j []
+  choice-here : j < count rows → getD (choices ((v ∷ vs) ∷ rows)) j [] ≡ v ∷ getD (choices rows) j []
   unfolding choices spread
   choice-here h = List·getD-append (map (λ c. v ∷ c) (choices rows)) (spread vs (choices rows)) [] j (rw length-map h) ∙ front-at (choices rows) j h
 
-  pub choice-later : count rows ≤ j → getD (choices ((v ∷ vs) ∷ rows)) j [] ≡ getD (choices (vs ∷ rows)) (j - count rows) []
+  choice-later : count rows ≤ j → getD (choices ((v ∷ vs) ∷ rows)) j [] ≡ getD (choices (vs ∷ rows)) (j - count rows) []
   unfolding choices spread
   choice-later h =
       let l : length (map (λ c. v ∷ c) (choices rows)) ≡ count rows = simp length-map in
       let e : j ≡ length (map (λ c. v ∷ c) (choices rows)) + (j - count rows) = omega arith in
       ap (λ (m : ℕ). getD (choices ((v ∷ vs) ∷ rows)) m []) e ∙ getD-append-add (map (λ c. v ∷ c) (choices rows)) (spread vs (choices rows)) (j - count rows) []
 
-pub choice-at : (row : List ℕ) (rows : List (List ℕ)) (k m : ℕ) → k < length row → m < count rows → getD (choices (row ∷ rows)) (k * count rows + m) [] ≡ getD row k 0 ∷ getD (choices rows) m []
+pub choice-at : (row : List ℕ) (rows : List (List ℕ)) (k m : ℕ) → k < length row → m < count rows →
+    getD (choices (row ∷ rows)) (k * count rows + m) [] ≡ getD row k 0 ∷ getD (choices rows) m []
 choice-at [] rows k m h g = absurd (omega arith)
 choice-at (v ∷ vs) rows zero m h g =
     let e : 0 * count rows + m ≡ m = omega (arith, zero-mul (count rows)) in
@@ -74,7 +75,8 @@ unfolding choices
 count-some [] h = omega arith
 count-some (row ∷ rows) h = rw (count-row row rows) (one-le-mul (h row (List·Memᴰ·head refl)) (count-some rows (λ r m. h r (List·Memᴰ·tail m))))
 
-pub numbered-from : (rows : List (List ℕ)) (t i u j : ℕ) → Among (numbered rows) t i u j → (m : ℕ) × (m < count rows) × (j ≡ i + m) × (u ≡ t + total (getD (choices rows) m []))
+pub numbered-from : (rows : List (List ℕ)) (t i u j : ℕ) → Among (numbered rows) t i u j →
+    (m : ℕ) × (m < count rows) × (j ≡ i + m) × (u ≡ t + total (getD (choices rows) m []))
 unfolding numbered choices total
 numbered-from [] t i u j a = (0, omega arith, a .1 ∙ sym (add-zero i), a .0 ∙ sym (add-zero t))
 numbered-from (row ∷ rows) t i u j (k, h, a) =
@@ -92,30 +94,23 @@ split (suc l) n j h =
     (λ g. (0, j, omega arith, g, omega (arith, zero-mul n)))
     (le-or-lt n j)
 
-pub numbered-to : (rows : List (List ℕ)) (t i j : ℕ) → j < count rows → Among (numbered rows) t i (t + total (getD (choices rows) j [])) (i + j)
+numbered-to : (rows : List (List ℕ)) (t i j : ℕ) → j < count rows → Among (numbered rows) t i (t + total (getD (choices rows) j [])) (i + j)
 unfolding numbered choices total
 numbered-to [] t i j h = let z : j ≡ 0 = omega arith in rw z (add-zero t, add-zero i)
 numbered-to (row ∷ rows) t i j h =
     let s = split (length row) (count rows) j (omega (arith, count-row row rows)) in
     let v : ℕ = getD row (s .0) 0 in
-    let c : getD (choices (row ∷ rows)) j [] ≡ v ∷ getD (choices rows) (s .1) [] = ap (λ (m : ℕ). getD (choices (row ∷ rows)) m []) (s .4) ∙ choice-at row rows (s .0) (s .1) (s .2) (s .3) in
+    let c : getD (choices (row ∷ rows)) j [] ≡ v ∷ getD (choices rows) (s .1) [] =
+    ap (λ (m : ℕ). getD (choices (row ∷ rows)) m []) (s .4) ∙ choice-at row rows (s .0) (s .1) (s .2) (s .3) in
     let e : i + j ≡ i + s .0 * count rows + s .1 = omega (arith, s .4) in
     let f : t + total (getD (choices (row ∷ rows)) j []) ≡ t + v + total (getD (choices rows) (s .1) []) = rw c (omega arith) in
     (s .0, s .2, rw (f, e) (numbered-to rows (t + v) (i + s .0 * count rows) (s .1) (s .3)))
 
 -- ---- the best by total and place
 
-pub nth-in : {A : Type 0} (d : A) (xs : List A) (j : ℕ) → j < length xs → List·Memᴰ (getD xs j d) xs
-nth-in d [] j h = absurd (omega arith)
-nth-in d (x ∷ xs) zero h = List·Memᴰ·head refl
-nth-in d (x ∷ xs) (suc j) h = List·Memᴰ·tail (nth-in d xs j (omega arith))
-
-nth-of : {A : Type 0} (d x : A) (xs : List A) → List·Memᴰ x xs → (j : ℕ) × (j < length xs) × (getD xs j d ≡ x)
-nth-of d x [] m = absurd (List·Memᴰ·not-nil m)
-nth-of d x (y ∷ xs) m = ⊎-elim (λ e. (0, omega arith, sym e)) (λ n. let k = nth-of d x xs n in (suc (k .0), omega (arith, k .1), k .2)) (List·Memᴰ·cases-cons m)
-
 -- a choice stands at a place
-pub choice-place : (rows : List (List ℕ)) (c : List ℕ) → List·Memᴰ c (choices rows) → (k : ℕ) × (k < count rows) × (getD (choices rows) k [] ≡ c) × Among (numbered rows) 0 0 (total c) k
+pub choice-place : (rows : List (List ℕ)) (c : List ℕ) → List·Memᴰ c (choices rows) →
+    (k : ℕ) × (k < count rows) × (getD (choices rows) k [] ≡ c) × Among (numbered rows) 0 0 (total c) k
 choice-place rows c m =
     let k = nth-of [] c (choices rows) m in
     (k .0, k .1, k .2, rw (zero-add (total (getD (choices rows) (k .0) [])), zero-add (k .0), k .2) at (numbered-to rows 0 0 (k .0) (k .1)))
@@ -139,7 +134,10 @@ module _ (d : ℕ) (rows : List (List ℕ)) (rise : Each StrictlyRising rows) {u
 
   here : (j < count rows) × (u ≡ total (at j))
   unfolding at
-  here = let n = numbered-from rows 0 0 u j (p .among) in let e : n .0 ≡ j = omega (arith, n .2) in (omega arith, n .3 ∙ zero-add (total (at (n .0))) ∙ ap (λ k. total (at k)) e)
+  here =
+      let n = numbered-from rows 0 0 u j (p .among) in
+      let e : n .0 ≡ j = omega (arith, n .2) in
+      (omega arith, n .3 ∙ zero-add (total (at (n .0))) ∙ ap (λ k. total (at k)) e)
 
   -- a choice that covers stands at a place, and j is ahead of it
   ahead-of : (c : List ℕ) → List·Memᴰ c (choices rows) → d ≤ total c → (k : ℕ) × (k < count rows) × (at k ≡ c) × ((u < total c) ⊎ ((u ≡ total c) × (k ≤ j)))
@@ -152,7 +150,9 @@ module _ (d : ℕ) (rows : List (List ℕ)) (rise : Each StrictlyRising rows) {u
     admissible = nth-in [] (choices rows) j (here .0);
     covers = omega (arith, here .1, p .covers);
     least = λ c m h. ⊎-elim (λ l. omega (arith, here .1)) (λ e. omega (arith, here .1, e .0)) (ahead-of c m h .3);
-    tie = λ c m e. let k = ahead-of c m (omega (arith, here .1, p .covers)) in ⊎-elim (λ l. absurd (omega (arith, here .1))) (λ l. tie c (k .0) (k .2) (l .1)) (k .3);
+    tie = λ c m e.
+        let k = ahead-of c m (omega (arith, here .1, p .covers)) in
+        ⊎-elim (λ l. absurd (omega (arith, here .1))) (λ l. tie c (k .0) (k .2) (l .1)) (k .3);
   }
     where
       tie : (c : List ℕ) (k : ℕ) → at k ≡ c → k ≤ j → (c ≡ at j) ⊎ LargerWhereTheyDiffer (at j) c
@@ -166,11 +166,14 @@ module _ (d : ℕ) (rows : List (List ℕ)) (rise : Each StrictlyRising rows) {u
 
   some-covers : covering d (choices rows) ≡ [] → ⊥
   unfolding covering
-  some-covers e = List·Memᴰ·not-nil (subst (List·Memᴰ (at j)) e (in-keep (λ c. leb d (total c)) (at j) (choices rows) .1 (is-best .admissible, le-leb d (total (at j)) (is-best .covers))))
+  some-covers e =
+      let m = in-keep (λ c. leb d (total c)) (at j) (choices rows) .1 (is-best .admissible, le-leb d (total (at j)) (is-best .covers)) in
+      List·Memᴰ·not-nil (subst (List·Memᴰ (at j)) e m)
 
   -- it is the best choice's
   pub place-best : (j < count rows) × (getD (choices rows) j [] ≡ bestOf (covering d (choices rows))) × (u ≡ total (bestOf (covering d (choices rows))))
   unfolding at
   place-best =
-      let e : getD (choices rows) j [] ≡ bestOf (covering d (choices rows)) = best-unique d (choices rows) (at j) (bestOf (covering d (choices rows))) is-best (best-choice d rows some-covers) in
+      let e : getD (choices rows) j [] ≡ bestOf (covering d (choices rows)) =
+      best-unique d (choices rows) (at j) (bestOf (covering d (choices rows))) is-best (best-choice d rows some-covers) in
       (here .0, e, here .1 ∙ ap total e)

@@ -1,21 +1,20 @@
 -- Laws of the search: what is set aside finds nothing, a row with one level may stand in front of the order, and where the lows cover they alone
 -- are found.
-use Prim.Native.Nat.{ℕ, _+_, _≤_, _<_, zero-le}
+use Prim.Native.Nat.{ℕ, _+_, _≤_, _<_}
 use mathlib.Core.Path.{_≡_, refl, sym, ap, _∙_}
-use mathlib.Core.Logic.{⊎-elim}
-use mathlib.Core.Bool.{Bool, true, false, cond, not, _||_}
-use mathlib.Core.List.{List, [], _∷_, _++_, List·Memᴰ, List·Memᴰ·head, List·Memᴰ·tail, List·Memᴰ·cases-cons, List·Memᴰ·not-nil}
+use mathlib.Core.Bool.{Bool, true, false, cond, not}
+use mathlib.Core.List.{List, [], _∷_, _++_, List·Memᴰ, List·Memᴰ·head, List·Memᴰ·tail}
 use native.Mathlib.Omega.{arith}
 use native.Mathlib.Nat.{add-assoc, add-zero, zero-add}
 use lib.Dec.{ltb}
 use lib.ListN.{length}
-use borrow.Author.Tests.{lt-ltb, le-ltb, ltb-true, ltb-false, not-true as test-false}
-use Rattle.numbers.specs.Cases.{or-right, not-true}
+use borrow.Author.Tests.{lt-ltb, le-ltb, ltb-false, not-true as test-false}
+use Rattle.numbers.specs.Cases.{or-right}
 use Rattle.numbers.specs.Lists.{keep, total, lastOr, any}
-use Rattle.numbers.specs.ListLaws.{Each, any-intro, any-true, in-keep, greatest-least}
+use Rattle.numbers.specs.ListLaws.{Each, in-keep}
 use Rattle.choices.specs.Pairwise.{StrictlyRising}
-use Rattle.choices.specs.Between.{lowest-cons, lows-below}
-use Rattle.choices.specs.Search.{placed, byFalling, lowOf, highOf, several, order, lowest, highest, aboveBest, setAside, inTurn, searched, given, found}
+use Rattle.choices.specs.Between.{lows-below}
+use Rattle.choices.specs.Search.{byFalling, lowOf, highOf, several, order, lowest, highest, aboveBest, setAside, inTurn, searched, given, found}
 use Rattle.choices.specs.Falling.{ranked, falling-ranked}
 
 -- ---- what is set aside
@@ -25,7 +24,8 @@ unfolding searched
 aside-found d [] t bs e = rw e
 aside-found d (row ∷ rest) t bs e = rw e
 
-pub not-aside : (d : ℕ) (rest : List (List ℕ)) (t : ℕ) (bs : List ℕ) → d ≤ t + highest rest → aboveBest (t + lowest rest) bs ≡ false → setAside d rest t bs ≡ false
+not-aside : (d : ℕ) (rest : List (List ℕ)) (t : ℕ) (bs : List ℕ) → d ≤ t + highest rest → aboveBest (t + lowest rest) bs ≡ false →
+    setAside d rest t bs ≡ false
 unfolding setAside
 not-aside d rest t bs h e = rw (le-ltb (t + highest rest) d h, e)
 
@@ -44,7 +44,8 @@ one-level [] h e = absurd (omega arith)
 one-level (v ∷ []) h e = refl
 one-level (v ∷ w ∷ vs) h e = absurd (omega (arith, ltb-false 1 (length (v ∷ w ∷ vs)) e))
 
-searched-ones : (d : ℕ) (ones rest : List (List ℕ)) (t : ℕ) (bs : List ℕ) → Each (λ row. row ≡ lowOf row ∷ []) ones → searched d (ones ++ rest) t bs ≡ searched d rest (t + lowest ones) bs
+searched-ones : (d : ℕ) (ones rest : List (List ℕ)) (t : ℕ) (bs : List ℕ) → Each (λ row. row ≡ lowOf row ∷ []) ones →
+    searched d (ones ++ rest) t bs ≡ searched d rest (t + lowest ones) bs
 unfolding lowest total
 searched-ones d [] rest t bs h = rw add-zero
 searched-ones d (row ∷ ones) rest t bs h =
@@ -60,7 +61,8 @@ rankOf top = ranked highOf several top
 abbrev pub inOrder : ℕ → List (List ℕ) → List (List ℕ)
 inOrder top rows = byFalling (rankOf top) rows
 
-pub found-in-order : (d top : ℕ) (rows : List (List ℕ)) → Each (λ row. 0 < length row) rows → Each (λ row. highOf row < top) rows → found d rows ≡ searched d (inOrder top rows) 0 []
+pub found-in-order : (d top : ℕ) (rows : List (List ℕ)) → Each (λ row. 0 < length row) rows → Each (λ row. highOf row < top) rows →
+    found d rows ≡ searched d (inOrder top rows) 0 []
 unfolding found order given
 found-in-order d top rows some high =
     sym
@@ -81,17 +83,21 @@ unfolding aboveBest any
 above-cons t b bs h = rw (lt-ltb b t h)
 
 -- the other levels of a row, each above the first one that was found
-rest-aside : (d : ℕ) (rest : List (List ℕ)) (t b : ℕ) (bs vs : List ℕ) → Each (λ v. b < t + v + lowest rest) vs → inTurn (searched d rest) vs t (b ∷ bs) ≡ b ∷ bs
+rest-aside : (d : ℕ) (rest : List (List ℕ)) (t b : ℕ) (bs vs : List ℕ) → Each (λ v. b < t + v + lowest rest) vs →
+    inTurn (searched d rest) vs t (b ∷ bs) ≡ b ∷ bs
 unfolding inTurn setAside
 rest-aside d rest t b bs [] h = refl
 rest-aside d rest t b bs (v ∷ vs) h =
-    let a : setAside d rest (t + v) (b ∷ bs) ≡ true = or-right (ltb (t + v + highest rest) d) (aboveBest (t + v + lowest rest) (b ∷ bs)) (above-cons (t + v + lowest rest) b bs (h v (List·Memᴰ·head refl))) in
+    let u : ℕ = t + v + lowest rest in
+    let a : setAside d rest (t + v) (b ∷ bs) ≡ true =
+    or-right (ltb (t + v + highest rest) d) (aboveBest u (b ∷ bs)) (above-cons u b bs (h v (List·Memᴰ·head refl))) in
     ap (inTurn (searched d rest) vs t) (aside-found d rest (t + v) (b ∷ bs) a)
     ∙ rest-aside d rest t b bs vs (λ w m. h w (List·Memᴰ·tail m))
 
 pub lows-found :
     (d : ℕ) (rest : List (List ℕ)) (t : ℕ) (bs : List ℕ) →
-    Each (λ row. 0 < length row) rest → Each StrictlyRising rest → d ≤ t + lowest rest → aboveBest (t + lowest rest) bs ≡ false → searched d rest t bs ≡ (t + lowest rest) ∷ bs
+    Each (λ row. 0 < length row) rest → Each StrictlyRising rest → d ≤ t + lowest rest → aboveBest (t + lowest rest) bs ≡ false →
+    searched d rest t bs ≡ (t + lowest rest) ∷ bs
 unfolding searched inTurn lowest total
 lows-found d [] t bs some rise h e = rw (not-aside d [] t bs (omega (arith, lows-below [] rise)) e, add-zero)
 lows-found d ([] ∷ rest) t bs some rise h e = absurd (omega (arith, some [] (List·Memᴰ·head refl)))

@@ -6,7 +6,7 @@ use mathlib.Core.Logic.{⊎-elim}
 use mathlib.Core.List.{List, [], _∷_, List·Memᴰ·head, List·Memᴰ·tail, List·Memᴰ·not-nil, List·Memᴰ·cases-cons, List·Memᴰ·eq-of-singleton}
 use native.Mathlib.Omega.{arith}
 use lib.Dec.{leb}
-use lib.ListN.{length, take, drop, getD, drop-of-length-le}
+use lib.ListN.{length, drop, getD, drop-of-length-le}
 use borrow.Author.Tests.{le-leb, leb-true}
 use Rattle.numbers.specs.ListLaws.{Each}
 use Rattle.table.specs.Rows.{rowsIn, EndsRise}
@@ -48,12 +48,16 @@ module _ {levels : List ℕ} {at end k : ℕ} (r : Rising levels at end k) (l : 
     pub rising-again : getD levels k 0 < getD levels (k + 1) 0 → Rising levels at end (k + 1)
     rising-again g = record {
       within = h;
-      from = λ x. r .from (rw two (laid-two (getD levels k 0) (getD levels (k + 1) 0) (part levels (k + 1 + 1) end) g (rw (part-cons (k + 1) end levels h (omega arith)) at x)));
+      from = λ x.
+          let y = rw (part-cons (k + 1) end levels h (omega arith)) at x in
+          r .from (rw two (laid-two (getD levels k 0) (getD levels (k + 1) 0) (part levels (k + 1 + 1) end) g y));
       into = λ x. let y : RowLaid (getD levels k 0 ∷ part levels (k + 1) end) = rw one at (r .into x) in (y .0 .1, (λ z m. y .1 z (List·Memᴰ·tail m)));
     }
 
     pub rising-stop : getD levels (k + 1) 0 ≤ getD levels k 0 → Tells false (RowLaid (part levels at end))
-    rising-stop g = tells-not λ x. let y : RowLaid (getD levels k 0 ∷ getD levels (k + 1) 0 ∷ part levels (k + 1 + 1) end) = rw two at (r .into x) in omega (arith, y .0 .0 (getD levels (k + 1) 0) (List·Memᴰ·head refl))
+    rising-stop g = tells-not λ x.
+        let y : RowLaid (getD levels k 0 ∷ getD levels (k + 1) 0 ∷ part levels (k + 1 + 1) end) = rw two at (r .into x) in
+        omega (arith, y .0 .0 (getD levels (k + 1) 0) (List·Memᴰ·head refl))
 
   pub rising-end : end ≤ k + 1 → Tells (leb (getD levels k 0) 1000000000) (RowLaid (part levels at end))
   rising-end h =
@@ -76,7 +80,10 @@ pub laying-first : (levels ends : List ℕ) → Laying levels ends 0 0
 laying-first levels ends = record { placed = omega arith; start = omega arith; from = λ x. x; into = λ x. x }
 
 module _ {levels ends : List ℕ} {at i : ℕ} (c : Laying levels ends at i) (n : length ends ≡ 32) (h : i < 32) where
-  rows : Laid levels at (drop i ends) → (at < getD ends i 0) × EndsRise (getD ends i 0) (drop (i + 1) ends) 288 × Each RowLaid (part levels at (getD ends i 0) ∷ rowsIn levels (getD ends i 0) (drop (i + 1) ends))
+  rows : Laid levels at (drop i ends) →
+      (at < getD ends i 0)
+      × EndsRise (getD ends i 0) (drop (i + 1) ends) 288
+      × Each RowLaid (part levels at (getD ends i 0) ∷ rowsIn levels (getD ends i 0) (drop (i + 1) ends))
   rows x = let r = rise-row ends i at (omega arith) (x .0) in (r .0, r .1, rw (rows-cons levels ends i at (omega arith)) at (x .1))
 
   pub laying-empty : getD ends i 0 ≤ at → Tells false (Laid levels 0 ends)
@@ -102,4 +109,7 @@ module _ {levels ends : List ℕ} {at i : ℕ} (c : Laying levels ends at i) (n 
 
 pub laying-end : {levels ends : List ℕ} {at i : ℕ} → Laying levels ends at i → length ends ≡ 32 → 32 ≤ i → Tells true (Laid levels 0 ends)
 unfolding EndsRise rowsIn
-laying-end {levels} {ends} {at} {i} c n h = ((λ _. c .from (rw (drop-of-length-le ends {i = i} (omega arith)) (c .start, (λ r m. absurd (List·Memᴰ·not-nil m))))), (λ _. refl))
+laying-end {levels} {ends} {at} {i} c n h = (
+  (λ _. c .from (rw (drop-of-length-le ends {i = i} (omega arith)) (c .start, (λ r m. absurd (List·Memᴰ·not-nil m))))),
+  (λ _. refl),
+)

@@ -13,9 +13,11 @@ use Rattle.table.specs.PlaceLaws.{part-length, rows-cons, rise-row, rise-end}
 use Rattle.counting.specs.Counted.{CountedTo}
 
 -- the number of choices, by the length of the first row
-rows-count : (levels ends : List ℕ) (i at : ℕ) → i < length ends → getD ends i 0 ≤ length levels → count (rowsIn levels at (drop i ends)) ≡ (getD ends i 0 - at) * count (rowsIn levels (getD ends i 0) (drop (i + 1) ends))
+rows-count : (levels ends : List ℕ) (i at : ℕ) → i < length ends → getD ends i 0 ≤ length levels →
+    count (rowsIn levels at (drop i ends)) ≡ (getD ends i 0 - at) * count (rowsIn levels (getD ends i 0) (drop (i + 1) ends))
 rows-count levels ends i at h k =
-    rw (rows-cons levels ends i at h, count-row (part levels at (getD ends i 0)) (rowsIn levels (getD ends i 0) (drop (i + 1) ends)), part-length levels at (getD ends i 0) k)
+    let end : ℕ = getD ends i 0 in
+    rw (rows-cons levels ends i at h, count-row (part levels at end) (rowsIn levels end (drop (i + 1) ends)), part-length levels at end k)
 
 -- where no row is empty there is a choice
 some-choice : (levels : List ℕ) → length levels ≡ 288 → (at : ℕ) (es : List ℕ) → EndsRise at es 288 → 0 < count (rowsIn levels at es)
@@ -44,7 +46,8 @@ module _ {ends : List ℕ} {n at i : ℕ} (t : Tally ends n at i) (e : length en
     pub tally-fits : n * (getD ends i 0 - at) ≤ 18874368
     tally-fits = let p : n * (getD ends i 0 - at) ≤ 65536 * 288 = mul-le-mul {n₂ = 65536} {m₂ = 288} (t .small) (omega (arith, tally-row .1)) in omega arith
 
-    more : (levels : List ℕ) → length levels ≡ 288 → count (rowsIn levels 0 ends) ≡ n * (getD ends i 0 - at) * count (rowsIn levels (getD ends i 0) (drop (i + 1) ends))
+    more : (levels : List ℕ) → length levels ≡ 288 →
+        count (rowsIn levels 0 ends) ≡ n * (getD ends i 0 - at) * count (rowsIn levels (getD ends i 0) (drop (i + 1) ends))
     more levels l =
         t .all levels l
         ∙ ap (λ (m : ℕ). n * m) (rows-count levels ends i at (omega arith) (omega (arith, tally-row .1)))
@@ -69,5 +72,6 @@ module _ {ends : List ℕ} {n at i : ℕ} (t : Tally ends n at i) (e : length en
   unfolding choices rowsIn
   tally-end limit h =
       let z : drop i ends ≡ [] = drop-of-length-le ends {i = i} (omega arith) in
-      let all : (levels : List ℕ) → length levels ≡ 288 → count (rowsIn levels 0 ends) ≡ n = λ levels l. t .all levels l ∙ ap (λ (es : List ℕ). n * count (rowsIn levels at es)) z ∙ mul-one n in
+      let all : (levels : List ℕ) → length levels ≡ 288 → count (rowsIn levels 0 ends) ≡ n =
+      λ levels l. t .all levels l ∙ ap (λ (es : List ℕ). n * count (rowsIn levels at es)) z ∙ mul-one n in
       record { within = λ levels l w. sym (all levels l); over = λ levels l w. omega (arith, all levels l) }

@@ -1,22 +1,20 @@
 -- The search at a place: what the choices with the level there come to, and what is left beside it.
-use Prim.Native.Nat.{ℕ, suc, _+_, _-_, _*_, _≤_, _<_, zero-le}
+use Prim.Native.Nat.{ℕ, suc, _+_, _-_, _≤_, _<_, zero-le}
 use mathlib.Core.Path.{_≡_, refl, sym, ap, _∙_}
 use mathlib.Core.Logic.{⊎-elim}
 use mathlib.Core.List.{List, [], _∷_, map, List·Memᴰ·head, List·Memᴰ·tail, map-map}
 use native.Mathlib.Omega.{arith}
-use native.Mathlib.Nat.{mul-le-mul-right, one-mul}
-use lib.ListN.{length, drop, getD}
+use lib.ListN.{drop, getD}
 use Rattle.numbers.specs.Cases.{le-or-lt}
 use Rattle.numbers.specs.Lists.{total}
-use Rattle.numbers.specs.ListLaws.{Each, in-map}
+use Rattle.numbers.specs.ListLaws.{Each}
 use Rattle.choices.specs.Search.{lowest, highest}
-use Rattle.choices.specs.Pairwise.{StrictlyRising}
 use Rattle.choices.specs.Kept.{Levels}
 use Rattle.choices.specs.CoveringCount.{covering-few}
-use Rattle.choices.specs.Numbered.{count, count-row}
+use Rattle.choices.specs.Numbered.{count}
 use Rattle.choices.specs.Through.{Strided, rowOf, eachLevel, through}
 use Rattle.table.specs.Places.{part, RowLaid, startOf, rowIn}
-use Rattle.table.specs.PlaceLaws.{part-cons, row-ends, row-some, row-laid}
+use Rattle.table.specs.PlaceLaws.{part-cons, row-ends, row-laid}
 use Rattle.searching.specs.declared.Found.{Found}
 use Rattle.searching.specs.Behind.{rowsBehind}
 use Rattle.searching.specs.Going.{more, offered, strided, left, Ready}
@@ -87,7 +85,9 @@ module _ {levels ends order strides ways lows highs : List ℕ} {i at base ix : 
 
   none-left : i + 1 ≡ 32 → lowest behind ≡ highest behind
   unfolding lowest highest total
-  none-left e = let z : behind ≡ [] = ap (λ (n : ℕ). map (rowIn levels ends) (drop n order)) e ∙ from-none (r .table) (r .orders) in ap lowest z ∙ sym (ap highest z)
+  none-left e =
+      let z : behind ≡ [] = ap (λ (n : ℕ). map (rowIn levels ends) (drop n order)) e ∙ from-none (r .table) (r .orders) in
+      ap lowest z ∙ sym (ap highest z)
 
   module _ (d : ℕ) where
     -- g has gone through the choices with the level at the place
@@ -150,10 +150,13 @@ module _ {levels ends order strides ways lows highs : List ℕ} {i at base ix : 
           row = (row-here .0 .1, (λ v m. row-here .1 v (List·Memᴰ·tail m)));
           base-fits = r .base-fits;
           index-fits = omega (arith, r .index-fits, r .small k number);
-          room = rw w (omega (arith, through-covers d rest (base + level) ix f, covering-few d (map rowOf rest) (base + level), ap count rest-rows, r .room, counts));
+          room =
+              let c = through-covers d rest (base + level) ix f in
+              rw w (omega (arith, c, covering-few d (map rowOf rest) (base + level), ap count rest-rows, r .room, counts));
           fewer = rw w (through-fewer d rest (base + level) ix f (r .fewer));
         }
 
-        pub go-on : (e : Found) → e ≡ through (offered d) (left levels ends order strides i (at + 1)) base (ix + getD strides k 0) g → e ≡ through (offered d) (left levels ends order strides i at) base ix f
+        pub go-on : (e : Found) → e ≡ through (offered d) (left levels ends order strides i (at + 1)) base (ix + getD strides k 0) g →
+            e ≡ through (offered d) (left levels ends order strides i at) base ix f
         unfolding through eachLevel
         go-on e q = q ∙ rw (w, here)

@@ -1,12 +1,12 @@
 -- From going through all choices to the promise of `find`: the tally's three parts, each by what every choice keeps.
-use Prim.Native.Nat.{ℕ, suc, max, _+_, _≤_, _<_, zero-le}
-use mathlib.Core.Path.{_≡_, refl, sym, ap, subst, _∙_}
+use Prim.Native.Nat.{ℕ, max, _≤_, _<_, zero-le}
+use mathlib.Core.Path.{_≡_, refl, sym, ap, _∙_}
 use mathlib.Core.Logic.{_⊎_, inl, inr, ⊎-elim}
-use mathlib.Core.Bool.{Bool, true, false, cond, _||_}
-use mathlib.Core.List.{List, [], _∷_, map, List·Memᴰ, List·Memᴰ·not-nil, map-map}
+use mathlib.Core.Bool.{true}
+use mathlib.Core.List.{List, [], _∷_, map, map-map}
 use native.Mathlib.Omega.{arith}
 use native.Mathlib.Nat.{zero-add}
-use lib.Dec.{leb, ltb}
+use lib.Dec.{ltb}
 use lib.ListN.{length, getD}
 use borrow.Author.Tests.{le-leb, lt-leb, lt-ltb, le-ltb, ltb-true, ltb-false}
 use Rattle.numbers.specs.Cases.{le-or-lt}
@@ -16,7 +16,7 @@ use Rattle.choices.specs.Choices.{choices, covering, bestOf}
 use Rattle.choices.specs.Pairwise.{StrictlyRising}
 use Rattle.choices.specs.Best.{best-choice}
 use Rattle.choices.specs.Search.{highOf, highest, aboveBest, searched, kept}
-use Rattle.choices.specs.Searched.{rankOf, inOrder, found-in-order}
+use Rattle.choices.specs.Searched.{rankOf, found-in-order}
 use Rattle.choices.specs.Falling.{falling-any}
 use Rattle.choices.specs.CoveringCount.{coveringFrom, covering-any, covering-count}
 use Rattle.choices.specs.Through.{Strided, rowOf, through, Among, through-relates, through-keeps, through-meets, among-between}
@@ -32,7 +32,7 @@ use Rattle.searching.specs.Going.{more, offered, strided, left, Ready}
 use Rattle.searching.specs.Searches.{Searchable, Searches}
 use Rattle.searching.specs.InOrder.{high-fits, number-at, order-cons, from-cons, from-each, from-levels, from-fits}
 use Rattle.searching.proofs.Orders.{top, numbers-order, strides-small, in-order, ordered, ordered-rows-are, same-choices}
-use Rattle.searching.proofs.Tallying.{plus, keeping, more-case, more-above, through-covers}
+use Rattle.searching.proofs.Tallying.{keeping, more-case, more-above, through-covers}
 
 -- none found yet: no total is above its
 abbrev pub none : Found
@@ -56,15 +56,21 @@ stands-none = record { many = refl; above = λ u h. sym (le-ltb 1844674407370955
 -- one total more that is not above the best
 stands-new : (u j : ℕ) (bs : List ℕ) (f : Found) → u ≤ f .total → Stands bs f → Stands (u ∷ bs) (keeping 1 u j f)
 unfolding aboveBest any
-stands-new u j bs f h s = record { many = omega (arith, s .many); above = λ v b. ⊎-elim (λ k. rw (le-ltb u v k) (s .above v b ∙ le-ltb (f .total) v (omega arith))) (λ k. rw (lt-ltb u v k)) (le-or-lt v u) }
+stands-new u j bs f h s = record {
+  many = omega (arith, s .many);
+  above = λ v b. ⊎-elim (λ k. rw (le-ltb u v k) (s .above v b ∙ le-ltb (f .total) v (omega arith))) (λ k. rw (lt-ltb u v k)) (le-or-lt v u);
+}
 
 stands-more : (d u j : ℕ) → u ≤ 18446744073709551615 → (bs : List ℕ) (f : Found) → Stands bs f → Stands (tried d u j bs) (offered d u j f)
 stands-more d u j b bs f s =
     tried-case d u j bs (λ r. Stands r (offered d u j f))
     (λ h. rw (lt-leb d u h) s)
-    (λ e. offered-case d u j f (Stands bs) (λ h. s) (λ h. rw (more-above 1 u j f (ltb-true (f .total) u (sym (s .above u b) ∙ e))) (record { many = s .many; above = s .above })))
+    (λ e. offered-case d u j f (Stands bs) (λ h. s) (λ h. rw (more-above 1 u j f (above e)) (record { many = s .many; above = s .above })))
     (λ h e. rw (le-leb d u h) (new (ltb-false (f .total) u (sym (s .above u b) ∙ e))))
   where
+    above : aboveBest u bs ≡ true → f .total < u
+    above e = ltb-true (f .total) u (sym (s .above u b) ∙ e)
+
     new : u ≤ f .total → Stands (u ∷ bs) (more 1 u j f)
     new h = more-case 1 u j f (Stands (u ∷ bs)) (λ k. absurd (omega arith)) (λ i k. stands-new u i bs f h s)
 
@@ -82,7 +88,9 @@ ahead-stays v k d u j f a = offered-case d u j f (Ahead v k) (λ h. a) (λ h. mo
     place i (inr l) = ⊎-elim (λ b. inl (omega (arith, l .0))) (λ b. inr (l .0 ∙ b .0, omega (arith, l .1, b .1))) a
 
 ahead-meets : (v k d : ℕ) → d ≤ v → (f : Found) → Ahead v k (offered d v k f)
-ahead-meets v k d h f = rw (le-leb d v h) (more-case 1 v k f (Ahead v k) (λ l. inl l) (λ i l. inr (refl, ⊎-elim (λ b. omega (arith, b .1)) (λ b. omega (arith, b .1)) l)))
+ahead-meets v k d h f =
+    rw (le-leb d v h)
+    (more-case 1 v k f (Ahead v k) (λ l. inl l) (λ i l. inr (refl, ⊎-elim (λ b. omega (arith, b .1)) (λ b. omega (arith, b .1)) l)))
 
 abbrev pub result : ℕ → List Strided → Found
 result d rs = through (offered d) rs 0 0 none
@@ -108,7 +116,10 @@ module _ (d : ℕ) (rs : List Strided) (rise : Each StrictlyRising (map rowOf rs
       place h i (inr l) =
           ⊎-elim
           (λ k. let e : i ≡ j = omega (arith, l .1) in inr (rw e a, h))
-          (λ k. ⊎-elim (λ b. absurd (omega (arith, bound u j a, l .0, b .0))) (λ b. let e : i ≡ f .index = omega (arith, l .1) in inr (rw (l .0, e) (b .0), h)) r)
+          (λ k. ⊎-elim
+          (λ b. absurd (omega (arith, bound u j a, l .0, b .0)))
+          (λ b. let e : i ≡ f .index = omega (arith, l .1) in inr (rw (l .0, e) (b .0), h))
+          r)
           (le-or-lt (f .index) j)
 
   result-right : Right (result d rs)
@@ -155,7 +166,9 @@ module _ {levels ends strides : List ℕ} (q : Searchable levels ends strides) (
         let p = result-best d rs rise fits (total (bestOf (covering d (choices rows)))) (k .0) (same-choices q _ _ .0 (k .3)) (c .covers) in
         record { among = same-choices q _ _ .1 (p .among); covers = p .covers; ahead = λ v j a h. p .ahead v j (same-choices q v j .0 a) h }
 
-    best-is : (result d rs .index < count rows) × (getD (choices rows) (result d rs .index) [] ≡ bestOf (covering d (choices rows))) × (result d rs .total ≡ total (bestOf (covering d (choices rows))))
+    best-is :
+        let b = bestOf (covering d (choices rows)) in
+        (result d rs .index < count rows) × (getD (choices rows) (result d rs .index) [] ≡ b) × (result d rs .total ≡ total b)
     best-is = place-best d rows (each-row StrictlyRising (λ k h. row-laid (q .table) k h .0)) best-listed
 
   searches : Searches d rows (result d rs)
@@ -170,7 +183,7 @@ module _ {levels ends strides : List ℕ} (q : Searchable levels ends strides) (
     keeps =
         result-keeps d rs rise fits
         ∙ ap (λ r. length (searched d r 0 [])) (ordered-rows-are q)
-        ∙ sym (ap length (found-in-order d top rows some-levels (each-row (λ row. highOf row < top) (λ k h. omega (arith, high-fits (rowIn levels ends k) (row-laid (q .table) k h))))));
+        ∙ sym (ap length (found-in-order d top rows some-levels small-highs));
     placed = ⊎-elim
         (λ r. omega (arith, r .1, count-some rows some-levels))
         (λ r. let n = numbered-from rows 0 0 (result d rs .total) (result d rs .index) (same-choices q _ _ .1 (r .0)) in omega (arith, n .1, n .2))
@@ -179,6 +192,9 @@ module _ {levels ends strides : List ℕ} (q : Searchable levels ends strides) (
     least = λ some. best-is some .2;
   }
     where
+      small-highs : Each (λ row. highOf row < top) rows
+      small-highs = each-row (λ row. highOf row < top) (λ k h. omega (arith, high-fits (rowIn levels ends k) (row-laid (q .table) k h)))
+
       some-levels : Each (λ row. 0 < length row) rows
       some-levels = each-row (λ row. 0 < length row) (row-some (q .table))
 
@@ -194,7 +210,8 @@ module _ {levels ends strides : List ℕ} (q : Searchable levels ends strides) (
     pub first-number : first < 32
     first-number = number-at (q .table) find-order 0 (omega arith)
 
-    pub find-ready : {ways lows highs : List ℕ} → Behind levels ends order ways lows highs 0 → Ready levels ends order strides ways lows highs 0 (startOf ends first) 0 0 none
+    pub find-ready : {ways lows highs : List ℕ} → Behind levels ends order ways lows highs 0 →
+        Ready levels ends order strides ways lows highs 0 (startOf ends first) 0 0 none
     find-ready b = record {
       table = q .table;
       orders = find-order;
@@ -211,5 +228,6 @@ module _ {levels ends strides : List ℕ} (q : Searchable levels ends strides) (
 
     pub find-searches : (r : Found) → r ≡ through (offered d) (left levels ends order strides 0 (startOf ends first)) 0 0 none → Searches d rows r
     find-searches r e =
-        let l : left levels ends order strides 0 (startOf ends first) ≡ ordered q = sym (ap (map (strided levels ends strides)) (order-cons (q .table) find-order 0 (omega arith))) ∙ ap (map (strided levels ends strides)) o in
+        let l : left levels ends order strides 0 (startOf ends first) ≡ ordered q =
+        ap (map (strided levels ends strides)) (sym (order-cons (q .table) find-order 0 (omega arith)) ∙ o) in
         rw (e, l) searches

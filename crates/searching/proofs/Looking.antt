@@ -1,8 +1,8 @@
 -- What the rows behind each place of an order have, from the last place up.
-use Prim.Native.Nat.{ℕ, suc, _+_, _-_, _*_, _≤_, _<_}
-use mathlib.Core.Path.{_≡_, refl, sym, ap, subst, _∙_}
+use Prim.Native.Nat.{ℕ, _+_, _-_, _*_, _≤_, _<_}
+use mathlib.Core.Path.{_≡_, sym, ap, subst, _∙_}
 use mathlib.Core.Logic.{⊎-elim}
-use mathlib.Core.List.{List, [], _∷_, map}
+use mathlib.Core.List.{List, _∷_, map}
 use native.Mathlib.Omega.{arith}
 use native.Mathlib.Nat.{mul-comm}
 use lib.ListN.{length, drop, getD, set, length-set}
@@ -19,11 +19,14 @@ use Rattle.searching.specs.Behind.{Orders, rowsBehind, EachBehind, Behin
 use Rattle.searching.specs.InOrder.{number-at, from-cons, from-none, from-few, from-fits}
 
 -- one more is stored at place k
-stored : (f : List (List ℕ) → ℕ) (levels ends order out : List ℕ) (k x : ℕ) → length out ≡ 32 → k < 32 → x ≡ f (rowsBehind levels ends order k) → EachBehind f levels ends order out (k + 1) → EachBehind f levels ends order (set out k x) k
+stored : (f : List (List ℕ) → ℕ) (levels ends order out : List ℕ) (k x : ℕ) → length out ≡ 32 → k < 32 → x ≡ f (rowsBehind levels ends order k) →
+    EachBehind f levels ends order out (k + 1) → EachBehind f levels ends order (set out k x) k
 stored f levels ends order out k x l h e b j g i =
     ⊎-elim
     (λ q. getD-set-other out k j x 0 (λ d. omega arith) ∙ b j q i)
-    (λ q. let d : j ≡ k = omega arith in subst (λ (m : ℕ). getD (set out k x) m 0 ≡ f (rowsBehind levels ends order m)) (sym d) (getD-set-same out k x 0 (omega arith) ∙ e))
+    (λ q.
+    let d : k ≡ j = omega arith in
+    subst (λ (m : ℕ). getD (set out k x) m 0 ≡ f (rowsBehind levels ends order m)) d (getD-set-same out k x 0 (omega arith) ∙ e))
     (le-or-lt (k + 1) j)
 
 -- the loop below place i: what the rows from i on have
@@ -37,14 +40,17 @@ pub record Looking (levels ends order ways lows highs : List ℕ) (n low high i 
   pub low-is : low ≡ lowest (map (rowIn levels ends) (drop i order))
   pub high-is : high ≡ highest (map (rowIn levels ends) (drop i order))
 
-pub looking-down : {levels ends order ways lows highs : List ℕ} {n low high i : ℕ} → Looking levels ends order ways lows highs n low high i → 0 < i → Looking levels ends order ways lows highs n low high (i - 1 + 1)
+pub looking-down : {levels ends order ways lows highs : List ℕ} {n low high i : ℕ} → Looking levels ends order ways lows highs n low high i → 0 < i →
+    Looking levels ends order ways lows highs n low high (i - 1 + 1)
 looking-down {i = i} l h = let e : i - 1 + 1 ≡ i = omega arith in rw e l
 
-pub looking-end : {levels ends order ways lows highs : List ℕ} {n low high i : ℕ} → Looking levels ends order ways lows highs n low high i → i ≤ 0 → Behind levels ends order ways lows highs 0
+pub looking-end : {levels ends order ways lows highs : List ℕ} {n low high i : ℕ} → Looking levels ends order ways lows highs n low high i → i ≤ 0 →
+    Behind levels ends order ways lows highs 0
 looking-end {i = i} l h = let e : i ≡ 0 = omega arith in rw e at (l .behind)
 
 module _ {levels ends order : List ℕ} (t : LaidOut levels ends) (o : Orders levels ends order) where
-  pub looking-first : (ways lows highs : List ℕ) → length ways ≡ 32 → length lows ≡ 32 → length highs ≡ 32 → Looking levels ends order ways lows highs 1 0 0 32
+  pub looking-first : (ways lows highs : List ℕ) → length ways ≡ 32 → length lows ≡ 32 → length highs ≡ 32 →
+      Looking levels ends order ways lows highs 1 0 0 32
   unfolding choices lowest highest total
   looking-first ways lows highs a b c = record {
     placed = omega arith;
@@ -80,7 +86,8 @@ module _ {levels ends order : List ℕ} (t : LaidOut levels ends) (o : Orders le
     n-here =
         ap (λ (m : ℕ). m * (end - start)) (l .n-is)
         ∙ mul-comm (count (rowsBehind levels ends order i)) (end - start)
-        ∙ sym (ap count here ∙ count-row (rowIn levels ends k) (rowsBehind levels ends order i) ∙ ap (λ (m : ℕ). m * count (rowsBehind levels ends order i)) (row-length t k (looking-row .0)))
+        ∙ ap (λ (m : ℕ). m * count (rowsBehind levels ends order i)) (sym (row-length t k (looking-row .0)))
+        ∙ sym (ap count here ∙ count-row (rowIn levels ends k) (rowsBehind levels ends order i))
 
     low-here : low + getD levels start 0 ≡ lowest (map (rowIn levels ends) (drop i order))
     low-here = omega (arith, l .low-is, ap lowest here, lowest-cons (rowIn levels ends k) (rowsBehind levels ends order i), row-low t k (looking-row .0))
@@ -93,7 +100,9 @@ module _ {levels ends order : List ℕ} (t : LaidOut levels ends) (o : Orders le
         let f = from-fits t o i (omega (arith, row)) in
         (omega (arith, n-here, from-few t o i (omega (arith, row))), omega (arith, low-here, f .0), omega (arith, high-here, f .1))
 
-    pub looking-again : Looking levels ends order (set ways i n) (set lows i low) (set highs i high) (n * (end - start)) (low + getD levels start 0) (high + getD levels (end - 1) 0) i
+    pub looking-again :
+        let next = n * (end - start) in
+        Looking levels ends order (set ways i n) (set lows i low) (set highs i high) next (low + getD levels start 0) (high + getD levels (end - 1) 0) i
     looking-again = record {
       placed = omega (arith, row);
       ways-long = length-set ways i n ∙ l .ways-long;

@@ -2,11 +2,10 @@
 use Prim.Native.Nat.{ℕ, zero, suc, _+_, _≤_, _<_, zero-le}
 use mathlib.Core.Path.{_≡_, refl, sym, ap, ap₂, _∙_}
 use mathlib.Core.Logic.{_↔_}
-use mathlib.Core.List.{List, [], _∷_, map, map-map}
+use mathlib.Core.List.{List, _∷_, map, map-map}
 use native.Mathlib.Omega.{arith}
 use native.Mathlib.Nat.{add-zero, zero-add}
-use lib.ListN.{length, drop, getD}
-use Rattle.numbers.specs.ListLaws.{Each}
+use lib.ListN.{drop, getD}
 use Rattle.choices.specs.Search.{byFalling}
 use Rattle.choices.specs.Searched.{rankOf, inOrder}
 use Rattle.choices.specs.Falling.{falling-any, map-falling, each-any, length-any}
@@ -47,7 +46,8 @@ module _ {levels ends strides : List ℕ} (q : Searchable levels ends strides) w
   numbered-from k (suc n) e =
       let l : 32 ≡ k + 1 + n = omega arith in
       let m : 0 + (k + 1) ≡ suc k = omega arith in
-      let d : drop (k + 1) (numbersFrom 0 32) ≡ numbersFrom (suc k) n = ap (λ (j : ℕ). drop (k + 1) (numbersFrom 0 j)) l ∙ numbers-drop (k + 1) 0 n ∙ ap (λ (j : ℕ). numbersFrom j n) m in
+      let d : drop (k + 1) (numbersFrom 0 32) ≡ numbersFrom (suc k) n =
+      ap (λ (j : ℕ). drop (k + 1) (numbersFrom 0 j)) l ∙ numbers-drop (k + 1) 0 n ∙ ap (λ (j : ℕ). numbersFrom j n) m in
       ap₂
       (λ (c : ℕ) (rs : List Strided). (c, rowIn levels ends k) ∷ rs)
       (sym (q .numbers k zero-le (omega arith) ∙ ap (λ ks. count (map (rowIn levels ends) ks)) d))

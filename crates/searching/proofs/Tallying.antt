@@ -1,6 +1,6 @@
 -- Laws of the tally: what a part of which no choice covers leaves, and what a part of which all cover.
 use Prim.Native.Nat.{ℕ, max, _+_, _≤_, _<_}
-use mathlib.Core.Path.{_≡_, refl, sym, ap, _∙_}
+use mathlib.Core.Path.{_≡_, refl, ap, _∙_}
 use mathlib.Core.Bool.{Bool, true, false, cond}
 use mathlib.Core.Logic.{_⊎_, inl, inr, ⊎-elim}
 use mathlib.Core.List.{List, [], _∷_, map, List·Memᴰ·head, List·Memᴰ·tail, List·Memᴰ·cases-cons}
@@ -8,7 +8,7 @@ use native.Mathlib.Omega.{arith}
 use native.Mathlib.Nat.{add-zero, zero-add, add-assoc, suc-mul, one-mul}
 use lib.Dec.{leb, ltb, eqb}
 use lib.ListN.{length}
-use borrow.Author.Tests.{le-leb, lt-leb, lt-ltb, le-ltb, eq-eqb, ne-eqb, ltb-false}
+use borrow.Author.Tests.{le-leb, lt-leb, lt-ltb, le-ltb, eq-eqb, ne-eqb}
 use Rattle.numbers.specs.Cases.{le-or-lt, three-way}
 use Rattle.numbers.specs.Lists.{total}
 use Rattle.numbers.specs.ListLaws.{Each}
@@ -21,18 +21,14 @@ use Rattle.choices.specs.Numbered.{count, count-row}
 use Rattle.choices.specs.Through.{Strided, rowOf, eachLevel, through, Among, through-relates, through-keeps, among-between}
 use Rattle.choices.specs.SearchedThrough.{counted, through-counted}
 use Rattle.searching.specs.declared.Found.{Found}
-use Rattle.searching.specs.Going.{more, offered}
-
--- n choices more that are only counted
-abbrev pub plus : ℕ → Found → Found
-plus n f = record { covering = f .covering + n; kept = f .kept; total = f .total; index = f .index }
+use Rattle.searching.specs.Going.{onlyCounted, more, offered}
 
 -- the best of n choices is kept, at the place j
 abbrev pub keeping : ℕ → ℕ → ℕ → Found → Found
 keeping n t j f = record { covering = f .covering + n; kept = f .kept + 1; total = t; index = j }
 
 module _ (n t i : ℕ) (f : Found) where
-  pub more-above : f .total < t → more n t i f ≡ plus n f
+  pub more-above : f .total < t → more n t i f ≡ onlyCounted n f
   unfolding more
   more-above h = rw (lt-ltb (f .total) t h)
 
@@ -53,7 +49,7 @@ module _ (n t i : ℕ) (f : Found) where
   abbrev KeptPlace : ℕ → Type 0
   KeptPlace j = ((t < f .total) × (j ≡ i)) ⊎ ((t ≡ f .total) × (j ≡ max i (f .index)))
 
-  pub more-case : (P : Found → Type 0) → (f .total < t → P (plus n f)) → ((j : ℕ) → KeptPlace j → P (keeping n t j f)) → P (more n t i f)
+  pub more-case : (P : Found → Type 0) → (f .total < t → P (onlyCounted n f)) → ((j : ℕ) → KeptPlace j → P (keeping n t j f)) → P (more n t i f)
   more-case P above best =
       ⊎-elim
       (λ e. ⊎-elim
@@ -63,9 +59,9 @@ module _ (n t i : ℕ) (f : Found) where
       (⊎-elim (λ h. rw (more-below h) (best i (inl (h, refl)))) (λ h. rw (more-above h) (above h)))
       (three-way t (f .total))
 
-  more-plus : (m : ℕ) → plus m (more n t i f) ≡ more (n + m) t i f
+  more-counted : (m : ℕ) → onlyCounted m (more n t i f) ≡ more (n + m) t i f
   unfolding more
-  more-plus m = go (ltb (f .total) t)
+  more-counted m = go (ltb (f .total) t)
     where
       e : f .covering + n + m ≡ f .covering + (n + m)
       e = omega arith
@@ -73,7 +69,7 @@ module _ (n t i : ℕ) (f : Found) where
       j : ℕ
       j = cond (eqb t (f .total)) (max i (f .index)) i
 
-      go : (b : Bool) → plus m (cond b (plus n f) (keeping n t j f)) ≡ cond b (plus (n + m) f) (keeping (n + m) t j f)
+      go : (b : Bool) → onlyCounted m (cond b (onlyCounted n f) (keeping n t j f)) ≡ cond b (onlyCounted (n + m) f) (keeping (n + m) t j f)
       go true = rw e
       go false = rw e
 
@@ -87,16 +83,16 @@ module _ (d : ℕ) (rs : List Strided) (t i : ℕ) (f : Found) (rise : Each Stri
       step u j a x e = rw (lt-leb d u (omega (arith, among-between rs t i u j rise a .1))) e
 
   -- all cover and are above the best
-  through-above : d ≤ t + lowest (map rowOf rs) → f .total < t + lowest (map rowOf rs) → through (offered d) rs t i f ≡ plus (count (map rowOf rs)) f
+  through-above : d ≤ t + lowest (map rowOf rs) → f .total < t + lowest (map rowOf rs) → through (offered d) rs t i f ≡ onlyCounted (count (map rowOf rs)) f
   through-above h k =
-      through-relates (λ x n. x ≡ plus n f) (offered d) (counted d) rs t i step f 0 (rw (add-zero (f .covering)))
-      ∙ ap (λ n. plus n f) (through-counted d rs t i 0 ∙ zero-add (coveringFrom d (map rowOf rs) t) ∙ covering-all d (map rowOf rs) t rise h)
+      through-relates (λ x n. x ≡ onlyCounted n f) (offered d) (counted d) rs t i step f 0 (rw (add-zero (f .covering)))
+      ∙ ap (λ n. onlyCounted n f) (through-counted d rs t i 0 ∙ zero-add (coveringFrom d (map rowOf rs) t) ∙ covering-all d (map rowOf rs) t rise h)
     where
-      step : (u j : ℕ) → Among rs t i u j → (x : Found) (n : ℕ) → x ≡ plus n f → offered d u j x ≡ plus (counted d u j n) f
+      step : (u j : ℕ) → Among rs t i u j → (x : Found) (n : ℕ) → x ≡ onlyCounted n f → offered d u j x ≡ onlyCounted (counted d u j n) f
       step u j a x n e =
           let b = among-between rs t i u j rise a .0 in
           let c : f .covering + n + 1 ≡ f .covering + (n + 1) = omega arith in
-          rw (e, le-leb d u (omega arith)) (more-above 1 u j (plus n f) (omega arith) ∙ rw c)
+          rw (e, le-leb d u (omega arith)) (more-above 1 u j (onlyCounted n f) (omega arith) ∙ rw c)
 
 more-total : (n t i : ℕ) (f : Found) → more n t i f .total ≤ t
 more-total n t i f = more-case n t i f (λ x. x .total ≤ t) (λ h. omega arith) (λ j k. omega arith)
@@ -106,7 +102,8 @@ pub count-cons : (v : ℕ) (vs : List ℕ) (rows : List (List ℕ)) → count ((
 count-cons v vs rows = count-row (v ∷ vs) rows ∙ omega (arith, count-row vs rows, suc-mul (length vs) (count rows))
 
 -- all cover: the lows are the best of them, the others are above the lows
-pub through-all : (d : ℕ) (rs : List Strided) (t i : ℕ) (f : Found) → Each Levels (map rowOf rs) → d ≤ t + lowest (map rowOf rs) → through (offered d) rs t i f ≡ more (count (map rowOf rs)) (t + lowest (map rowOf rs)) i f
+pub through-all : (d : ℕ) (rs : List Strided) (t i : ℕ) (f : Found) → Each Levels (map rowOf rs) → d ≤ t + lowest (map rowOf rs) →
+    through (offered d) rs t i f ≡ more (count (map rowOf rs)) (t + lowest (map rowOf rs)) i f
 unfolding through eachLevel choices lowest total
 through-all d [] t i f levels h = rw (add-zero t, le-leb d t (omega arith))
 through-all d ((s, []) ∷ rs) t i f levels h = absurd (omega (arith, levels [] (List·Memᴰ·head refl) .0))
@@ -124,13 +121,16 @@ through-all d ((s, (v ∷ w ∷ vs)) ∷ rs) t i f levels h =
     let low : first < t + lowest ((w ∷ vs) ∷ rows) = omega arith in
     ap (λ (x : Found). through (offered d) ((s, (w ∷ vs)) ∷ rs) t (i + s) x) (through-all d rs (t + v) i f (λ r m. levels r (List·Memᴰ·tail m)) (omega arith))
     ∙ through-above d ((s, (w ∷ vs)) ∷ rs) t (i + s) g rise (omega arith) (omega (arith, more-total (count rows) first i f))
-    ∙ more-plus (count rows) first i f (count ((w ∷ vs) ∷ rows))
+    ∙ more-counted (count rows) first i f (count ((w ∷ vs) ∷ rows))
     ∙ rw (count-cons v (w ∷ vs) rows, add-assoc t v (lowest rows))
 
 -- ---- what every way through keeps
 
-pub through-covers : (d : ℕ) (rs : List Strided) (t i : ℕ) (f : Found) → through (offered d) rs t i f .covering ≡ f .covering + coveringFrom d (map rowOf rs) t
-through-covers d rs t i f = through-relates (λ x n. x .covering ≡ n) (offered d) (counted d) rs t i step f (f .covering) refl ∙ through-counted d rs t i (f .covering)
+pub through-covers : (d : ℕ) (rs : List Strided) (t i : ℕ) (f : Found) →
+    through (offered d) rs t i f .covering ≡ f .covering + coveringFrom d (map rowOf rs) t
+through-covers d rs t i f =
+    through-relates (λ x n. x .covering ≡ n) (offered d) (counted d) rs t i step f (f .covering) refl
+    ∙ through-counted d rs t i (f .covering)
   where
     step : (u j : ℕ) → Among rs t i u j → (x : Found) (n : ℕ) → x .covering ≡ n → offered d u j x .covering ≡ counted d u j n
     step u j a x n e = go (leb d u)
@@ -139,7 +139,8 @@ through-covers d rs t i f = through-relates (λ x n. x .covering ≡ n) (offered
         go true = more-case 1 u j x (λ y. y .covering ≡ n + 1) (λ h. omega arith) (λ k h. omega arith)
         go false = omega arith
 
-pub through-fewer : (d : ℕ) (rs : List Strided) (t i : ℕ) (f : Found) → f .kept ≤ f .covering → through (offered d) rs t i f .kept ≤ through (offered d) rs t i f .covering
+pub through-fewer : (d : ℕ) (rs : List Strided) (t i : ℕ) (f : Found) → f .kept ≤ f .covering →
+    through (offered d) rs t i f .kept ≤ through (offered d) rs t i f .covering
 through-fewer d rs t i f = through-keeps (λ x. x .kept ≤ x .covering) (offered d) rs t i step f
   where
     step : (u j : ℕ) → Among rs t i u j → (x : Found) → x .kept ≤ x .covering → offered d u j x .kept ≤ offered d u j x .covering

@@ -1,6 +1,6 @@
 -- The rows of a table in some order: what stands at a place, and that the sums and the number of choices behind it fit.
 use Prim.Native.Nat.{ℕ, zero, suc, _+_, _-_, _*_, _≤_, _<_, zero-le}
-use mathlib.Core.Path.{_≡_, refl, sym, ap, _∙_}
+use mathlib.Core.Path.{_≡_, refl, ap, _∙_}
 use mathlib.Core.Logic.{⊎-elim}
 use mathlib.Core.List.{List, [], _∷_, map, List·Memᴰ, List·Memᴰ·head, List·Memᴰ·tail, List·Memᴰ·cases-cons}
 use native.Mathlib.Omega.{arith}
@@ -8,12 +8,11 @@ use native.Mathlib.Nat.{mul-le-mul-right, one-mul}
 use native.Mathlib.Numerals.{add-one}
 use lib.ListN.{length, drop, getD, length-drop, length-map, drop-of-length-le}
 use lib.Seq.{drop-cons}
-use Rattle.numbers.specs.Lists.{total, lastOr}
 use Rattle.numbers.specs.ListLaws.{Each, in-map, last-in, total-map-bound}
-use Rattle.choices.specs.Choices.{choices}
 use Rattle.choices.specs.Search.{lowOf, highOf, lowest, highest}
 use Rattle.choices.specs.Kept.{Levels}
-use Rattle.choices.specs.Numbered.{count, count-row, nth-in}
+use Rattle.choices.specs.Through.{nth-in}
+use Rattle.choices.specs.Numbered.{count, count-row}
 use Rattle.table.specs.Places.{RowLaid, LaidOut, rowIn}
 use Rattle.table.specs.PlaceLaws.{row-some, row-laid}
 use Rattle.searching.specs.Behind.{Orders}
@@ -71,9 +70,10 @@ module _ {levels ends order : List ℕ} (t : LaidOut levels ends) (o : Orders le
   from-few zero h = o .few
   from-few (suc i) h =
       let k : ℕ = getD order i 0 in
-      let l : 1 * count (from (i + 1)) ≤ length (rowIn levels ends k) * count (from (i + 1)) = mul-le-mul-right (count (from (i + 1))) (row-some t k (number-at i h)) in
-      let c : count (from i) ≡ length (rowIn levels ends k) * count (from (i + 1)) = ap count (from-cons i h) ∙ count-row (rowIn levels ends k) (from (i + 1)) in
-      rw (← add-one i) (omega (arith, one-mul (count (from (i + 1))), from-few i (omega arith)))
+      let n : ℕ = count (from (i + 1)) in
+      let l : 1 * n ≤ length (rowIn levels ends k) * n = mul-le-mul-right n (row-some t k (number-at i h)) in
+      let c : count (from i) ≡ length (rowIn levels ends k) * n = ap count (from-cons i h) ∙ count-row (rowIn levels ends k) (from (i + 1)) in
+      rw (← add-one i) (omega (arith, one-mul n, from-few i (omega arith)))
 
   pub from-fits : (i : ℕ) → i ≤ 32 → (lowest (from i) ≤ (32 - i) * 1000000000) × (highest (from i) ≤ (32 - i) * 1000000000)
   from-fits i h =

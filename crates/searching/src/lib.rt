@@ -6,7 +6,7 @@ ghost use Rattle.choices.specs.Through.{through};
 ghost use Rattle.table.specs.Rows.{rowsIn};
 ghost use Rattle.table.specs.Places.{LaidOut};
 ghost use Rattle.searching.specs.Behind.{Orders, Behind};
-ghost use Rattle.searching.specs.Going.{more, offered, left, Ready};
+ghost use Rattle.searching.specs.Going.{onlyCounted, more, offered, left, Ready};
 ghost use Rattle.searching.specs.Searches.{Searchable, Searches};
 
 // For each place of an order, what the rows behind it have: the number of their choices, and their sums at their lows and at their highs.
@@ -52,23 +52,35 @@ pub struct Found {
     pub index: u64,
 }
 
-// With n covering choices more, the best of them of this total and at this place. Above the best total they are set aside, and only counted.
+// With n covering choices more that are set aside, being above the best total: they are only counted.
+fn set_aside(found: Found, n: u64) -> Found
+    requires { ⌜ found .covering + n ≤ 65536 ⌝ }
+    ensures { λ r. ⌜ r ≡ onlyCounted n found ⌝ }
+{
+    let covering = found.covering + n;
+    let kept = found.kept;
+    let total = found.total;
+    let index = found.index;
+    Found {
+        covering,
+        kept,
+        total,
+        index,
+    }
+}
+
+// With n covering choices more, of which only the one of this total and at this place can be kept.
 fn with_more(found: Found, n: u64, total: u64, index: u64) -> Found
     requires { ⌜ (found .covering + n ≤ 65536) × (found .kept ≤ found .covering) ⌝ }
     ensures { λ r. ⌜ r ≡ more n total index found ⌝ }
 {
-    let covering = found.covering + n;
     let best = found.total;
-    let place = found.index;
     if best < total {
-        return Found {
-            covering,
-            kept: found.kept,
-            total: best,
-            index: place,
-        };
+        return set_aside(found, n);
     }
+    let covering = found.covering + n;
     let kept = found.kept + 1;
+    let place = found.index;
     if total == best {
         if index < place {
             return Found {

@@ -1,6 +1,6 @@
 -- The choice at a place of the list of choices, level by level: the place is parted by the number of choices of the rows behind.
 use Prim.Native.Nat.{ℕ, _+_, _-_, _*_, _/_, _%_, _≤_, _<_, zero-le}
-use mathlib.Core.Path.{_≡_, refl, sym, ap, _∙_}
+use mathlib.Core.Path.{_≡_, sym, ap, _∙_}
 use mathlib.Core.List.{List, [], _∷_, _++_, map, append-assoc, append-nil}
 use native.Mathlib.Omega.{arith}
 use native.Mathlib.Nat.{zero-add, mod-lt, div-add-mod', div-lt-iff-lt-mul}
@@ -29,7 +29,8 @@ pub record Choosing (levels ends choice award : List ℕ) (rank i : ℕ) : Type 
   pub all : choice ≡ take i award ++ getD (choices (rowsFrom levels ends i)) rank []
 
 module _ {levels ends ways : List ℕ} (q : Searchable levels ends ways) where
-  pub choosing-first : (index : ℕ) (award : List ℕ) → index < count (rowsIn levels 0 ends) → length award ≡ 32 → Choosing levels ends (getD (choices (rowsIn levels 0 ends)) index []) award index 0
+  pub choosing-first : (index : ℕ) (award : List ℕ) → index < count (rowsIn levels 0 ends) → length award ≡ 32 →
+      Choosing levels ends (getD (choices (rowsIn levels 0 ends)) index []) award index 0
   choosing-first index award h l = record { within = zero-le; long = l; below = rw (rows-numbered (q .table)) at h; all = rw (rows-numbered (q .table)) }
 
   orders : Orders levels ends (numbersFrom 0 32)
@@ -79,7 +80,9 @@ module _ {levels ends ways : List ℕ} (q : Searchable levels ends ways) where
           let parted : rank ≡ rank / n * count behind + rank % n = rw (← n-is) (sym (div-add-mod' rank n)) in
           let m : rank % n < count behind = omega (arith, mod-lt rank n-some, n-is) in
           let e : getD (choices (row ∷ behind)) rank [] ≡ v ∷ getD (choices behind) (rank % n) [] =
-          ap (λ (j : ℕ). getD (choices (row ∷ behind)) j []) parted ∙ choice-at row behind (rank / n) (rank % n) level-inside m ∙ ap (λ (x : ℕ). x ∷ getD (choices behind) (rank % n) []) l in
+          ap (λ (j : ℕ). getD (choices (row ∷ behind)) j []) parted
+          ∙ choice-at row behind (rank / n) (rank % n) level-inside m
+          ∙ ap (λ (x : ℕ). x ∷ getD (choices behind) (rank % n) []) l in
           record {
             within = omega arith;
             long = length-set award i v ∙ c .long;

@@ -5,7 +5,7 @@ use mathlib.Core.Bool.{Bool, false}
 use mathlib.Core.Logic.{⊎-elim}
 use mathlib.Core.List.{List, []}
 use native.Mathlib.Omega.{arith}
-use lib.ListN.{length, getD}
+use lib.ListN.{getD}
 use borrow.Author.Tests.{le-leb, lt-leb}
 use Rattle.numbers.specs.Cases.{le-or-lt, clash}
 use Rattle.choices.specs.Choices.{choices, covering}
@@ -29,10 +29,12 @@ pub not-laid : {t : Table} {d limit : ℕ} (b : Bool) → Tells b (Laid (t .leve
 not-laid b tells e = record { right = λ rows l some. absurd (clash (tells .1 (laid-of l)) e) }
 
 -- what holds of the rows that a table has holds of the rows that it holds
-selects : {t : Table} {d limit : ℕ} {r : Selected} → ((covering d (choices (rowsIn (t .levels) 0 (t .ends))) ≡ [] → ⊥) → r ≡ selectedOf limit d (rowsIn (t .levels) 0 (t .ends))) → Selects t d limit r
+selects : {t : Table} {d limit : ℕ} {r : Selected} →
+    ((covering d (choices (rowsIn (t .levels) 0 (t .ends))) ≡ [] → ⊥) → r ≡ selectedOf limit d (rowsIn (t .levels) 0 (t .ends))) → Selects t d limit r
 selects {t} {d} {limit} {r} h = record {
   right = λ rows l some.
-      subst (λ (rs : List (List ℕ)). r ≡ selectedOf limit d rs) (l .rows-are) (h (subst (λ (rs : List (List ℕ)). covering d (choices rs) ≡ [] → ⊥) (sym (l .rows-are)) some));
+      let there = subst (λ (rs : List (List ℕ)). covering d (choices rs) ≡ [] → ⊥) (sym (l .rows-are)) some in
+      subst (λ (rs : List (List ℕ)). r ≡ selectedOf limit d rs) (l .rows-are) (h there);
 }
 
 -- what is known once the choices are counted
@@ -48,7 +50,8 @@ module _ {t : Table} {limit n : ℕ} (k : Counted t limit n) where
   pub too-many : {d : ℕ} → limit < n → Selects t d limit (refusedBy 10)
   unfolding selectedOf
   too-many h = selects λ some.
-      let over : limit < count rows = ⊎-elim (λ j. absurd (omega (arith, k .counts .within (t .levels) (k .table .long .0) j))) (λ j. j) (le-or-lt (count rows) limit) in
+      let over : limit < count rows =
+      ⊎-elim (λ j. absurd (omega (arith, k .counts .within (t .levels) (k .table .long .0) j))) (λ j. j) (le-or-lt (count rows) limit) in
       rw (lt-leb (count rows) limit over)
 
   module _ (h : n ≤ limit) where
@@ -61,7 +64,8 @@ module _ {t : Table} {limit n : ℕ} (k : Counted t limit n) where
     pub searchable : (strides : List ℕ) → EachBehind count (t .levels) (t .ends) (numbersFrom 0 32) strides 0 → Searchable (t .levels) (t .ends) strides
     searchable strides s = record { table = k .table; few = omega (arith, within, k .capped); numbers = s }
 
-    pub chosen : (d : ℕ) {f : Found} {award : List ℕ} → Searches d rows f → award ≡ getD (choices rows) (f .index) [] → Selects t d limit (record { number = 0; choices = n; covering = f .covering; kept = f .kept; total = f .total; award = award })
+    pub chosen : (d : ℕ) {f : Found} {award : List ℕ} → Searches d rows f → award ≡ getD (choices rows) (f .index) [] →
+        Selects t d limit (record { number = 0; choices = n; covering = f .covering; kept = f .kept; total = f .total; award = award })
     unfolding selectedOf
     chosen d {f} {award} s a = selects λ some.
         let number-of : n ≡ count rows = k .counts .within (t .levels) (k .table .long .0) within in

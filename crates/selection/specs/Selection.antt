@@ -16,7 +16,14 @@ use Rattle.selection.specs.declared.Selected.{Selected}
 unfoldable pub selectedOf : ℕ → ℕ → List (List ℕ) → Selected
 selectedOf limit d rows =
     cond (leb (length (choices rows)) limit)
-    (record { number = 0; choices = length (choices rows); covering = length (covering d (choices rows)); kept = kept d rows; total = total (bestOf (covering d (choices rows))); award = bestOf (covering d (choices rows)) })
+    (record {
+      number = 0;
+      choices = length (choices rows);
+      covering = length (covering d (choices rows));
+      kept = kept d rows;
+      total = total (bestOf (covering d (choices rows)));
+      award = bestOf (covering d (choices rows));
+    })
     (record { number = 10; choices = 0; covering = 0; kept = 0; total = 0; award = replicate 32 0 })
 
 -- a refusal: every other number is 0

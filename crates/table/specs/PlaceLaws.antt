@@ -1,18 +1,18 @@
 -- Where the rows of a table that is laid out start and end, and that they are its rows by number.
 use Prim.Native.Nat.{ℕ, zero, suc, _+_, _-_, _≤_, _<_, zero-le}
-use mathlib.Core.Path.{_≡_, refl, sym, ap, subst, _∙_}
+use mathlib.Core.Path.{_≡_, sym, ap, _∙_}
 use mathlib.Core.Logic.{⊎-elim}
 use mathlib.Core.List.{List, [], _∷_, map, List·Memᴰ, List·Memᴰ·head, List·Memᴰ·tail, List·Memᴰ·not-nil, List·Memᴰ·cases-cons}
 use native.Mathlib.Omega.{arith}
 use native.Mathlib.Nat.{add-zero}
 use native.Mathlib.Numerals.{add-one}
-use lib.ListN.{length, take, drop, getD, length-take, length-drop, drop-of-length-le}
+use lib.ListN.{length, drop, getD, length-take, length-drop, drop-of-length-le}
 use lib.Seq.{drop-cons, getD-take, getD-drop}
 use Rattle.numbers.specs.Cases.{le-or-lt}
-use Rattle.numbers.specs.ListLaws.{Each, map-intro, last-at}
+use Rattle.numbers.specs.ListLaws.{map-intro, last-at}
 use Rattle.choices.specs.Search.{lowOf, highOf}
 use Rattle.table.specs.Rows.{rowsIn, EndsRise}
-use Rattle.table.specs.Places.{part, RowLaid, Laid, LaidOut, startOf, rowIn, numbersFrom}
+use Rattle.table.specs.Places.{part, RowLaid, LaidOut, startOf, rowIn, numbersFrom}
 
 -- ---- parts of the levels
 
@@ -24,11 +24,13 @@ part-length levels at e h = simp (length-take, length-drop) (omega arith)
 
 -- ---- the ends
 
-pub rise-row : (ends : List ℕ) (i at : ℕ) → i < length ends → EndsRise at (drop i ends) 288 → (at < getD ends i 0) × EndsRise (getD ends i 0) (drop (i + 1) ends) 288
+pub rise-row : (ends : List ℕ) (i at : ℕ) → i < length ends → EndsRise at (drop i ends) 288 →
+    (at < getD ends i 0) × EndsRise (getD ends i 0) (drop (i + 1) ends) 288
 unfolding EndsRise
 rise-row ends i at h r = rw add-one (rw (drop-cons ends i 0) at r)
 
-pub rise-back : (ends : List ℕ) (i at : ℕ) → i < length ends → at < getD ends i 0 → EndsRise (getD ends i 0) (drop (i + 1) ends) 288 → EndsRise at (drop i ends) 288
+pub rise-back : (ends : List ℕ) (i at : ℕ) → i < length ends → at < getD ends i 0 → EndsRise (getD ends i 0) (drop (i + 1) ends) 288 →
+    EndsRise at (drop i ends) 288
 unfolding EndsRise
 rise-back ends i at h a r = rw (drop-cons ends i 0) (a, rw add-one at r)
 
@@ -39,7 +41,8 @@ rise-end at (e ∷ es) r = omega (arith, r .0, rise-end e es (r .1))
 
 -- ---- the rows, by number
 
-pub rows-cons : (levels ends : List ℕ) (i at : ℕ) → i < length ends → rowsIn levels at (drop i ends) ≡ part levels at (getD ends i 0) ∷ rowsIn levels (getD ends i 0) (drop (i + 1) ends)
+pub rows-cons : (levels ends : List ℕ) (i at : ℕ) → i < length ends →
+    rowsIn levels at (drop i ends) ≡ part levels at (getD ends i 0) ∷ rowsIn levels (getD ends i 0) (drop (i + 1) ends)
 unfolding rowsIn
 rows-cons levels ends i at h = rw (add-one i, drop-cons ends i 0 h)
 
@@ -70,7 +73,9 @@ module _ {levels ends : List ℕ} (t : LaidOut levels ends) where
 
   -- row k is not empty, and ends within the levels
   pub row-ends : (k : ℕ) → k < 32 → (startOf ends k < getD ends k 0) × (getD ends k 0 ≤ 288)
-  row-ends k h = let r = rise-row ends k (startOf ends k) (omega (arith, t .long .1)) (rise-at k (omega arith)) in (r .0, rise-end (getD ends k 0) (drop (k + 1) ends) (r .1))
+  row-ends k h =
+      let r = rise-row ends k (startOf ends k) (omega (arith, t .long .1)) (rise-at k (omega arith)) in
+      (r .0, rise-end (getD ends k 0) (drop (k + 1) ends) (r .1))
 
   pub row-length : (k : ℕ) → k < 32 → length (rowIn levels ends k) ≡ getD ends k 0 - startOf ends k
   row-length k h = part-length levels (startOf ends k) (getD ends k 0) (omega (arith, row-ends k h .1, t .long .0))
@@ -85,7 +90,8 @@ module _ {levels ends : List ℕ} (t : LaidOut levels ends) where
   pub row-low : (k : ℕ) → k < 32 → getD levels (startOf ends k) 0 ≡ lowOf (rowIn levels ends k)
   row-low k h =
       let s : ℕ = startOf ends k in
-      sym (getD-take (getD ends k 0 - s) (drop s levels) 0 0 (omega (arith, row-ends k h .0)) ∙ getD-drop s levels 0 0 ∙ ap (λ (j : ℕ). getD levels j 0) (add-zero s))
+      let a = getD-take (getD ends k 0 - s) (drop s levels) 0 0 (omega (arith, row-ends k h .0)) in
+      sym (a ∙ getD-drop s levels 0 0 ∙ ap (λ (j : ℕ). getD levels j 0) (add-zero s))
 
   pub row-high : (k : ℕ) → k < 32 → getD levels (getD ends k 0 - 1) 0 ≡ highOf (rowIn levels ends k)
   row-high k h =

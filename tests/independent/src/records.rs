@@ -4,6 +4,7 @@
 
 mod books;
 mod counted;
+mod crowded;
 mod damage;
 pub mod edges;
 mod long;
@@ -15,6 +16,7 @@ use crate::random::Random;
 use crate::replay::{make, read_call, write_call, Call};
 use crate::settling::number_of_choices;
 pub use counted::{largest_book, LARGEST_BOOKS};
+pub use crowded::{easy_book, hard_book};
 pub use long::long_record;
 
 /// Makes records of one sort.

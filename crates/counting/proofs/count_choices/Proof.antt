@@ -27,7 +27,9 @@ mul-n : tie.Need-mul-n Inv-loop μ-loop
 mul-n c = omega (arith, tally-fits (c .before .before .loop .inv) (c .before .before .before .pre .0) (c .before .loop-test .taken))
 
 returns : tie.Need-returns Inv-loop μ-loop
-returns c = tally-over (c .before .before .before .loop .inv) (c .before .before .before .before .pre .0) (c .before .before .loop-test .taken) _ (c .if1 .taken)
+returns c =
+    let l = c .before .before .before in
+    tally-over (l .loop .inv) (l .before .pre .0) (c .before .before .loop-test .taken) _ (c .if1 .taken)
 
 add-i : tie.Need-add-i Inv-loop μ-loop
 add-i c = omega arith
@@ -36,7 +38,9 @@ loop-less : tie.Need-loop-less Inv-loop μ-loop
 loop-less c = omega arith
 
 loop-again : tie.Need-loop-again Inv-loop μ-loop
-loop-again c = tally-again (c .before .before .before .loop .inv) (c .before .before .before .before .pre .0) (c .before .before .loop-test .taken) (omega (arith, c .if1 .left, c .before .before .before .before .pre .2))
+loop-again c =
+    let l = c .before .before .before in
+    tally-again (l .loop .inv) (l .before .pre .0) (c .before .before .loop-test .taken) (omega (arith, c .if1 .left, l .before .pre .2))
 
 returns-2 : tie.Need-returns-2 Inv-loop μ-loop
 returns-2 c = tally-end (c .before .loop .inv) (c .before .before .pre .0) _ (c .loop-test .left)

@@ -22,16 +22,22 @@ element-copy-out-end : tie.Need-element-copy-out-end Inv-loop μ-loop
 element-copy-out-end c = c .loop-test .taken
 
 returns : tie.Need-returns Inv-loop μ-loop
-returns c = laying-empty (c .before .before .before .loop .inv) (c .before .before .before .before .pre .1) (c .before .before .loop-test .taken) (c .if1 .taken)
+returns c =
+    let e = c .before .before in
+    laying-empty (e .before .loop .inv) (e .before .before .pre .1) (e .loop-test .taken) (c .if1 .taken)
 
 returns-2 : tie.Need-returns-2 Inv-loop μ-loop
-returns-2 c = laying-long (c .before .before .before .before .loop .inv) (c .before .before .before .before .before .pre .1) (c .before .before .before .loop-test .taken) (c .if2 .taken)
+returns-2 c =
+    let e = c .before .before .before in
+    laying-long (e .before .loop .inv) (e .before .before .pre .1) (e .loop-test .taken) (c .if2 .taken)
 
 row-is-laid-requires : tie.Need-row-is-laid-requires Inv-loop μ-loop
 row-is-laid-requires c κs = (c .before .before .before .before .before .pre .0, c .before .if1 .left, c .if2 .left)
 
 returns-3 : tie.Need-returns-3 Inv-loop μ-loop
-returns-3 c = laying-bad (c .before .before .before .before .before .before .loop .inv) (c .before .before .before .before .before .before .before .pre .1) (c .before .before .before .before .before .loop-test .taken) _ (c .before .row-is-laid .ensures) (not-true _ (c .if3 .taken))
+returns-3 c =
+    let e = c .before .before .before .before .before in
+    laying-bad (e .before .loop .inv) (e .before .before .pre .1) (e .loop-test .taken) _ (c .before .row-is-laid .ensures) (not-true _ (c .if3 .taken))
 
 add-i : tie.Need-add-i Inv-loop μ-loop
 add-i c = omega arith
@@ -40,7 +46,11 @@ loop-less : tie.Need-loop-less Inv-loop μ-loop
 loop-less c = omega arith
 
 loop-again : tie.Need-loop-again Inv-loop μ-loop
-loop-again c = laying-again (c .before .before .before .before .before .before .loop .inv) (c .before .before .before .before .before .before .before .pre .1) (c .before .before .before .before .before .loop-test .taken) _ (c .before .row-is-laid .ensures) (c .before .before .before .if1 .left) (c .before .before .if2 .left) (not-false _ (c .if3 .left))
+loop-again c =
+    let i2 = c .before .before in
+    let e = i2 .before .before .before in
+    laying-again (e .before .loop .inv) (e .before .before .pre .1) (e .loop-test .taken) _
+    (c .before .row-is-laid .ensures) (i2 .before .if1 .left) (i2 .if2 .left) (not-false _ (c .if3 .left))
 
 returns-4 : tie.Need-returns-4 Inv-loop μ-loop
 returns-4 c = laying-end (c .before .loop .inv) (c .before .before .pre .1) (c .loop-test .left)

@@ -33,7 +33,10 @@ element-copy-out-if1-2 : tie.Need-element-copy-out-if1-2 Inv-loop μ-loop
 element-copy-out-if1-2 c = omega arith
 
 returns : tie.Need-returns Inv-loop μ-loop
-returns c = let s = c .before .before .before .before .before in rising-stop (c .before .before .before .before .loop .inv) (s .pre .0) (s .pre .2) (c .before .before .before .loop-test .taken) (c .if1 .taken)
+returns c =
+    let e = c .before .before .before in
+    let s = e .before .before in
+    rising-stop (e .before .loop .inv) (s .pre .0) (s .pre .2) (e .loop-test .taken) (c .if1 .taken)
 
 add-k : tie.Need-add-k Inv-loop μ-loop
 add-k c = omega arith
@@ -42,7 +45,10 @@ loop-less : tie.Need-loop-less Inv-loop μ-loop
 loop-less c = omega arith
 
 loop-again : tie.Need-loop-again Inv-loop μ-loop
-loop-again c = let s = c .before .before .before .before .before in rising-again (c .before .before .before .before .loop .inv) (s .pre .0) (s .pre .2) (c .before .before .before .loop-test .taken) (c .if1 .left)
+loop-again c =
+    let e = c .before .before .before in
+    let s = e .before .before in
+    rising-again (e .before .loop .inv) (s .pre .0) (s .pre .2) (e .loop-test .taken) (c .if1 .left)
 
 mul-result : tie.Need-mul-result Inv-loop μ-loop
 mul-result c = omega (arith, c .before .loop .inv .within)

@@ -108,7 +108,9 @@ module _ (t : ℕ) where
       ⊎-elim
       (λ w. w .3 ∙ w .2 .ensures ∙ all-cover (s .pre .1) (s .args .demand) (omega (arith, w .1 .taken)))
       (⊎-elim
-      (λ w. rest-with (s .pre .1) (s .args .demand) (between (record { before = record { before = c .before; if1 = w .0 }; if2 = w .1 })) _ (rw (w .3 .ensures) at (w .5 ∙ w .4 .ensures)))
+      (λ w.
+      let b = between (record { before = record { before = c .before; if1 = w .0 }; if2 = w .1 }) in
+      rest-with (s .pre .1) (s .args .demand) b _ (rw (w .3 .ensures) at (w .5 ∙ w .4 .ensures)))
       (λ w. w .1 ∙ none-covers (s .pre .1) (s .args .demand) (omega (arith, w .0 .left))))
       (c .if1 .came)
 
@@ -148,7 +150,8 @@ module _ (t : ℕ) where
   explore-requires-2 c κs =
       let j = joined c in
       let s = start (j .before) in
-      (omega (arith, s .pre .0, s .pre .1 .inside, within (s .pre .1)), next-ready (s .pre .1) (s .args .demand) (j .if1 .passed) (passed j) (c .before .if3 .left))
+      let r = s .pre .1 in
+      (omega (arith, s .pre .0, r .inside, within r), next-ready r (s .args .demand) (j .if1 .passed) (passed j) (c .before .if3 .left))
 
   returns-2 : lts.Need-returns-2 (called t) (at-measure t) explore.Post
   returns-2 c =

@@ -1,7 +1,7 @@
 -- `select` answers as `selectedOf`: past the first test the table is laid out, past the second the choices are few enough to search.
 use borrow.Author.Tests.{not-true, not-false}
 use borrow.Author.Needs.{needs}
-use Rattle.table.specs.Places.{Laid, Long, LaidOut, numbersFrom}
+use Rattle.table.specs.Places.{Laid, Long, numbersFrom}
 use Rattle.searching.specs.Searches.{Searchable}
 use Rattle.selection.proofs.Selecting.{Counted, not-laid, too-many, numbers-order, searchable, chosen}
 use Rattle.selection.proofs.select.Statement.{statement}
@@ -13,7 +13,10 @@ long c = search needs
 laid : (c : tie.Else1) → let t = c .before .before .before .before .before .before .args .t in Laid (t .levels) 0 (t .ends)
 laid c = c .before .is-laid .ensures .0 (not-false _ (c .if1 .left))
 
-counted : (c : tie.After-count-choices) → let s = c .before .before .before .before .before .before .before .before .args in Counted (s .t) (s .limit) (c .count-choices .result)
+counted :
+    (c : tie.After-count-choices) →
+    let s = c .before .before .before .before .before .before .before .before .args in
+    Counted (s .t) (s .limit) (c .count-choices .result)
 counted c = record {
   table = record { long = long (c .before .before .before .before); laid = laid (c .before .before) };
   capped = c .before .before .before .before .before .before .before .before .pre;
