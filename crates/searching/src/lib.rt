@@ -57,16 +57,9 @@ fn set_aside(found: Found, n: u64) -> Found
     requires { ⌜ found .covering + n ≤ 65536 ⌝ }
     ensures { λ r. ⌜ r ≡ onlyCounted n found ⌝ }
 {
-    let covering = found.covering + n;
-    let kept = found.kept;
-    let total = found.total;
-    let index = found.index;
-    Found {
-        covering,
-        kept,
-        total,
-        index,
-    }
+    let mut counted = found;
+    counted.covering = found.covering + n;
+    counted
 }
 
 // With n covering choices more, of which only the one of this total and at this place can be kept.
