@@ -6,3 +6,12 @@ pub mod Count
 pub mod Larger
 pub mod Best
 pub mod Order
+pub mod Search
+pub mod Falling
+pub mod Between
+pub mod Searched
+pub mod CoveringCount
+pub mod Through
+pub mod Numbered
+pub mod SearchedThrough
+pub mod Kept

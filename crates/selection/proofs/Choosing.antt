@@ -1,81 +1,95 @@
--- The choice at a place of the list of choices, level by level.
-use Prim.Native.Nat.{ℕ, zero, suc, _+_, _-_, _≤_, _<_}
-use mathlib.Core.Path.{_≡_, refl, sym, ap, _∙_}
+-- The choice at a place of the list of choices, level by level: the place is parted by the number of choices of the rows behind.
+use Prim.Native.Nat.{ℕ, _+_, _-_, _*_, _/_, _%_, _≤_, _<_, zero-le}
+use mathlib.Core.Path.{_≡_, sym, ap, _∙_}
 use mathlib.Core.List.{List, [], _∷_, _++_, map, append-assoc, append-nil}
 use native.Mathlib.Omega.{arith}
+use native.Mathlib.Nat.{zero-add, mod-lt, div-add-mod', div-lt-iff-lt-mul}
 use native.Mathlib.Numerals.{add-one}
-use lib.ListN.{length, take, getD, set, length-set, length-map, List·getD-append}
-use lib.Seq.{take-all, take-suc-set, getD-append-add}
-use Rattle.choices.specs.Choices.{choices, spread}
-use Rattle.selection.specs.Places.{rowsBehind, left, Place, count}
-use Rattle.selection.proofs.Counting.{count-row}
-use Rattle.selection.proofs.Places.{Inside, inside, left-none, left-used}
+use lib.ListN.{length, take, drop, getD, set, length-set}
+use lib.Seq.{take-all, take-suc-set, getD-take, getD-drop}
+use Rattle.choices.specs.Choices.{choices}
+use Rattle.choices.specs.Numbered.{count, count-row, count-some, choice-at}
+use Rattle.table.specs.Rows.{rowsIn}
+use Rattle.table.specs.Places.{startOf, rowIn, numbersFrom}
+use Rattle.table.specs.PlaceLaws.{rows-numbered, row-ends, row-length}
+use Rattle.searching.specs.Searches.{Searchable}
+use Rattle.searching.specs.Behind.{Orders}
+use Rattle.searching.specs.ByNumber.{number-is, by-number}
+use Rattle.searching.specs.InOrder.{from-cons, from-none, from-levels}
 
--- ---- by the first level of the first row
+-- the rows from row i on
+abbrev pub rowsFrom : List ℕ → List ℕ → ℕ → List (List ℕ)
+rowsFrom levels ends i = map (rowIn levels ends) (drop i (numbersFrom 0 32))
 
-front-at : (v : ℕ) (cs : List (List ℕ)) (j : ℕ) → j < length cs → getD (map (λ c. v ∷ c) cs) j [] ≡ v ∷ getD cs j []
-front-at v [] j h = absurd (omega arith)
-front-at v (c ∷ cs) zero h = refl
-front-at v (c ∷ cs) (suc j) h = front-at v cs j (omega arith)
-
-module _ (v : ℕ) (vs : List ℕ) (rows : List (List ℕ)) (j : ℕ) where
-  choice-here : j < count rows → getD (choices ((v ∷ vs) ∷ rows)) j [] ≡ v ∷ getD (choices rows) j []
-  unfolding choices spread
-  choice-here h = List·getD-append (map (λ c. v ∷ c) (choices rows)) (spread vs (choices rows)) [] j (rw length-map h) ∙ front-at v (choices rows) j h
-
-  choice-later : count rows ≤ j → getD (choices ((v ∷ vs) ∷ rows)) j [] ≡ getD (choices (vs ∷ rows)) (j - count rows) []
-  unfolding choices spread
-  choice-later h =
-      let l : length (map (λ c. v ∷ c) (choices rows)) ≡ count rows = simp length-map in
-      let e : j ≡ length (map (λ c. v ∷ c) (choices rows)) + (j - count rows) = omega arith in
-      ap (λ (m : ℕ). getD (choices ((v ∷ vs) ∷ rows)) m []) e ∙ getD-append-add (map (λ c. v ∷ c) (choices rows)) (spread vs (choices rows)) (j - count rows) []
-
--- ---- the loop before row i: the levels so far, and then the choice at `rank` of those that are left
-
-pub record Choosing (levels ends choice award : List ℕ) (rank at i : ℕ) : Type 0 where
+-- the loop before row i: the levels so far, and then the choice at `rank` of those that are left
+pub record Choosing (levels ends choice award : List ℕ) (rank i : ℕ) : Type 0 where
+  pub within : i ≤ 32
   pub long : length award ≡ 32
-  pub place : Place levels ends i at
-  pub below : rank < count (left levels ends i at)
-  pub all : choice ≡ take i award ++ getD (choices (left levels ends i at)) rank []
+  pub below : rank < count (rowsFrom levels ends i)
+  pub all : choice ≡ take i award ++ getD (choices (rowsFrom levels ends i)) rank []
 
-module _ {levels ends choice award : List ℕ} {rank at i : ℕ} (c : Choosing levels ends choice award rank at i) where
-  module _ (h : i < 32) where
-    pub choosing-inside : Inside levels ends i at
-    choosing-inside = inside (c .place) (λ e. omega arith) λ e.
-        let z : count (left levels ends i at) ≡ 0 = ap count (left-used (c .place) (λ d. omega arith) e) ∙ count-row [] (rowsBehind levels ends i) ∙ omega arith in
-        omega (arith, c .below)
+module _ {levels ends ways : List ℕ} (q : Searchable levels ends ways) where
+  pub choosing-first : (index : ℕ) (award : List ℕ) → index < count (rowsIn levels 0 ends) → length award ≡ 32 →
+      Choosing levels ends (getD (choices (rowsIn levels 0 ends)) index []) award index 0
+  choosing-first index award h l = record { within = zero-le; long = l; below = rw (rows-numbered (q .table)) at h; all = rw (rows-numbered (q .table)) }
 
-    module _ (w : ℕ) (e : w ≡ count (rowsBehind levels ends i)) where
-      pub choosing-here : rank < w → Choosing levels ends choice (set award i (getD levels at 0)) rank (getD ends i 0) (i + 1)
-      choosing-here b =
-          let p = choosing-inside in
-          let v : ℕ = getD levels at 0 in
-          let rows : List (List ℕ) = rowsBehind levels ends i in
+  orders : Orders levels ends (numbersFrom 0 32)
+  orders = by-number (q .table) (q .few)
+
+  module _ {choice award : List ℕ} {rank i : ℕ} (c : Choosing levels ends choice award rank i) where
+    pub choosing-end : 32 ≤ i → award ≡ choice
+    unfolding choices
+    choosing-end h =
+        let e : i ≡ 32 = omega (arith, c .within) in
+        let z : rowsFrom levels ends i ≡ [] = ap (rowsFrom levels ends) e ∙ from-none (q .table) orders in
+        let b : rank < 1 = rw z at (c .below) in
+        let r : rank ≡ 0 = omega arith in
+        sym (c .all ∙ rw (z, r, take-all i award (omega (arith, c .long)), append-nil))
+
+    module _ (h : i < 32) where
+      abbrev n : ℕ
+      n = getD ways i 0
+
+      abbrev row : List ℕ
+      row = rowIn levels ends i
+
+      abbrev behind : List (List ℕ)
+      behind = rowsFrom levels ends (i + 1)
+
+      n-is : n ≡ count behind
+      n-is = q .numbers i zero-le h
+
+      pub n-some : 0 < n
+      n-some = omega (arith, n-is, count-some behind (λ r m. from-levels (q .table) orders (i + 1) r m .0))
+
+      here : rowsFrom levels ends i ≡ row ∷ behind
+      here = from-cons (q .table) orders i h ∙ ap (λ (k : ℕ). rowIn levels ends k ∷ behind) (number-is 0 32 i h ∙ zero-add i)
+
+      level-inside : rank / n < length row
+      level-inside = div-lt-iff-lt-mul n-some .1 (rw n-is (omega (arith, c .below, ap count here, count-row row behind)))
+
+      pub level-there : startOf ends i + rank / n < 288
+      level-there = omega (arith, level-inside, row-length (q .table) i h, row-ends (q .table) i h)
+
+      pub choosing-again : Choosing levels ends choice (set award i (getD levels (startOf ends i + rank / n) 0)) (rank % n) (i + 1)
+      choosing-again =
+          let v : ℕ = getD levels (startOf ends i + rank / n) 0 in
+          let l : getD row (rank / n) 0 ≡ v =
+          getD-take (getD ends i 0 - startOf ends i) (drop (startOf ends i) levels) (rank / n) 0 (omega (arith, level-inside, row-length (q .table) i h))
+          ∙ getD-drop (startOf ends i) levels (rank / n) 0 in
+          let parted : rank ≡ rank / n * count behind + rank % n = rw (← n-is) (sym (div-add-mod' rank n)) in
+          let m : rank % n < count behind = omega (arith, mod-lt rank n-some, n-is) in
+          let e : getD (choices (row ∷ behind)) rank [] ≡ v ∷ getD (choices behind) (rank % n) [] =
+          ap (λ (j : ℕ). getD (choices (row ∷ behind)) j []) parted
+          ∙ choice-at row behind (rank / n) (rank % n) level-inside m
+          ∙ ap (λ (x : ℕ). x ∷ getD (choices behind) (rank % n) []) l in
           record {
+            within = omega arith;
             long = length-set award i v ∙ c .long;
-            place = p .rest;
-            below = omega arith;
+            below = m;
             all =
                 c .all
-                ∙ ap (λ (r : List (List ℕ)). take i award ++ getD (choices r) rank []) (p .here)
-                ∙ ap (λ (x : List ℕ). take i award ++ x) (choice-here v (p .others) rows rank (omega arith))
+                ∙ ap (λ (rs : List (List ℕ)). take i award ++ getD (choices rs) rank []) here
+                ∙ ap (λ (x : List ℕ). take i award ++ x) e
                 ∙ (let a : i < length award = omega (arith, c .long) in rw (add-one i, take-suc-set award i v a, append-assoc));
           }
-
-      pub choosing-later : w ≤ rank → Choosing levels ends choice award (rank - w) (at + 1) i
-      choosing-later b =
-          let p = choosing-inside in
-          record {
-            long = c .long;
-            place = p .next;
-            below = omega (arith, c .below, p .counts);
-            all = c .all ∙ ap (λ (x : List ℕ). take i award ++ x) (rw (e, p .here, p .beside) (choice-later (getD levels at 0) (p .others) (rowsBehind levels ends i) rank (omega arith)));
-          }
-
-  pub choosing-end : 32 ≤ i → award ≡ choice
-  unfolding choices
-  choosing-end h =
-      let z : left levels ends i at ≡ [] = left-none (c .place) (omega (arith, c .place .row)) in
-      let b : rank < 1 = rw z at (c .below) in
-      let r : rank ≡ 0 = omega arith in
-      sym (c .all ∙ rw (z, r, take-all i award (omega (arith, c .long)), append-nil))

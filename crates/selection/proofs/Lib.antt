@@ -1,10 +1,2 @@
-mod Places
-mod Counting
-mod Going
-mod Searching
-mod Laying
-mod Tallying
-mod Looking
 mod Choosing
-mod Finding
 mod Selecting

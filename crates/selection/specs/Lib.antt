@@ -1,3 +1,1 @@
 pub mod Selection
-pub mod Places
-pub mod Through

@@ -7,6 +7,7 @@ use lib.Dec.{leb}
 use lib.ListN.{length, replicate}
 use Rattle.numbers.specs.Lists.{total}
 use Rattle.choices.specs.Choices.{choices, covering, bestOf}
+use Rattle.choices.specs.Search.{kept}
 use Rattle.table.specs.Rows.{Lays}
 use Rattle.table.specs.declared.Table.{Table}
 use Rattle.selection.specs.declared.Selected.{Selected}
@@ -15,12 +16,19 @@ use Rattle.selection.specs.declared.Selected.{Selected}
 unfoldable pub selectedOf : ℕ → ℕ → List (List ℕ) → Selected
 selectedOf limit d rows =
     cond (leb (length (choices rows)) limit)
-    (record { number = 0; choices = length (choices rows); covering = length (covering d (choices rows)); total = total (bestOf (covering d (choices rows))); award = bestOf (covering d (choices rows)) })
-    (record { number = 10; choices = 0; covering = 0; total = 0; award = replicate 32 0 })
+    (record {
+      number = 0;
+      choices = length (choices rows);
+      covering = length (covering d (choices rows));
+      kept = kept d rows;
+      total = total (bestOf (covering d (choices rows)));
+      award = bestOf (covering d (choices rows));
+    })
+    (record { number = 10; choices = 0; covering = 0; kept = 0; total = 0; award = replicate 32 0 })
 
 -- a refusal: every other number is 0
 abbrev pub refusedBy : ℕ → Selected
-refusedBy n = record { number = n; choices = 0; covering = 0; total = 0; award = replicate 32 0 }
+refusedBy n = record { number = n; choices = 0; covering = 0; kept = 0; total = 0; award = replicate 32 0 }
 
 -- on a table that holds rows of which some choice covers
 pub record Selects (t : Table) (d limit : ℕ) (r : Selected) : Type 0 where

@@ -9,6 +9,7 @@ use lib.ListN.{length, replicate, drop}
 use borrow.Author.Tests.{eq-eqb, ne-eqb, le-leb, lt-leb}
 use Rattle.numbers.specs.Lists.{total}
 use Rattle.choices.specs.Choices.{choices, covering, bestOf}
+use Rattle.choices.specs.Search.{kept}
 use Rattle.rules.specs.Ledger.{Phase, Fresh, Ready, Round, Between, Closed, Ledger}
 use Rattle.rules.specs.Clearing.{highest, high, low, covered, demandAt, closingPrice, ofEach}
 use Rattle.rules.specs.Refusals.{isClosed}
@@ -149,12 +150,13 @@ chosen d rs = record {
   number = 0;
   choices = length (choices rs);
   covering = length (covering d (choices rs));
+  kept = kept d rs;
   total = total (bestOf (covering d (choices rs)));
   award = bestOf (covering d (choices rs));
 }
 
 abbrev overTen : Selected
-overTen = record { number = 10; choices = 0; covering = 0; total = 0; award = replicate 32 0 }
+overTen = record { number = 10; choices = 0; covering = 0; kept = 0; total = 0; award = replicate 32 0 }
 
 -- refused: by 10, and the choices outnumber the limit
 over-limit : (limit d : ℕ) (rs : List (List ℕ)) (s : Selected) → s ≡ selectedOf (min limit 65536) d rs → (s .number ≡ 0 → ⊥) → (s .number ≡ 10) × (leb (length (choices rs)) (min limit 65536) ≡ false)

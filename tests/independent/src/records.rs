@@ -5,6 +5,7 @@
 mod aimed;
 mod books;
 mod counted;
+mod crowded;
 mod damage;
 pub mod edges;
 pub mod fixed;
@@ -18,6 +19,7 @@ use crate::replay::{make, read_call, write_call, Call};
 use crate::settling::number_of_choices;
 pub use aimed::DECISIVE;
 pub use counted::{largest_book, LARGEST_BOOKS};
+pub use crowded::{easy_book, hard_book};
 pub use long::long_record;
 
 /// Makes records of one sort.

@@ -1,34 +1,27 @@
--- `choice_at` finds the choice level by level: the rank falls below the number of choices with the level at the place, or those are passed over.
-use Prim.Native.Nat.{zero-le, _+_, _-_}
-use mathlib.Core.Path.{_≡_, refl}
+-- `choice_at` parts the place row by row: the quotient by the number of choices behind is the level, the remainder the place behind.
+use Prim.Native.Nat.{_-_}
+use mathlib.Core.Path.{refl}
 use mathlib.Core.List.{[]}
 use native.Mathlib.Omega.{arith}
 use lib.ListN.{getD}
 use Rattle.choices.specs.Choices.{choices}
-use Rattle.selection.specs.Places.{rowsBehind, left, count}
-use Rattle.selection.proofs.Places.{Inside}
-use Rattle.selection.proofs.Choosing.{Choosing, choosing-inside, choosing-here, choosing-later, choosing-end}
+use Rattle.table.specs.Rows.{rowsIn}
+use Rattle.selection.proofs.Choosing.{Choosing, choosing-first, n-some, level-there, choosing-again, choosing-end}
 use Rattle.selection.proofs.choice_at.Statement.{statement}
 use Rattle.selection.proofs.choice_at.Tie as tie
 
 abbrev Inv-loop : tie.InvT-loop
-Inv-loop levels ends ways index award₀ rank₀ at₀ i₀ award rank at i = Choosing levels ends (getD (choices (left levels ends 0 0)) index []) award rank at i
+Inv-loop levels ends ways index award₀ rank₀ i₀ award rank i = Choosing levels ends (getD (choices (rowsIn levels 0 ends)) index []) award rank i
 
 abbrev μ-loop : tie.MeasureT-loop
-μ-loop levels ends ways index award₀ rank₀ at₀ i₀ award rank at i = (32 - i) + (288 - at)
+μ-loop levels ends ways index award₀ rank₀ i₀ award rank i = 32 - i
 
-known : (c : tie.In-loop Inv-loop μ-loop) → Inside (c .before .before .args .levels .now) (c .before .before .args .ends .now) (c .before .loop .i) (c .before .loop .at)
-known c = choosing-inside (c .before .loop .inv) (c .loop-test .taken)
-
-way :
-    (c : tie.In-loop Inv-loop μ-loop) →
-    let s = c .before .before .args in
-    let i = c .before .loop .i in
-    getD (s .ways .now) i 0 ≡ count (rowsBehind (s .levels .now) (s .ends .now) i)
-way c = c .before .before .pre .1 (c .before .loop .i) zero-le (c .loop-test .taken)
+-- the way back to the turn's beginning
+abbrev turn : tie.After-start-of Inv-loop μ-loop → tie.In-loop Inv-loop μ-loop
+turn c = c .before .before
 
 loop-holds : tie.Need-loop-holds Inv-loop μ-loop
-loop-holds c = record { long = refl; place = c .pre .0 .0; below = c .pre .0 .1; all = refl }
+loop-holds c = choosing-first (c .pre .0) _ _ (c .pre .1) refl
 
 mul-n : tie.Need-mul-n Inv-loop μ-loop
 mul-n c = omega arith
@@ -36,44 +29,43 @@ mul-n c = omega arith
 element-copy-out-n : tie.Need-element-copy-out-n Inv-loop μ-loop
 element-copy-out-n c = c .loop-test .taken
 
+start-of-requires : tie.Need-start-of-requires Inv-loop μ-loop
+start-of-requires c κs = c .before .before .loop .inv .within
+
+div-level : tie.Need-div-level Inv-loop μ-loop
+div-level c = let e = turn c in n-some (e .before .before .pre .0) (e .before .loop .inv) (e .loop-test .taken)
+
+add-award : tie.Need-add-award Inv-loop μ-loop
+add-award c = let e = turn c in omega (arith, c .start-of .ensures, level-there (e .before .before .pre .0) (e .before .loop .inv) (e .loop-test .taken))
+
 mul-award : tie.Need-mul-award Inv-loop μ-loop
-mul-award c = omega (arith, known (c .before .before) .below, known (c .before .before) .end)
+mul-award c = let e = turn c in omega (arith, c .start-of .ensures, level-there (e .before .before .pre .0) (e .before .loop .inv) (e .loop-test .taken))
 
 element-copy-out-award : tie.Need-element-copy-out-award Inv-loop μ-loop
-element-copy-out-award c = omega (arith, known (c .before .before) .below, known (c .before .before) .end)
+element-copy-out-award c = let e = turn c in rw (c .start-of .ensures) (level-there (e .before .before .pre .0) (e .before .loop .inv) (e .loop-test .taken))
 
 mul-award-2 : tie.Need-mul-award-2 Inv-loop μ-loop
-mul-award-2 c = omega (arith, c .before .before .before .loop-test .taken)
+mul-award-2 c = omega (arith, turn (c .before) .loop-test .taken)
 
 array-write-award : tie.Need-array-write-award Inv-loop μ-loop
-array-write-award c = c .before .before .before .loop-test .taken
+array-write-award c = turn (c .before) .loop-test .taken
 
-mul-at : tie.Need-mul-at Inv-loop μ-loop
-mul-at c = omega (arith, c .before .before .before .loop-test .taken)
-
-element-copy-out-at : tie.Need-element-copy-out-at Inv-loop μ-loop
-element-copy-out-at c = c .before .before .before .loop-test .taken
+rem-rank : tie.Need-rem-rank Inv-loop μ-loop
+rem-rank c = let e = turn (c .before) in n-some (e .before .before .pre .0) (e .before .loop .inv) (e .loop-test .taken)
 
 add-i : tie.Need-add-i Inv-loop μ-loop
-add-i c = omega (arith, c .before .before .before .before .loop-test .taken)
+add-i c = omega (arith, turn (c .before) .loop-test .taken)
 
 loop-less : tie.Need-loop-less Inv-loop μ-loop
-loop-less c = omega (arith, known (c .before .before .before .before) .below, known (c .before .before .before .before) .end, known (c .before .before .before .before) .row)
+loop-less c = omega (arith, turn (c .before) .loop-test .taken)
 
 loop-again : tie.Need-loop-again Inv-loop μ-loop
-loop-again c = choosing-here (c .before .before .before .before .before .loop .inv) (c .before .before .before .before .loop-test .taken) _ (way (c .before .before .before .before)) (c .before .before .if1 .taken)
-
-add-at : tie.Need-add-at Inv-loop μ-loop
-add-at c = omega (arith, known (c .before .before) .below, known (c .before .before) .end)
-
-loop-less-2 : tie.Need-loop-less-2 Inv-loop μ-loop
-loop-less-2 c = omega (arith, known (c .before .before) .below, known (c .before .before) .end)
-
-loop-again-2 : tie.Need-loop-again-2 Inv-loop μ-loop
-loop-again-2 c = choosing-later (c .before .before .before .loop .inv) (c .before .before .loop-test .taken) _ (way (c .before .before)) (c .if1 .left)
+loop-again c =
+    let e = turn (c .before) in
+    rw (c .before .start-of .ensures) (choosing-again (e .before .before .pre .0) (e .before .loop .inv) (e .loop-test .taken))
 
 returns : tie.Need-returns Inv-loop μ-loop
-returns c = choosing-end (c .before .loop .inv) (c .loop-test .left)
+returns c = choosing-end (c .before .before .pre .0) (c .before .loop .inv) (c .loop-test .left)
 
 pub choice-at-spec : {M : Type 1} → statement M
 choice-at-spec =
@@ -84,16 +76,15 @@ choice-at-spec =
     loop-holds
     mul-n
     element-copy-out-n
+    start-of-requires
+    div-level
+    add-award
     mul-award
     element-copy-out-award
     mul-award-2
     array-write-award
-    mul-at
-    element-copy-out-at
+    rem-rank
     add-i
     loop-less
     loop-again
-    add-at
-    loop-less-2
-    loop-again-2
     returns)

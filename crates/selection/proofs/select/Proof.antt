@@ -1,8 +1,9 @@
--- `select` answers as `selectedOf`: past the first test the table is laid out, past the second the choices are few enough to go through.
+-- `select` answers as `selectedOf`: past the first test the table is laid out, past the second the choices are few enough to search.
 use borrow.Author.Tests.{not-true, not-false}
-use Rattle.selection.specs.Places.{Laid, Long}
-use Rattle.selection.proofs.Selecting.{Counted, not-laid, too-many, first-place, ready, in-list, chosen}
 use borrow.Author.Needs.{needs}
+use Rattle.table.specs.Places.{Laid, Long, numbersFrom}
+use Rattle.searching.specs.Searches.{Searchable}
+use Rattle.selection.proofs.Selecting.{Counted, not-laid, too-many, numbers-order, searchable, chosen}
 use Rattle.selection.proofs.select.Statement.{statement}
 use Rattle.selection.proofs.select.Tie as tie
 
@@ -12,19 +13,24 @@ long c = search needs
 laid : (c : tie.Else1) → let t = c .before .before .before .before .before .before .args .t in Laid (t .levels) 0 (t .ends)
 laid c = c .before .is-laid .ensures .0 (not-false _ (c .if1 .left))
 
-counted : (c : tie.After-count-choices) → let s = c .before .before .before .before .before .before .before .before .args in Counted (s .t) (s .limit) (c .count-choices .result)
+counted :
+    (c : tie.After-count-choices) →
+    let s = c .before .before .before .before .before .before .before .before .args in
+    Counted (s .t) (s .limit) (c .count-choices .result)
 counted c = record {
-  long = long (c .before .before .before .before);
-  laid = laid (c .before .before);
+  table = record { long = long (c .before .before .before .before); laid = laid (c .before .before) };
   capped = c .before .before .before .before .before .before .before .before .pre;
   counts = c .count-choices .ensures;
 }
 
--- the ways back: from the call of `explore` to that of `look_behind`, and to the test of the count
-abbrev looked : tie.After-highs2 → tie.After-look-behind
-looked c = c .before .before .before .before .before .before .before .before
+-- the ways back: from the calls of `find` and of `choice_at` to that of `look_behind`, and from there to the test of the count
+abbrev looked : tie.After-strides2 → tie.After-look-behind
+looked c = c .before .before .before .before
 
-abbrev few : tie.After-look-behind → tie.Else2
+abbrev found : tie.After-strides3 → tie.After-find
+found c = c .before .before .before
+
+abbrev few : tie.After-numbers → tie.Else2
 few c = c .before .before .before
 
 is-laid-requires : tie.Need-is-laid-requires
@@ -46,26 +52,27 @@ returns-2 : tie.Need-returns-2
 returns-2 c = rw (c .refused2 .ensures) (too-many (counted (c .before .before)) (c .before .if2 .taken))
 
 look-behind-requires : tie.Need-look-behind-requires
-look-behind-requires c κs = let k = counted (c .before .before .before) in (first-place k (c .before .before .if2 .left), k .laid .0)
+unfolding numbersFrom
+look-behind-requires c κs = let k = counted (few c .before) in (k .table, numbers-order k (few c .if2 .left))
 
-explore-requires : tie.Need-explore-requires
-explore-requires c κs =
-    let l = looked c in
-    ready (counted (few l .before)) (few l .if2 .left) (l .look-behind .ensures)
+-- the strides number the choices as they are listed
+strides : (c : tie.After-look-behind) →
+    let s = few (c .before) .before .before .before .before .before .before .before .before .before .args .t in
+    Searchable (s .levels) (s .ends) (c .look-behind .result .ways)
+unfolding numbersFrom
+strides c = searchable (counted (few (c .before) .before)) (few (c .before) .if2 .left) _ (c .look-behind .ensures .ways-are)
+
+find-requires : tie.Need-find-requires
+find-requires c κs = strides (looked c)
 
 choice-at-requires : tie.Need-choice-at-requires
-choice-at-requires c κs =
-    let x = c .before .before .before in
-    let l = looked (x .before) in
-    let k = counted (few l .before) in
-    let h = few l .if2 .left in
-    ((first-place k h, in-list k h _ (x .explore .ensures)), l .look-behind .ensures .ways-are)
+choice-at-requires c κs = (strides (looked (found c .before)), found c .find .ensures .placed)
 
 returns-3 : tie.Need-returns-3
 returns-3 c =
-    let x = c .before .before .before .before in
-    let l = looked (x .before) in
-    chosen (counted (few l .before)) (few l .if2 .left) _ (x .explore .ensures) (c .choice-at .ensures)
+    let f = found (c .before) in
+    let e = few (looked (f .before) .before) in
+    chosen (counted (e .before)) (e .if2 .left) _ (f .find .ensures) (c .choice-at .ensures)
 
 pub select-spec : {M : Type 1} → statement M
 select-spec =
@@ -78,6 +85,6 @@ select-spec =
     refused-requires-2
     returns-2
     look-behind-requires
-    explore-requires
+    find-requires
     choice-at-requires
     returns-3)

@@ -5,7 +5,7 @@
 #[path = "../engine.rs"]
 mod engine;
 
-use independent::records::{largest_book, long_record, LARGEST_BOOKS};
+use independent::records::{easy_book, hard_book, largest_book, long_record, LARGEST_BOOKS};
 use independent::replay::{replay, replay_into};
 use independent::sample;
 use std::hint::black_box;
@@ -27,6 +27,8 @@ fn main() {
     compare("64 KiB of small calls", &small_calls, 1);
     let book = largest_book(0, LARGEST_BOOKS[0]);
     compare("65,536 choices in 32 projects", &book, 1);
+    compare("65,536 choices, lows nearly cover", &easy_book(), 1);
+    compare("65,536 choices, largest projects last", &hard_book(), 1);
 }
 
 /// Times so many replays of the record into either buffer.

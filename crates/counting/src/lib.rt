@@ -1,0 +1,66 @@
+// Whether a table holds 32 rows of open levels, and how many choices of one level from each it has.
+ghost use mathlib.Core.Path.{_≡_};
+ghost use Prim.Native.Nat.{_≤_, _<_};
+ghost use lib.ListN.{length};
+ghost use Rattle.table.specs.Rows.{EndsRise};
+ghost use Rattle.table.specs.Places.{part, RowLaid, Laid, Long};
+ghost use Rattle.counting.specs.Counted.{Tells, CountedTo};
+
+// Whether the levels from `at` to below `end` rise strictly, none above 10^9.
+fn row_is_laid(levels: &[u32; 288], at: usize, end: usize) -> bool
+    requires { ⌜ (length (now levels) ≡ 288) × (at < end) × (end ≤ 288) ⌝ }
+    ensures { λ r. ⌜ Tells r (RowLaid (part (now (levels .entry)) at end)) ⌝ }
+{
+    let mut k = at;
+    while k + 1 < end {
+        if levels[k + 1] <= levels[k] {
+            return false;
+        }
+        k += 1;
+    }
+    levels[k] <= 1_000_000_000
+}
+
+// Whether the table holds 32 rows, none empty, each as above.
+pub fn is_laid(levels: &[u32; 288], ends: &[usize; 32]) -> bool
+    requires { ⌜ Long (now levels) (now ends) ⌝ }
+    ensures { λ r. ⌜ Tells r (Laid (now (levels .entry)) 0 (now (ends .entry))) ⌝ }
+{
+    let mut at: usize = 0;
+    let mut i: usize = 0;
+    while i < 32 {
+        let end = ends[i];
+        if end <= at {
+            return false;
+        }
+        if 288 < end {
+            return false;
+        }
+        if !row_is_laid(levels, at, end) {
+            return false;
+        }
+        at = end;
+        i += 1;
+    }
+    true
+}
+
+// The number of choices, counted against the limit: where there are more, some number above it.
+pub fn count_choices(ends: &[usize; 32], limit: u64) -> u64
+    requires { ⌜ (length (now ends) ≡ 32) × EndsRise 0 (now ends) 288 × (limit ≤ 65536) ⌝ }
+    ensures { λ r. ⌜ CountedTo limit (now (ends .entry)) r ⌝ }
+{
+    let mut n: u64 = 1;
+    let mut at: usize = 0;
+    let mut i: usize = 0;
+    while i < 32 {
+        let end = ends[i];
+        n = n * ((end - at) as u64);
+        if limit < n {
+            return n;
+        }
+        at = end;
+        i += 1;
+    }
+    n
+}

@@ -1,0 +1,5 @@
+mod Looking
+mod Tallying
+mod Exploring
+mod Orders
+mod Finding

@@ -1,0 +1,151 @@
+-- Laws of the tally: what a part of which no choice covers leaves, and what a part of which all cover.
+use Prim.Native.Nat.{ℕ, max, _+_, _≤_, _<_}
+use mathlib.Core.Path.{_≡_, refl, ap, _∙_}
+use mathlib.Core.Bool.{Bool, true, false, cond}
+use mathlib.Core.Logic.{_⊎_, inl, inr, ⊎-elim}
+use mathlib.Core.List.{List, [], _∷_, map, List·Memᴰ·head, List·Memᴰ·tail, List·Memᴰ·cases-cons}
+use native.Mathlib.Omega.{arith}
+use native.Mathlib.Nat.{add-zero, zero-add, add-assoc, suc-mul, one-mul}
+use lib.Dec.{leb, ltb, eqb}
+use lib.ListN.{length}
+use borrow.Author.Tests.{le-leb, lt-leb, lt-ltb, le-ltb, eq-eqb, ne-eqb}
+use Rattle.numbers.specs.Cases.{le-or-lt, three-way}
+use Rattle.numbers.specs.Lists.{total}
+use Rattle.numbers.specs.ListLaws.{Each}
+use Rattle.choices.specs.Choices.{choices}
+use Rattle.choices.specs.Search.{lowest, highest}
+use Rattle.choices.specs.Pairwise.{StrictlyRising}
+use Rattle.choices.specs.CoveringCount.{coveringFrom, covering-all}
+use Rattle.choices.specs.Kept.{Levels}
+use Rattle.choices.specs.Numbered.{count, count-row}
+use Rattle.choices.specs.Through.{Strided, rowOf, eachLevel, through, Among, through-relates, through-keeps, among-between}
+use Rattle.choices.specs.SearchedThrough.{counted, through-counted}
+use Rattle.searching.specs.declared.Found.{Found}
+use Rattle.searching.specs.Going.{onlyCounted, more, offered}
+
+-- the best of n choices is kept, at the place j
+abbrev pub keeping : ℕ → ℕ → ℕ → Found → Found
+keeping n t j f = record { covering = f .covering + n; kept = f .kept + 1; total = t; index = j }
+
+module _ (n t i : ℕ) (f : Found) where
+  pub more-above : f .total < t → more n t i f ≡ onlyCounted n f
+  unfolding more
+  more-above h = rw (lt-ltb (f .total) t h)
+
+  pub more-below : t < f .total → more n t i f ≡ keeping n t i f
+  unfolding more
+  more-below h = rw (le-ltb (f .total) t (omega arith), ne-eqb t (f .total) (λ e. omega arith))
+
+  -- at an equal total the later place is better
+  pub more-later : t ≡ f .total → f .index ≤ i → more n t i f ≡ keeping n t i f
+  unfolding more
+  more-later h k = let m : max i (f .index) ≡ i = omega arith in rw (le-ltb (f .total) t (omega arith), eq-eqb t (f .total) h, m)
+
+  pub more-earlier : t ≡ f .total → i < f .index → more n t i f ≡ keeping n t (f .index) f
+  unfolding more
+  more-earlier h k = let m : max i (f .index) ≡ f .index = omega arith in rw (le-ltb (f .total) t (omega arith), eq-eqb t (f .total) h, m)
+
+  -- what holds in each case: above the best, or not, with the place that is kept
+  abbrev KeptPlace : ℕ → Type 0
+  KeptPlace j = ((t < f .total) × (j ≡ i)) ⊎ ((t ≡ f .total) × (j ≡ max i (f .index)))
+
+  pub more-case : (P : Found → Type 0) → (f .total < t → P (onlyCounted n f)) → ((j : ℕ) → KeptPlace j → P (keeping n t j f)) → P (more n t i f)
+  more-case P above best =
+      ⊎-elim
+      (λ e. ⊎-elim
+      (λ k. rw (more-later e k) (best i (inr (e, omega arith))))
+      (λ k. rw (more-earlier e k) (best (f .index) (inr (e, omega arith))))
+      (le-or-lt (f .index) i))
+      (⊎-elim (λ h. rw (more-below h) (best i (inl (h, refl)))) (λ h. rw (more-above h) (above h)))
+      (three-way t (f .total))
+
+  more-counted : (m : ℕ) → onlyCounted m (more n t i f) ≡ more (n + m) t i f
+  unfolding more
+  more-counted m = go (ltb (f .total) t)
+    where
+      e : f .covering + n + m ≡ f .covering + (n + m)
+      e = omega arith
+
+      j : ℕ
+      j = cond (eqb t (f .total)) (max i (f .index)) i
+
+      go : (b : Bool) → onlyCounted m (cond b (onlyCounted n f) (keeping n t j f)) ≡ cond b (onlyCounted (n + m) f) (keeping (n + m) t j f)
+      go true = rw e
+      go false = rw e
+
+-- ---- parts of which no choice covers, or all do
+
+module _ (d : ℕ) (rs : List Strided) (t i : ℕ) (f : Found) (rise : Each StrictlyRising (map rowOf rs)) where
+  pub through-none : t + highest (map rowOf rs) < d → through (offered d) rs t i f ≡ f
+  through-none h = through-keeps (λ x. x ≡ f) (offered d) rs t i step f refl
+    where
+      step : (u j : ℕ) → Among rs t i u j → (x : Found) → x ≡ f → offered d u j x ≡ f
+      step u j a x e = rw (lt-leb d u (omega (arith, among-between rs t i u j rise a .1))) e
+
+  -- all cover and are above the best
+  through-above : d ≤ t + lowest (map rowOf rs) → f .total < t + lowest (map rowOf rs) → through (offered d) rs t i f ≡ onlyCounted (count (map rowOf rs)) f
+  through-above h k =
+      through-relates (λ x n. x ≡ onlyCounted n f) (offered d) (counted d) rs t i step f 0 (rw (add-zero (f .covering)))
+      ∙ ap (λ n. onlyCounted n f) (through-counted d rs t i 0 ∙ zero-add (coveringFrom d (map rowOf rs) t) ∙ covering-all d (map rowOf rs) t rise h)
+    where
+      step : (u j : ℕ) → Among rs t i u j → (x : Found) (n : ℕ) → x ≡ onlyCounted n f → offered d u j x ≡ onlyCounted (counted d u j n) f
+      step u j a x n e =
+          let b = among-between rs t i u j rise a .0 in
+          let c : f .covering + n + 1 ≡ f .covering + (n + 1) = omega arith in
+          rw (e, le-leb d u (omega arith)) (more-above 1 u j (onlyCounted n f) (omega arith) ∙ rw c)
+
+more-total : (n t i : ℕ) (f : Found) → more n t i f .total ≤ t
+more-total n t i f = more-case n t i f (λ x. x .total ≤ t) (λ h. omega arith) (λ j k. omega arith)
+
+-- by the first level of the first row
+pub count-cons : (v : ℕ) (vs : List ℕ) (rows : List (List ℕ)) → count ((v ∷ vs) ∷ rows) ≡ count rows + count (vs ∷ rows)
+count-cons v vs rows = count-row (v ∷ vs) rows ∙ omega (arith, count-row vs rows, suc-mul (length vs) (count rows))
+
+-- all cover: the lows are the best of them, the others are above the lows
+pub through-all : (d : ℕ) (rs : List Strided) (t i : ℕ) (f : Found) → Each Levels (map rowOf rs) → d ≤ t + lowest (map rowOf rs) →
+    through (offered d) rs t i f ≡ more (count (map rowOf rs)) (t + lowest (map rowOf rs)) i f
+unfolding through eachLevel choices lowest total
+through-all d [] t i f levels h = rw (add-zero t, le-leb d t (omega arith))
+through-all d ((s, []) ∷ rs) t i f levels h = absurd (omega (arith, levels [] (List·Memᴰ·head refl) .0))
+through-all d ((s, (v ∷ [])) ∷ rs) t i f levels h =
+    let rows : List (List ℕ) = map rowOf rs in
+    let c : count ((v ∷ []) ∷ rows) ≡ count rows = count-row (v ∷ []) rows ∙ one-mul (count rows) in
+    through-all d rs (t + v) i f (λ r m. levels r (List·Memᴰ·tail m)) (omega arith) ∙ rw (c, add-assoc t v (lowest rows))
+through-all d ((s, (v ∷ w ∷ vs)) ∷ rs) t i f levels h =
+    let rows : List (List ℕ) = map rowOf rs in
+    let first : ℕ = t + v + lowest rows in
+    let g : Found = more (count rows) first i f in
+    let r = levels (v ∷ w ∷ vs) (List·Memᴰ·head refl) .1 in
+    let above : v < w = r .0 w (List·Memᴰ·head refl) in
+    let rise : Each StrictlyRising ((w ∷ vs) ∷ rows) = λ row m. ⊎-elim (λ e. rw e (r .1)) (λ k. levels row (List·Memᴰ·tail k) .1) (List·Memᴰ·cases-cons m) in
+    let low : first < t + lowest ((w ∷ vs) ∷ rows) = omega arith in
+    ap (λ (x : Found). through (offered d) ((s, (w ∷ vs)) ∷ rs) t (i + s) x) (through-all d rs (t + v) i f (λ r m. levels r (List·Memᴰ·tail m)) (omega arith))
+    ∙ through-above d ((s, (w ∷ vs)) ∷ rs) t (i + s) g rise (omega arith) (omega (arith, more-total (count rows) first i f))
+    ∙ more-counted (count rows) first i f (count ((w ∷ vs) ∷ rows))
+    ∙ rw (count-cons v (w ∷ vs) rows, add-assoc t v (lowest rows))
+
+-- ---- what every way through keeps
+
+pub through-covers : (d : ℕ) (rs : List Strided) (t i : ℕ) (f : Found) →
+    through (offered d) rs t i f .covering ≡ f .covering + coveringFrom d (map rowOf rs) t
+through-covers d rs t i f =
+    through-relates (λ x n. x .covering ≡ n) (offered d) (counted d) rs t i step f (f .covering) refl
+    ∙ through-counted d rs t i (f .covering)
+  where
+    step : (u j : ℕ) → Among rs t i u j → (x : Found) (n : ℕ) → x .covering ≡ n → offered d u j x .covering ≡ counted d u j n
+    step u j a x n e = go (leb d u)
+      where
+        go : (b : Bool) → cond b (more 1 u j x) x .covering ≡ n + cond b 1 0
+        go true = more-case 1 u j x (λ y. y .covering ≡ n + 1) (λ h. omega arith) (λ k h. omega arith)
+        go false = omega arith
+
+pub through-fewer : (d : ℕ) (rs : List Strided) (t i : ℕ) (f : Found) → f .kept ≤ f .covering →
+    through (offered d) rs t i f .kept ≤ through (offered d) rs t i f .covering
+through-fewer d rs t i f = through-keeps (λ x. x .kept ≤ x .covering) (offered d) rs t i step f
+  where
+    step : (u j : ℕ) → Among rs t i u j → (x : Found) → x .kept ≤ x .covering → offered d u j x .kept ≤ offered d u j x .covering
+    step u j a x e = go (leb d u)
+      where
+        go : (b : Bool) → cond b (more 1 u j x) x .kept ≤ cond b (more 1 u j x) x .covering
+        go true = more-case 1 u j x (λ y. y .kept ≤ y .covering) (λ h. omega arith) (λ k h. omega arith)
+        go false = e

@@ -1,0 +1,5 @@
+pub mod Behind
+pub mod InOrder
+pub mod ByNumber
+pub mod Going
+pub mod Searches

@@ -1,0 +1,41 @@
+-- Tables that are laid out, and their rows by number.
+use Prim.Native.Nat.{ℕ, zero, suc, _-_, _≤_}
+use mathlib.Core.Path.{_≡_}
+use mathlib.Core.List.{List, [], _∷_}
+use lib.ListN.{length, take, drop, getD}
+use Rattle.numbers.specs.ListLaws.{Each}
+use Rattle.choices.specs.Pairwise.{StrictlyRising}
+use Rattle.table.specs.Rows.{rowsIn, EndsRise}
+
+-- the levels from `at` to below e
+abbrev pub part : List ℕ → ℕ → ℕ → List ℕ
+part levels at e = take (e - at) (drop at levels)
+
+abbrev pub RowLaid : List ℕ → Type 0
+RowLaid row = StrictlyRising row × Each (λ v. v ≤ 1000000000) row
+
+-- the rows from `at` on are laid out as `Lays` says
+abbrev pub Laid : List ℕ → ℕ → List ℕ → Type 0
+Laid levels at ends = EndsRise at ends 288 × Each RowLaid (rowsIn levels at ends)
+
+abbrev pub Long : List ℕ → List ℕ → Type 0
+Long levels ends = (length levels ≡ 288) × (length ends ≡ 32)
+
+-- levels and ends of a table that is laid out
+pub record LaidOut (levels ends : List ℕ) : Type 0 where
+  pub long : Long levels ends
+  pub laid : Laid levels 0 ends
+
+-- ---- by number, from 0 on
+
+-- where row k starts, and row k
+abbrev pub startOf : List ℕ → ℕ → ℕ
+startOf ends k = getD (0 ∷ ends) k 0
+
+abbrev pub rowIn : List ℕ → List ℕ → ℕ → List ℕ
+rowIn levels ends k = part levels (startOf ends k) (getD ends k 0)
+
+-- n numbers, from k on
+unfoldable pub numbersFrom : ℕ → ℕ → List ℕ
+numbersFrom k zero = []
+numbersFrom k (suc n) = k ∷ numbersFrom (suc k) n
