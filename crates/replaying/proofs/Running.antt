@@ -8,20 +8,21 @@ use borrow.Author.Tests.{le-leb, lt-leb}
 use borrow.Rule.Slice.PartMut.{putMid, midOf}
 use lib.Dec.{leb}
 use lib.ListN.{length, take, drop, length-append, length-take, length-drop}
+use Rattle.format.specs.Hex.{charOf, digits}
 use Rattle.format.specs.Lines.{lines, part, lineStart, lineEnd}
 use Rattle.format.specs.LineLaws.{line-inside, next-line, no-line}
-use Rattle.numbers.specs.Tails.{laid, length-laid, tail-is, Filled, filled-more, filled-all}
+use Rattle.numbers.specs.Tails.{laid, grow, length-laid, tail-is, Filled, filled-more, filled-all}
 use Rattle.rules.specs.Ledger.{Call, Ledger}
 use Rattle.rules.specs.Rounds.{stepAll, ledger}
 use Rattle.reachable.specs.Steps.{ledger-snoc}
 use Rattle.replies.specs.Orders.{Order, Malformed, Asks, Settle, orderIn}
-use Rattle.replies.specs.Replies.{after, repliesFrom, replies}
+use Rattle.replies.specs.Replies.{answerLine, after, repliesFrom, replies}
 use Rattle.auction.specs.Holds.{auctionOf}
 use Rattle.auction.specs.declared.Auction.{Auction}
 use Rattle.reply_text.specs.Texts.{textOf}
 use Rattle.turns.specs.Turns.{asked, Takes}
 use Rattle.turns.specs.declared.Turn.{Turn}
-use Rattle.replaying.specs.Replayed.{over, hosted}
+use Rattle.replaying.specs.Replayed.{over, hosted, printed}
 
 -- the calls that an order asks give the ledger after it
 after-asked : (cs : List Call) (o : Order) → ledger (cs ++ asked o) ≡ after (ledger cs) o
@@ -157,3 +158,29 @@ module _ (t o : List ℕ) (b : Bool) (e : b ≡ leb (length t) (length o)) where
   pub fit-no : b ≡ false → (18446744073709551605 ≡ hosted t o) × (o ≡ over t o)
   unfolding hosted over
   fit-no h = let g : leb (length t) (length o) ≡ false = sym e ∙ h in (rw g, rw g)
+
+-- ---- the program
+
+-- FF0B and 0A, one behind the other
+pub refusal-laid : (o xs ys : List ℕ) → xs ≡ laid (digits 4 65291) o → ys ≡ laid (10 ∷ []) (midOf 4 (length xs - 4) xs)
+    → (5 ≡ length (answerLine 255 11 [])) × (putMid 4 (length xs - 4) xs ys ≡ laid (answerLine 255 11 []) o)
+unfolding digits charOf answerLine
+refusal-laid o xs ys e f = (refl, grow (digits 4 65291) (10 ∷ []) o xs ys 4 e refl f)
+
+module _ (s : List ℕ) where
+  pub print-long : 65536 < length s → printed s ≡ answerLine 255 11 []
+  unfolding printed
+  print-long h = rw (lt-leb (length s) 65536 h)
+
+  module _ (b : Bool) (h : length s ≤ 65536) (e : b ≡ leb (length (replies s)) 65536) where
+    pub print-replies : b ≡ true → printed s ≡ replies s
+    unfolding printed
+    print-replies y = let g : leb (length (replies s)) 65536 ≡ true = sym e ∙ y in rw (le-leb (length s) 65536 h, g)
+
+    pub print-over : b ≡ false → printed s ≡ answerLine 255 11 []
+    unfolding printed
+    print-over y = let g : leb (length (replies s)) 65536 ≡ false = sym e ∙ y in rw (le-leb (length s) 65536 h, g)
+
+  -- the text was written
+  pub prints : (t o out : List ℕ) (n : ℕ) → printed s ≡ t → (n ≡ length t) × (out ≡ laid t o) → (n ≡ length (printed s)) × (out ≡ laid (printed s) o)
+  prints t o out n e w = rw e w

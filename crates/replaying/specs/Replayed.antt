@@ -1,10 +1,11 @@
--- A text in a lent buffer, and the number that a host is given for it (document 01, Frames).
+-- A text in a lent buffer, the number that a host is given for it, and what the program prints (document 01, Frames).
 use Prim.Native.Nat.{ℕ, _-_, _^_}
-use mathlib.Core.Bool.{cond}
-use mathlib.Core.List.{List}
+use mathlib.Core.Bool.{cond, _&&_}
+use mathlib.Core.List.{List, []}
 use lib.Dec.{leb}
 use lib.ListN.{length}
 use Rattle.numbers.specs.Tails.{laid}
+use Rattle.replies.specs.Replies.{answerLine, replies}
 
 -- the text over the buffer's start where it fits, else the buffer as it was
 unfoldable pub over : List ℕ → List ℕ → List ℕ
@@ -13,3 +14,11 @@ over t o = cond (leb (length t) (length o)) (laid t o) o
 -- how many bytes were written; 2^64 less the refusal 11 where the buffer is too short
 unfoldable pub hosted : List ℕ → List ℕ → ℕ
 hosted t o = cond (leb (length t) (length o)) (length t) (2 ^ 64 - 11)
+
+-- the most bytes that the program reads, and its reply buffer's
+abbrev pub longest : ℕ
+longest = 65536
+
+-- what the program prints: the replies; FF0B and 0A alone if the record is longer than what it reads, or its replies than their buffer
+unfoldable pub printed : List ℕ → List ℕ
+printed s = cond (leb (length s) longest && leb (length (replies s)) longest) (replies s) (answerLine 255 11 [])

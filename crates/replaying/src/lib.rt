@@ -1,19 +1,23 @@
 // A record replayed from a fresh auction into a lent buffer (document 01, Frames): first whether the replies fit, then the replies, each into
 // the tail that is left. Nothing is written unless all fits.
 ghost use mathlib.Core.Path.{_≡_};
+ghost use mathlib.Core.List.{[]};
 ghost use Prim.Native.Nat.{_≤_};
 ghost use lib.Dec.{leb};
 ghost use lib.ListN.{length};
 ghost use Rattle.numbers.specs.Tails.{laid};
 ghost use Rattle.replies.specs.Orders.{orderIn};
-ghost use Rattle.replies.specs.Replies.{replies};
+ghost use Rattle.replies.specs.Replies.{answerLine, replies};
 ghost use Rattle.turns.specs.Turns.{Takes};
-ghost use Rattle.replaying.specs.Replayed.{hosted, over};
+ghost use Rattle.replaying.specs.Replayed.{hosted, over, printed};
 use auction::Auction;
 use turns::Turn;
 
 // What a host gets for refusal 11: 2^64 less 11.
 const REFUSAL_11: u64 = 0xffff_ffff_ffff_fff5;
+
+// The most bytes of a record, and of its replies, in the program.
+const LONGEST: usize = 65_536;
 
 // The next auction and the reply to a line.
 fn step(auction: Auction, line: &[u8]) -> Turn
@@ -84,4 +88,29 @@ pub fn replay(bytes: &[u8], out: &mut [u8]) -> u64
         return write(bytes, out) as u64;
     }
     REFUSAL_11
+}
+
+// Writes FF0B and 0A, and gives their number of bytes.
+fn put_refusal(out: &mut [u8]) -> usize
+    requires { ⌜ 5 ≤ length (now out) ⌝ }
+    ensures { λ r. ⌜ (r ≡ length (answerLine 255 11 [])) × (now (out .exit) ≡ laid (answerLine 255 11 []) (now (out .entry))) ⌝ }
+{
+    frames::put_hex(out, 0xFF0B, 4);
+    frames::put_byte(&mut out[4..], 10);
+    5
+}
+
+// Writes what the program prints for a record, and gives its number of bytes.
+pub fn print(bytes: &[u8], out: &mut [u8]) -> usize
+    requires { ⌜ 65536 ≤ length (now out) ⌝ }
+    ensures { λ r. ⌜ r ≡ length (printed (now (bytes .entry))) ⌝ }
+    ensures { λ _. ⌜ now (out .exit) ≡ laid (printed (now (bytes .entry))) (now (out .entry)) ⌝ }
+{
+    if LONGEST < bytes.len() {
+        return put_refusal(out);
+    }
+    if fits(bytes, LONGEST) {
+        return write(bytes, out);
+    }
+    put_refusal(out)
 }
