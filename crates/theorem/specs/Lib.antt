@@ -7,3 +7,5 @@ pub mod StatedLaws
 pub mod Determined
 pub mod Untouched
 pub mod Settling
+pub mod Figures
+pub mod Readable

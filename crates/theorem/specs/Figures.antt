@@ -1,0 +1,176 @@
+-- How large the figures of a reply are, of a sound ledger: a closing's excess, and a settling's price, demand, total, counts and award records.
+use Prim.Native.Nat.{ℕ, suc, min, _+_, _-_, _*_, _^_, _≤_, _<_}
+use mathlib.Core.Path.{_≡_, refl, sym, ap, subst, _∙_}
+use mathlib.Core.Logic.{⊎-elim}
+use mathlib.Core.Bool.{Bool, true, false, cond}
+use mathlib.Core.List.{List, [], _∷_, map, List·Memᴰ, List·Memᴰ·not-nil, List·Memᴰ·cases-cons}
+use native.Mathlib.Omega.{arith}
+use lib.Dec.{leb, ltb, eqb}
+use lib.IntN.{pos, negsuc, _-ℤ_}
+use lib.ListN.{length, getD, length-map}
+use borrow.Author.Tests.{leb-true, ltb-true, eqb-false}
+use Rattle.numbers.specs.Lists.{oneTo, total}
+use Rattle.numbers.specs.Least.{Least}
+use Rattle.numbers.specs.ListLaws.{Each, in-keep, in-one-to, length-one-to, total-map-bound}
+use Rattle.curve.specs.Demand.{InRange}
+use Rattle.curve.specs.Range.{dem-range}
+use Rattle.curve.specs.Signs.{minus}
+use Rattle.choices.specs.Count.{choice-length}
+use Rattle.rules.specs.Ledger.{Developer, Close, Ledger}
+use Rattle.rules.specs.Clearing.{high, developersOf, greatestOf, supply, demandAt, covered, closingPrice}
+use Rattle.rules.specs.Refusals.{check, isClosed, number}
+use Rattle.rules.specs.Rounds.{accepted, supplyAfter, excess}
+use Rattle.rules.specs.RoundLaws.{supply-after-closing}
+use Rattle.rules.specs.CheckLaws.{declared-or-zero, level-in-bounds}
+use Rattle.rules.specs.Award.{openTo, rows, admissible, coveringChoices, award, winner}
+use Rattle.rules.specs.Settling.{recordOf, recordsFrom, records, settlingNumber}
+use Rattle.sound.specs.Sound.{started, Sound}
+use Rattle.clearing.specs.Supply.{greatest-of-bound, high-small}
+use Rattle.clearing.specs.ClosingPrice.{closed-started, settings-facts, passed-in-range, closing-price}
+use Rattle.reachable.specs.Bounds.{quantity-declared}
+use Rattle.reachable.specs.Checks.{close-passed}
+use Rattle.reachable.specs.Closing.{sound-close}
+use Rattle.awards.specs.OpenLevels.{open-le-high}
+use Rattle.awards.specs.AwardLaws.{highs-admissible, award-is, counts}
+use Rattle.awards.specs.Winners.{winner-open, awarded-open}
+use Rattle.replies.specs.Replies.{twosComplement}
+
+-- ---- supply: 32 projects, each at 10^9 at most
+
+supply-small : (f : Developer → ℕ) (l : Ledger) → ((n : ℕ) → f (l .developers n) ≤ 1000000000) → supply f l ≤ 32000000000
+unfolding supply
+supply-small f l h = rw (length-one-to 32) at (total-map-bound (greatestOf f l) 1000000000 (oneTo 32) (λ k m. greatest-of-bound f l 1000000000 h k))
+
+quantity-small : (l : Ledger) → Sound l → (n : ℕ) → l .developers n .quantity ≤ 1000000000
+quantity-small l s n = ⊎-elim
+    (λ e. omega (arith, ap (λ (x : Developer). x .quantity) e))
+    (λ r. let x = l .developers n in ⊎-elim
+    (λ z. omega arith)
+    (λ m. level-in-bounds (x .declared .levels) (r .developer .declared .levels) (x .quantity) m .1)
+    (declared-or-zero (x .declared .levels) (x .quantity) .0 (quantity-declared (r .developer))))
+    (s .each n)
+
+-- ---- the excess
+
+twos-small : (a b : ℕ) → a ≤ 32000000000 → twosComplement (pos a -ℤ pos b) < 2 ^ 64
+twos-small a b h = rw (minus a b) (go (ltb a b))
+  where
+    go : (t : Bool) → twosComplement (cond t (negsuc (b - suc a)) (pos (a - b))) < 2 ^ 64
+    go true = omega arith
+    go false = omega arith
+
+pub excess-small : (l : Ledger) → Sound l → number l Close ≡ 0 → twosComplement (excess l) < 2 ^ 64
+unfolding excess
+excess-small l s e =
+    let next : Ledger = accepted l Close in
+    let small : supply (λ x. x .quantity) next ≤ 32000000000 = supply-small (λ x. x .quantity) next (quantity-small next (sound-close l s (close-passed l e))) in
+    twos-small (supplyAfter l) (demandAt l (l .closing)) (omega (arith, supply-after-closing l))
+
+-- ---- an accepted settling
+
+pub record Passed (l : Ledger) : Type 0 where
+  pub closed : isClosed (l .phase) ≡ true
+  pub few : length (admissible l (closingPrice l)) ≤ 65536
+
+pub passed : (l : Ledger) (limit room : ℕ) → settlingNumber l limit room ≡ 0 → Passed l
+unfolding settlingNumber
+passed l limit room e = go (isClosed (l .phase)) (leb n (min limit 65536)) refl refl e
+  where
+    n : ℕ
+    n = length (admissible l (closingPrice l))
+
+    go : (x y : Bool) → isClosed (l .phase) ≡ x → leb n (min limit 65536) ≡ y → check x 2 (check y 10 (check (leb (6 * length (records l (closingPrice l))) room) 11 0)) ≡ 0 → Passed l
+    go true true c h e = record { closed = c; few = omega (arith, leb-true n (min limit 65536) h) }
+    go true false c h e = absurd (omega arith)
+    go false y c h e = absurd (omega arith)
+
+-- an award record: whose, and how much
+pub record Awarded (r : List ℕ) : Type 0 where
+  pub project : ℕ
+  pub developer : ℕ
+  pub quantity : ℕ
+  pub project-in : (1 ≤ project) × (project ≤ 32)
+  pub developer-in : (1 ≤ developer) × (developer ≤ 32)
+  pub quantity-in : (1 ≤ quantity) × (quantity ≤ 1000000000)
+  pub bytes : r ≡ recordOf project developer quantity
+
+-- each record stands for a level above 0
+records-each :
+    (P : List ℕ → Type 0) (l : Ledger) (p k : ℕ) (vs : List ℕ) →
+    ((j : ℕ) → j < length vs → 0 < getD vs j 0 → P (recordOf (k + j) (winner l p (k + j) (getD vs j 0)) (getD vs j 0))) → Each P (recordsFrom l p k vs)
+unfolding recordsFrom
+records-each P l p k [] h r m = absurd (List·Memᴰ·not-nil m)
+records-each P l p k (v ∷ vs) h r m =
+    let again : (j : ℕ) → j < length vs → 0 < getD vs j 0 → P (recordOf (suc k + j) (winner l p (suc k + j) (getD vs j 0)) (getD vs j 0)) =
+    λ j i g. subst (λ (n : ℕ). P (recordOf n (winner l p n (getD vs j 0)) (getD vs j 0))) (omega arith) (h (suc j) (omega arith) g) in
+    go (eqb v 0) refl (records-each P l p (suc k) vs again) m
+  where
+    at : ℕ → ℕ → Type 0
+    at i w = P (recordOf i (winner l p i w) w)
+
+    first : eqb v 0 ≡ false → P (recordOf k (winner l p k v) v)
+    first e = subst (λ (n : ℕ). at n v) (omega arith) (h 0 (omega arith) (let z = eqb-false v 0 e in omega arith))
+
+    go : (b : Bool) → eqb v 0 ≡ b → Each P (recordsFrom l p (suc k) vs)
+        → List·Memᴰ r (cond b (recordsFrom l p (suc k) vs) (recordOf k (winner l p k v) v ∷ recordsFrom l p (suc k) vs)) → P r
+    go true e rest m = rest r m
+    go false e rest m = ⊎-elim (λ q. subst P (sym q) (first e)) (rest r) (List·Memᴰ·cases-cons m)
+
+module _ (l : Ledger) (s : Sound l) (c : Passed l) where
+  abbrev at : ℕ
+  at = closingPrice l
+
+  begun : started (l .phase) ≡ true
+  begun = closed-started (l .phase) (c .closed)
+
+  lowest : Least (covered l) (l .closing) (l .settings .a) at
+  lowest = closing-price l s begun
+
+  -- twice CE at most
+  pub price-small : at ≤ 1000000
+  price-small = let b = settings-facts l s begun in let f = b .bounds in let g = lowest in omega arith
+
+  -- M2 at most
+  pub demand-small : demandAt l at ≤ 100000000000
+  demand-small =
+      let b = settings-facts l s begun in
+      let f = b .bounds in
+      let g = lowest in
+      let r = dem-range (l .settings .ce) (l .settings .d) (l .settings .m1) (l .settings .m2) at f (passed-in-range l s begun at (omega arith) (omega arith)) in
+      omega arith
+
+  -- that of all projects at their highs, which cover, at most
+  pub total-small : total (award l at) ≤ 32000000000
+  unfolding covered supply
+  total-small =
+      let covers : demandAt l at ≤ total (map (greatestOf (high at) l) (oneTo 32)) = leb-true (demandAt l at) _ (lowest .passes) in
+      let least = award-is l at s (lowest .passes) .least (map (greatestOf (high at) l) (oneTo 32)) (highs-admissible l at s) covers in
+      omega (arith, least, supply-small (high at) l (high-small l s at))
+
+  pub covering-small : length (coveringChoices l at) ≤ 65536
+  covering-small = let n = counts l at s (lowest .passes) in let f = c .few in omega arith
+
+  award-length : length (award l at) ≡ 32
+  unfolding admissible rows
+  award-length = choice-length (rows l at) (award l at) (award-is l at s (lowest .passes) .admissible) ∙ length-map (oneTo 32) _ ∙ length-one-to 32
+
+  pub awarded : Each Awarded (records l at)
+  unfolding records developersOf
+  awarded = records-each Awarded l at 1 (award l at) (λ j h g.
+      let k : ℕ = 1 + j in
+      let v : ℕ = getD (award l at) j 0 in
+      let place : 1 + j - 1 ≡ j = omega arith in
+      let some : 0 < getD (award l at) (k - 1) 0 = subst (λ (i : ℕ). 0 < getD (award l at) i 0) (sym place) g in
+      let o : openTo l at k v ≡ true =
+      subst (λ (i : ℕ). openTo l at k (getD (award l at) i 0) ≡ true) place (awarded-open l at k s (lowest .passes) (omega arith) (omega (arith, award-length)) some) in
+      let w = winner-open l at k v o .0 in
+      let n = in-one-to (winner l at k v) 32 .0 (in-keep _ _ (oneTo 32) .0 w .0) in
+      record {
+        project = k;
+        developer = winner l at k v;
+        quantity = v;
+        project-in = (omega arith, omega (arith, award-length));
+        developer-in = n;
+        quantity-in = (g, omega (arith, open-le-high l at k v o, greatest-of-bound (high at) l 1000000000 (high-small l s at) k));
+        bytes = refl;
+      })
