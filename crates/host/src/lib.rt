@@ -2,7 +2,7 @@
 ghost use mathlib.Core.Path.{_≡_};
 ghost use Rattle.curve.specs.Answer.{demandAnswer};
 ghost use Rattle.replies.specs.Replies.{replies};
-ghost use Rattle.replaying.specs.Replayed.{hosted, over};
+ghost use Rattle.record_replay.specs.Replayed.{hosted, over};
 ghost use Rattle.host.specs.Host.{hostNumber};
 use demand::Demanded;
 
@@ -26,5 +26,5 @@ pub extern "C" fn replay(src: &[u8], out: &mut [u8]) -> u64
     ensures { λ r. ⌜ r ≡ hosted (replies (now (src .entry))) (now (out .entry)) ⌝ }
     ensures { λ _. ⌜ now (out .exit) ≡ over (replies (now (src .entry))) (now (out .entry)) ⌝ }
 {
-    replaying::replay(src, out)
+    record_replay::replay(src, out)
 }

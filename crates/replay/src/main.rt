@@ -13,6 +13,6 @@ fn main() {
     let mut record = input();
     let n = io::read_full(libc::STDIN_FILENO, &mut record);
     let mut out = io::large_buffer();
-    let written = replaying::print(&record[..n], &mut out);
+    let written = record_replay::print(&record[..n], &mut out);
     io::write_all(libc::STDOUT_FILENO, &out[..written]);
 }

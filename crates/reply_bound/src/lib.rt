@@ -8,9 +8,9 @@ fn most(line: &[u8]) -> usize
     ensures { λ r. ⌜ r ≡ mostTo (now (line .entry)) ⌝ }
 {
     if line.len() < 2 {
-        return reply_text::most(0);
+        return reply_writing::most(0);
     }
-    reply_text::most(frames::value_of(line[1]) as u8)
+    reply_writing::most(frames::value_of(line[1]) as u8)
 }
 
 // Whether so many bytes are surely enough for the replies.

@@ -2,8 +2,8 @@
 // numbers; FF0B alone where the record is longer.
 ghost use mathlib.Core.Path.{_≡_};
 ghost use lib.ListN.{length};
+use answering::Turn;
 use auction::Auction;
-use turns::Turn;
 
 // The most bytes of a record (document 01, Frames).
 const LONGEST: usize = 65_536;
@@ -17,7 +17,7 @@ fn input() -> [u8; 65537]
 
 // The next auction and the reply to a line.
 fn step(auction: Auction, line: &[u8]) -> Turn {
-    turns::respond(auction, frames::decode(line))
+    answering::respond(auction, frames::decode(line))
 }
 
 // Writes the reply of a turn and what stands below it.

@@ -12,11 +12,11 @@ use lib.ListN.{length, take, drop, getD, set, length-append, length-take, length
 use lib.Seq.{take-at, drop-at, drop-drop, take-suc, set-split, append-snoc}
 use Rattle.numbers.specs.Tails.{laid}
 use Rattle.settling.specs.declared.Settled.{Settled}
-use Rattle.reply_text.specs.declared.Reply.{Reply}
+use Rattle.reply_writing.specs.declared.Reply.{Reply}
 use Rattle.format.specs.WidthLaws.{length-text}
 use Rattle.replies.specs.Lengths.{bytes-length}
-use Rattle.reply_text.specs.Texts.{addedText, shownText, textOf}
-use Rattle.reply_text.specs.TextLaws.{small, text-length}
+use Rattle.reply_writing.specs.Texts.{addedText, shownText, textOf}
+use Rattle.reply_writing.specs.TextLaws.{small, text-length}
 use Rattle.trace_text.specs.Decimal.{bytesOf}
 use Rattle.trace_text.specs.Puts.{Puts}
 use Rattle.trace_text.specs.Words.{signedItem, settledLines, wordsOf, traceOf}

@@ -5,8 +5,8 @@ use mathlib.Core.List.{List, [], _∷_, _++_}
 use lib.Dec.{eqb, ltb}
 use lib.ListN.{getD}
 use Rattle.settling.specs.declared.Settled.{Settled}
-use Rattle.reply_text.specs.declared.Reply.{Reply}
-use Rattle.reply_text.specs.Texts.{textOf}
+use Rattle.reply_writing.specs.declared.Reply.{Reply}
+use Rattle.reply_writing.specs.Texts.{textOf}
 use Rattle.trace_text.specs.Decimal.{bytesOf, decimal}
 
 -- a number and the byte behind it: a blank, or 0A at the line's end

@@ -7,7 +7,7 @@ ghost use Rattle.numbers.specs.Tails.{laid};
 ghost use Rattle.trace_text.specs.Decimal.{decimal};
 ghost use Rattle.trace_text.specs.Words.{number, signed, item, signedItem, quantityAt, awardLine, awardLines, items, settledLines, traceOf};
 ghost use Rattle.trace_text.specs.Puts.{Puts};
-use reply_text::Reply;
+use reply_writing::Reply;
 use settling::Settled;
 
 // ---- parts of a line
@@ -156,7 +156,7 @@ pub fn put(out: &mut [u8], reply: Reply, excess: u64, settled: Settled) -> usize
     requires { ⌜ 4096 ≤ length (now out) ⌝ }
     ensures { λ r. ⌜ (r ≡ length (traceOf reply excess settled)) × (r ≤ 4096) × (now (out .exit) ≡ laid (traceOf reply excess settled) (now (out .entry))) ⌝ }
 {
-    let line = reply_text::put(out, reply);
+    let line = reply_writing::put(out, reply);
     if reply.number != 0 {
         return line;
     }

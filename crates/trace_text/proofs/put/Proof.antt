@@ -3,7 +3,7 @@ use Prim.Native.Nat.{_≤_}
 use mathlib.Core.Path.{refl}
 use native.Mathlib.Omega.{arith}
 use borrow.Author.Needs.{needs}
-use Rattle.reply_text.specs.Texts.{textOf}
+use Rattle.reply_writing.specs.Texts.{textOf}
 use Rattle.trace_text.specs.Puts.{Puts}
 use Rattle.trace_text.proofs.Laws.{line-short, puts-none, laid-puts, whole, words-refused, words-closing, words-settling, words-other}
 use Rattle.trace_text.proofs.put.Statement.{statement}

@@ -1,0 +1,14 @@
+-- The numbers of a settlement, in the order of the fields.
+use mathlib.Core.Path.{refl}
+use borrow.Author.Needs.{needs}
+use Rattle.reply_writing.proofs.settling_values.Statement.{statement}
+use Rattle.reply_writing.proofs.settling_values.Tie as tie
+
+cast-t2 : tie.Need-cast-t2
+cast-t2 c = search needs
+
+returns : tie.Need-returns
+returns c = λ s e. rw e record { head = refl; tail = refl }
+
+pub settling-values-spec : {M : Type 1} → statement M
+settling-values-spec = tie.close (tie.spec cast-t2 returns)
