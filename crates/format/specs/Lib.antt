@@ -6,3 +6,4 @@ pub mod LineLaws
 pub mod WidthLaws
 pub mod TableLaws
 pub mod FieldLaws
+pub mod Example

@@ -1,8 +1,7 @@
 -- The sample record of document 01 (Frames) as bytes: it asks the calls of `rules` (Sample) and a settling with limit 100, and its replies are
 -- document 01's, byte for byte. Computed over the definitions.
-use Prim.Native.Nat.{ℕ, zero, suc}
-use Prim.Native.Char.{code}
-use Prim.Native.String.{String, len, charAt}
+use Prim.Native.Nat.{ℕ}
+use Prim.Native.String.{String, len}
 use mathlib.Core.Path.{_≡_, refl}
 use mathlib.Core.List.{List, [], _∷_, _++_, map, flatten}
 use Rattle.numbers.specs.Lists.{oneTo, keep, total, greatest, lastOr, any, all}
@@ -19,13 +18,9 @@ use Rattle.rules.specs.Sample.{sample, SampleSettled, shown-jointly}
 use Rattle.format.specs.Hex.{isHex, valueOf, charOf, digits, numberFrom}
 use Rattle.format.specs.Fields.{known, fixed, each, count, layout, fieldsAt, textAt, kindOf, asked, wellFormed, callOf, read}
 use Rattle.format.specs.Lines.{onFirst, lines}
+use Rattle.format.specs.Example.{codes}
 use Rattle.replies.specs.Orders.{Order, Asks, Settle, firsts, seconds, orderOf, ordered, orderIn}
 use Rattle.replies.specs.Replies.{closingText, settlingText, answerLine, replyTo, after, repliesFrom, replies}
-
--- n characters of a text from place i on, as bytes
-unfoldable pub codes : String → ℕ → ℕ → List ℕ
-codes s i zero = []
-codes s i (suc n) = code (charAt s i) ∷ codes s (suc i) n
 
 -- a line, ended by 0A
 unfoldable pub line : String → List ℕ

@@ -8,11 +8,10 @@ use native.Mathlib.Omega.{arith}
 use lib.Dec.{leb, ltb, eqb}
 use lib.IntN.{pos, negsuc, _-ℤ_}
 use lib.ListN.{length, getD, length-map}
-use borrow.Author.Tests.{leb-true, ltb-true, eqb-false}
+use borrow.Author.Tests.{leb-true, lt-ltb, le-ltb, eqb-false}
 use Rattle.numbers.specs.Lists.{oneTo, total}
 use Rattle.numbers.specs.Least.{Least}
 use Rattle.numbers.specs.ListLaws.{Each, in-keep, in-one-to, length-one-to, total-map-bound}
-use Rattle.curve.specs.Demand.{InRange}
 use Rattle.curve.specs.Range.{dem-range}
 use Rattle.curve.specs.Signs.{minus}
 use Rattle.choices.specs.Count.{choice-length}
@@ -29,11 +28,14 @@ use Rattle.clearing.specs.Supply.{greatest-of-bound, high-small}
 use Rattle.clearing.specs.ClosingPrice.{closed-started, settings-facts, passed-in-range, closing-price}
 use Rattle.reachable.specs.Bounds.{quantity-declared}
 use Rattle.reachable.specs.Checks.{close-passed}
+use Rattle.reachable.specs.Held.{in-round}
 use Rattle.reachable.specs.Closing.{sound-close}
 use Rattle.awards.specs.OpenLevels.{open-le-high}
 use Rattle.awards.specs.AwardLaws.{highs-admissible, award-is, counts}
 use Rattle.awards.specs.Winners.{winner-open, awarded-open}
 use Rattle.replies.specs.Replies.{twosComplement}
+use Rattle.theorem.specs.Readable.{signed, Awarded}
+use Rattle.theorem.specs.Reading.{record-reads}
 
 -- ---- supply: 32 projects, each at 10^9 at most
 
@@ -52,19 +54,48 @@ quantity-small l s n = ⊎-elim
 
 -- ---- the excess
 
-twos-small : (a b : ℕ) → a ≤ 32000000000 → twosComplement (pos a -ℤ pos b) < 2 ^ 64
-twos-small a b h = rw (minus a b) (go (ltb a b))
-  where
-    go : (t : Bool) → twosComplement (cond t (negsuc (b - suc a)) (pos (a - b))) < 2 ^ 64
-    go true = omega arith
-    go false = omega arith
+module _ (a b : ℕ) (h : a ≤ 32000000000) where
+  twos-small : twosComplement (pos a -ℤ pos b) < 2 ^ 64
+  twos-small = rw (minus a b) (go (ltb a b))
+    where
+      go : (t : Bool) → twosComplement (cond t (negsuc (b - suc a)) (pos (a - b))) < 2 ^ 64
+      go true = omega arith
+      go false = omega arith
 
-pub excess-small : (l : Ledger) → Sound l → number l Close ≡ 0 → twosComplement (excess l) < 2 ^ 64
-unfolding excess
-excess-small l s e =
-    let next : Ledger = accepted l Close in
-    let small : supply (λ x. x .quantity) next ≤ 32000000000 = supply-small (λ x. x .quantity) next (quantity-small next (sound-close l s (close-passed l e))) in
-    twos-small (supplyAfter l) (demandAt l (l .closing)) (omega (arith, supply-after-closing l))
+  twos-back : b ≤ 100000000000 → signed (twosComplement (pos a -ℤ pos b)) ≡ pos a -ℤ pos b
+  twos-back g = rw (minus a b) (go (ltb a b))
+    where
+      go : (t : Bool) → signed (twosComplement (cond t (negsuc (b - suc a)) (pos (a - b)))) ≡ cond t (negsuc (b - suc a)) (pos (a - b))
+      go true = rw (le-ltb (2 ^ 64 - suc (b - suc a)) (2 ^ 63) (omega arith)) (ap negsuc (omega arith))
+      go false = rw (lt-ltb (a - b) (2 ^ 63) (omega arith))
+
+-- Dem at a price that the clock passed: M2 at most
+demand-at-most : (l : Ledger) → Sound l → started (l .phase) ≡ true → (p : ℕ) → l .closing ≤ p → p ≤ l .settings .a → demandAt l p ≤ 100000000000
+demand-at-most l s e p h g =
+    let f = settings-facts l s e .bounds in
+    let r = dem-range (l .settings .ce) (l .settings .d) (l .settings .m1) (l .settings .m2) p f (passed-in-range l s e p h g) in
+    omega arith
+
+module _ (l : Ledger) (s : Sound l) (e : number l Close ≡ 0) where
+  supply-after-small : supplyAfter l ≤ 32000000000
+  supply-after-small =
+      let next : Ledger = accepted l Close in
+      let small : supply (λ x. x .quantity) next ≤ 32000000000 = supply-small (λ x. x .quantity) next (quantity-small next (sound-close l s (close-passed l e))) in
+      omega (arith, supply-after-closing l)
+
+  closing-demand-small : demandAt l (l .closing) ≤ 100000000000
+  closing-demand-small =
+      let begun : started (l .phase) ≡ true = ap started (in-round (l .phase) (close-passed l e .phase)) in
+      let p = s .prices begun in
+      demand-at-most l s begun (l .closing) (omega arith) (omega arith)
+
+  pub excess-small : twosComplement (excess l) < 2 ^ 64
+  unfolding excess
+  excess-small = twos-small (supplyAfter l) (demandAt l (l .closing)) supply-after-small
+
+  pub excess-back : signed (twosComplement (excess l)) ≡ excess l
+  unfolding excess
+  excess-back = twos-back (supplyAfter l) (demandAt l (l .closing)) supply-after-small closing-demand-small
 
 -- ---- an accepted settling
 
@@ -79,20 +110,11 @@ passed l limit room e = go (isClosed (l .phase)) (leb n (min limit 65536)) refl 
     n : ℕ
     n = length (admissible l (closingPrice l))
 
-    go : (x y : Bool) → isClosed (l .phase) ≡ x → leb n (min limit 65536) ≡ y → check x 2 (check y 10 (check (leb (6 * length (records l (closingPrice l))) room) 11 0)) ≡ 0 → Passed l
+    go : (x y : Bool) → isClosed (l .phase) ≡ x → leb n (min limit 65536) ≡ y
+        → check x 2 (check y 10 (check (leb (6 * length (records l (closingPrice l))) room) 11 0)) ≡ 0 → Passed l
     go true true c h e = record { closed = c; few = omega (arith, leb-true n (min limit 65536) h) }
     go true false c h e = absurd (omega arith)
     go false y c h e = absurd (omega arith)
-
--- an award record: whose, and how much
-pub record Awarded (r : List ℕ) : Type 0 where
-  pub project : ℕ
-  pub developer : ℕ
-  pub quantity : ℕ
-  pub project-in : (1 ≤ project) × (project ≤ 32)
-  pub developer-in : (1 ≤ developer) × (developer ≤ 32)
-  pub quantity-in : (1 ≤ quantity) × (quantity ≤ 1000000000)
-  pub bytes : r ≡ recordOf project developer quantity
 
 -- each record stands for a level above 0
 records-each :
@@ -130,14 +152,8 @@ module _ (l : Ledger) (s : Sound l) (c : Passed l) where
   pub price-small : at ≤ 1000000
   price-small = let b = settings-facts l s begun in let f = b .bounds in let g = lowest in omega arith
 
-  -- M2 at most
   pub demand-small : demandAt l at ≤ 100000000000
-  demand-small =
-      let b = settings-facts l s begun in
-      let f = b .bounds in
-      let g = lowest in
-      let r = dem-range (l .settings .ce) (l .settings .d) (l .settings .m1) (l .settings .m2) at f (passed-in-range l s begun at (omega arith) (omega arith)) in
-      omega arith
+  demand-small = let g = lowest in demand-at-most l s begun at (omega arith) (omega arith)
 
   -- that of all projects at their highs, which cover, at most
   pub total-small : total (award l at) ≤ 32000000000
@@ -162,15 +178,18 @@ module _ (l : Ledger) (s : Sound l) (c : Passed l) where
       let place : 1 + j - 1 ≡ j = omega arith in
       let some : 0 < getD (award l at) (k - 1) 0 = subst (λ (i : ℕ). 0 < getD (award l at) i 0) (sym place) g in
       let o : openTo l at k v ≡ true =
-      subst (λ (i : ℕ). openTo l at k (getD (award l at) i 0) ≡ true) place (awarded-open l at k s (lowest .passes) (omega arith) (omega (arith, award-length)) some) in
+      subst (λ (i : ℕ). openTo l at k (getD (award l at) i 0) ≡ true) place
+      (awarded-open l at k s (lowest .passes) (omega arith) (omega (arith, award-length)) some) in
       let w = winner-open l at k v o .0 in
       let n = in-one-to (winner l at k v) 32 .0 (in-keep _ _ (oneTo 32) .0 w .0) in
+      let small : v ≤ 1000000000 = omega (arith, open-le-high l at k v o, greatest-of-bound (high at) l 1000000000 (high-small l s at) k) in
       record {
         project = k;
         developer = winner l at k v;
         quantity = v;
         project-in = (omega arith, omega (arith, award-length));
         developer-in = n;
-        quantity-in = (g, omega (arith, open-le-high l at k v o, greatest-of-bound (high at) l 1000000000 (high-small l s at) k));
+        quantity-in = (g, small);
         bytes = refl;
+        reads = record-reads k (winner l at k v) v (omega (arith, award-length)) (n .1) small;
       })

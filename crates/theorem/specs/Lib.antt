@@ -7,5 +7,7 @@ pub mod StatedLaws
 pub mod Determined
 pub mod Untouched
 pub mod Settling
-pub mod Figures
 pub mod Readable
+pub mod Reading
+pub mod Figures
+pub mod ReadableLaws

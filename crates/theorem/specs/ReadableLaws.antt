@@ -1,0 +1,107 @@
+-- The replies to every list of calls can be read: each figure of an accepted closing or settling fits its field.
+use Prim.Native.Nat.{ℕ, _*_, _≤_, _<_}
+use mathlib.Core.Path.{_≡_, refl, sym, ap, ap₂, _∙_, subst}
+use mathlib.Core.List.{List, [], _∷_, _++_, flatten, append-nil, List·Memᴰ·head, List·Memᴰ·tail, List·Memᴰ·not-nil}
+use native.Mathlib.Omega.{arith}
+use lib.ListN.{length}
+use Rattle.numbers.specs.ListLaws.{Each}
+use Rattle.format.specs.Fields.{fieldsAt, textAt}
+use Rattle.rules.specs.Ledger.{Call, Close, Ledger}
+use Rattle.rules.specs.Refusals.{number}
+use Rattle.rules.specs.Rounds.{ledger, granted, answer}
+use Rattle.rules.specs.Settling.{settlement, settlementAt, settlingNumber}
+use Rattle.sound.specs.Sound.{Sound}
+use Rattle.reachable.specs.Reachable.{sound}
+use Rattle.replies.specs.Orders.{Asks, Settle}
+use Rattle.replies.specs.Replies.{twosComplement, widthsOf, valuesOf, closingFields, settlingHead, closingText, settlingText, answerLine, awardRoom, replyTo}
+use Rattle.replies.specs.Lengths.{flat-length, flat-digits, six, few}
+use Rattle.theorem.specs.Readable.{signed, twos, Awarded, Readable}
+use Rattle.theorem.specs.Reading.{Fit, fit-append, text-append, line-reads, Bytes, fit-bytes, text-bytes, bytes-cons, bytes-join}
+use Rattle.theorem.specs.Figures.{Passed, passed, excess-small, excess-back, price-small, demand-small, total-small, covering-small, awarded}
+
+-- ---- award records
+
+record-bytes : (r : List ℕ) → Awarded r → Bytes r
+record-bytes r a =
+    let k = a .project-in in
+    let n = a .developer-in in
+    subst Bytes (sym (a .bytes))
+    (bytes-cons _ _ (omega arith) (bytes-cons _ _ (omega arith) (bytes-cons _ _ (omega arith)
+    (bytes-cons _ _ (omega arith) (bytes-cons _ _ (omega arith) (bytes-cons _ _ (omega arith) (λ x m. absurd (List·Memᴰ·not-nil m))))))))
+
+records-bytes : (rs : List (List ℕ)) → Each Awarded rs → Bytes (flatten rs)
+unfolding flatten
+records-bytes [] h = λ x m. absurd (List·Memᴰ·not-nil m)
+records-bytes (r ∷ rs) h = bytes-join r (flatten rs) (record-bytes r (h r (List·Memᴰ·head refl))) (records-bytes rs (λ x m. h x (List·Memᴰ·tail m)))
+
+-- ---- the replies
+
+accepted-number : (l : Ledger) → number l Close ≡ 0 → answer l Close .number ≡ 0
+unfolding answer granted
+accepted-number l e = rw e
+
+module _ (l : Ledger) (s : Sound l) where
+  closing-fit : number l Close ≡ 0 → Fit (widthsOf closingFields) (valuesOf closingFields (answer l Close))
+  unfolding Fit answer granted
+  closing-fit e = rw e (excess-small l s e, tt)
+
+  closing-reads : number l Close ≡ 0 →
+      fieldsAt (2 ∷ 2 ∷ widthsOf closingFields) (replyTo l (Asks Close)) ≡ 5 ∷ 0 ∷ valuesOf closingFields (answer l Close)
+  unfolding replyTo closingText
+  closing-reads e =
+      ap (λ (n : ℕ). fieldsAt (2 ∷ 2 ∷ widthsOf closingFields) (answerLine 5 n (closingText (answer l Close)))) (accepted-number l e)
+      ∙ line-reads 5 (widthsOf closingFields) (valuesOf closingFields (answer l Close)) (omega arith) (closing-fit e)
+
+  closing-back : number l Close ≡ 0 → signed (twosComplement (answer l Close .excess)) ≡ answer l Close .excess
+  unfolding answer granted
+  closing-back e = rw e (excess-back l s e)
+
+  module _ (limit : ℕ) (e : settlingNumber l limit awardRoom ≡ 0) where
+    went : Passed l
+    went = passed l limit awardRoom e
+
+    awards : Each Awarded (settlement l .records)
+    unfolding settlement settlementAt
+    awards = awarded l s went
+
+    head-fit : Fit (widthsOf settlingHead) (valuesOf settlingHead (settlement l))
+    unfolding Fit settlement settlementAt
+    head-fit =
+        let p = price-small l s went in
+        let d = demand-small l s went in
+        let t = total-small l s went in
+        let a = went .few in
+        let c = covering-small l s went in
+        let n = few l limit e in
+        (omega arith, (omega arith, (omega arith, (omega arith, (omega arith, (omega arith, tt))))))
+
+    abbrev bytes : List ℕ
+    bytes = flatten (settlement l .records)
+
+    text-is : settlingText (settlement l) ≡ textAt (widthsOf settlingHead ++ twos (length bytes)) (valuesOf settlingHead (settlement l) ++ bytes)
+    unfolding settlingText textAt
+    text-is =
+        let head : List ℕ = textAt (widthsOf settlingHead) (valuesOf settlingHead (settlement l)) in
+        append-nil _ ∙ ap (λ (t : List ℕ). head ++ t) (sym (flat-digits (settlement l .records)) ∙ sym (text-bytes bytes))
+        ∙ sym (text-append (widthsOf settlingHead) (valuesOf settlingHead (settlement l)) (twos (length bytes)) bytes head-fit)
+
+    settling-reads :
+        fieldsAt (2 ∷ 2 ∷ widthsOf settlingHead ++ twos (6 * length (settlement l .records))) (replyTo l (Settle limit))
+        ≡ 6 ∷ 0 ∷ valuesOf settlingHead (settlement l) ++ bytes
+    unfolding replyTo
+    settling-reads =
+        let ws : List ℕ = widthsOf settlingHead ++ twos (length bytes) in
+        let ns : List ℕ = valuesOf settlingHead (settlement l) ++ bytes in
+        let behind : Fit (twos (length bytes)) bytes = fit-bytes bytes (records-bytes (settlement l .records) awards) in
+        let fit : Fit ws ns = fit-append (widthsOf settlingHead) (valuesOf settlingHead (settlement l)) (twos (length bytes)) bytes head-fit behind in
+        ap (λ (n : ℕ). fieldsAt (2 ∷ 2 ∷ widthsOf settlingHead ++ twos n) (replyTo l (Settle limit))) (sym (flat-length (settlement l .records) (six l)))
+        ∙ ap₂ (λ (n : ℕ) (t : List ℕ). fieldsAt (2 ∷ 2 ∷ ws) (answerLine 6 n t)) e text-is
+        ∙ line-reads 6 ws ns (omega arith) fit
+
+pub readable : (cs : List Call) → Readable (ledger cs)
+readable cs = record {
+  closing = closing-reads (ledger cs) (sound cs);
+  excess = closing-back (ledger cs) (sound cs);
+  settling = settling-reads (ledger cs) (sound cs);
+  records = awards (ledger cs) (sound cs);
+}
