@@ -4,7 +4,7 @@ use mathlib.Core.Path.{_≡_, refl, sym, ap, ap₂, _∙_}
 use mathlib.Core.Bool.{Bool, true, false}
 use mathlib.Core.List.{List, [], _∷_, _++_, append-nil}
 use native.Mathlib.Omega.{arith}
-use borrow.Author.Tests.{le-leb, lt-leb}
+use borrow.Author.Tests.{le-leb, lt-leb, leb-true}
 use borrow.Rule.Slice.PartMut.{putMid, midOf}
 use lib.Dec.{leb}
 use lib.ListN.{length, take, drop, length-append, length-take, length-drop}
@@ -167,20 +167,33 @@ pub refusal-laid : (o xs ys : List ℕ) → xs ≡ laid (digits 4 65291) o → y
 unfolding digits charOf answerLine
 refusal-laid o xs ys e f = (refl, grow (digits 4 65291) (10 ∷ []) o xs ys 4 e refl f)
 
+refusal-length : length (answerLine 255 11 []) ≡ 5
+unfolding digits charOf answerLine
+refusal-length = refl
+
+-- the text that the program prints, which its buffer holds
 module _ (s : List ℕ) where
-  pub print-long : 65536 < length s → printed s ≡ answerLine 255 11 []
+  abbrev pub Prints : List ℕ → Type 0
+  Prints t = (printed s ≡ t) × (length t ≤ 65536)
+
+  pub print-long : 65536 < length s → Prints (answerLine 255 11 [])
   unfolding printed
-  print-long h = rw (lt-leb (length s) 65536 h)
+  print-long h = (rw (lt-leb (length s) 65536 h), omega (arith, refusal-length))
 
   module _ (b : Bool) (h : length s ≤ 65536) (e : b ≡ leb (length (replies s)) 65536) where
-    pub print-replies : b ≡ true → printed s ≡ replies s
+    pub print-replies : b ≡ true → Prints (replies s)
     unfolding printed
-    print-replies y = let g : leb (length (replies s)) 65536 ≡ true = sym e ∙ y in rw (le-leb (length s) 65536 h, g)
+    print-replies y =
+        let g : leb (length (replies s)) 65536 ≡ true = sym e ∙ y in
+        (rw (le-leb (length s) 65536 h, g), leb-true (length (replies s)) 65536 g)
 
-    pub print-over : b ≡ false → printed s ≡ answerLine 255 11 []
+    pub print-over : b ≡ false → Prints (answerLine 255 11 [])
     unfolding printed
-    print-over y = let g : leb (length (replies s)) 65536 ≡ false = sym e ∙ y in rw (le-leb (length s) 65536 h, g)
+    print-over y =
+        let g : leb (length (replies s)) 65536 ≡ false = sym e ∙ y in
+        (rw (le-leb (length s) 65536 h, g), omega (arith, refusal-length))
 
-  -- the text was written
-  pub prints : (t o out : List ℕ) (n : ℕ) → printed s ≡ t → (n ≡ length t) × (out ≡ laid t o) → (n ≡ length (printed s)) × (out ≡ laid (printed s) o)
-  prints t o out n e w = rw e w
+  -- it was written
+  pub prints : (t o out : List ℕ) (n : ℕ) → Prints t → (n ≡ length t) × (out ≡ laid t o)
+      → (n ≡ length (printed s)) × (n ≤ 65536) × (out ≡ laid (printed s) o)
+  prints t o out n e w = (w .0 ∙ ap length (sym (e .0)), omega (arith, w .0, e .1), w .1 ∙ ap (λ (x : List ℕ). laid x o) (sym (e .0)))

@@ -103,8 +103,7 @@ fn put_refusal(out: &mut [u8]) -> usize
 // Writes what the program prints for a record, and gives its number of bytes.
 pub fn print(bytes: &[u8], out: &mut [u8]) -> usize
     requires { ⌜ 65536 ≤ length (now out) ⌝ }
-    ensures { λ r. ⌜ r ≡ length (printed (now (bytes .entry))) ⌝ }
-    ensures { λ _. ⌜ now (out .exit) ≡ laid (printed (now (bytes .entry))) (now (out .entry)) ⌝ }
+    ensures { λ r. ⌜ (r ≡ length (printed (now (bytes .entry)))) × (r ≤ 65536) × (now (out .exit) ≡ laid (printed (now (bytes .entry))) (now (out .entry))) ⌝ }
 {
     if LONGEST < bytes.len() {
         return put_refusal(out);

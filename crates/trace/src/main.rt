@@ -22,8 +22,10 @@ fn step(auction: Auction, line: &[u8]) -> Turn {
 
 // Writes the reply of a turn and what stands below it.
 fn show(turn: Turn) {
+    let reply = turn.reply;
+    let settled = turn.settled;
     let mut text = io::buffer();
-    let n = trace_text::put(&mut text, turn.reply, turn.excess, turn.settled);
+    let n = trace_text::put(&mut text, reply, turn.excess, settled);
     io::write_all(libc::STDOUT_FILENO, &text[..n]);
 }
 

@@ -36,7 +36,10 @@ array-share-prefix-out : tie.Need-array-share-prefix-out
 array-share-prefix-out c = search needs
 
 slice-aggregate-write-all : tie.Need-slice-aggregate-write-all
-slice-aggregate-write-all c = ?
+slice-aggregate-write-all c =
+    let p = c .before .before .print in
+    let h : p .result ≤ length (p .last .1 .0) = omega (arith, p .kept .1 .0, p .ensures .1) in
+    sym (length-take-le (p .result) (p .last .1 .0) h)
 
 write-all-requires : tie.Need-write-all-requires
 write-all-requires c κs = search needs
