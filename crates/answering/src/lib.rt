@@ -1,7 +1,7 @@
 // A turn of a replay: the next auction and the reply to a frame.
 ghost use mathlib.Core.Path.{_≡_};
 ghost use Prim.Native.Nat.{ℕ, _+_, _*_, _^_, _≤_, _<_};
-ghost use lib.ListN.{length, take, getD};
+ghost use lib.ListN.{length, take, getD, replicate};
 ghost use Rattle.replies.specs.Orders.{Malformed, Asks, Settle, setUpOf, registrationOf, offerOf, ordered};
 ghost use Rattle.replies.specs.Replies.{twosComplement};
 ghost use Rattle.rules.specs.Ledger.{Open, Close};
@@ -81,9 +81,10 @@ fn column(frame: Frame, from: usize, apart: usize, n: usize) -> [u32; 16]
 
 // ---- replies
 
-// A reply of this kind and number, with nothing else in it.
+// A reply of this kind and number, zero in every other place.
 fn blank(kind: u8, number: u8) -> Reply
-    ensures { λ r. ⌜ (r .kind ≡ kind) × (r .number ≡ number) × (length (r .awards) ≡ 192) ⌝ }
+    ensures { λ r. ⌜ (r .kind ≡ kind) × (r .number ≡ number) × (r .awards ≡ replicate 192 0) ⌝ }
+    ensures { λ r. ⌜ (r .filled ≡ 0) × (r .values .head ≡ replicate 8 0) × (r .values .tail ≡ replicate 8 0) ⌝ }
 {
     let values = Values {
         head: [0; 8],

@@ -7,7 +7,7 @@ use mathlib.Core.Option.{some}
 use native.Mathlib.Numerals.{add-one}
 use native.Mathlib.Nat.{zero-mul, mul-le-mul, pow-le-pow-right, zero-lt-suc}
 use native.Mathlib.Omega.{arith}
-use lib.ListN.{length, take, drop, getD, set, length-set, drop-of-length-le}
+use lib.ListN.{length, take, drop, getD, set, replicate, length-set, length-replicate, drop-of-length-le}
 use lib.Seq.{drop-cons, drop-drop, getD-take, take-suc-set}
 use Rattle.numbers.specs.Lists.{total}
 use Rattle.format.specs.Hex.{allHex, number}
@@ -15,7 +15,7 @@ use Rattle.format.specs.Fields.{listed, known, longest, RawCall, fixed, each, c
 use Rattle.format.specs.WidthLaws.{take-fields, fields-fit}
 use Rattle.format.specs.FieldLaws.{WellFormed, reads, reads-none, total-layout}
 use Rattle.frames.specs.declared.Frame.{Frame}
-use Rattle.frames.specs.Decoded.{callIn, call-none, call-some}
+use Rattle.frames.specs.Decoded.{callIn, Zero, call-none, call-some}
 use Rattle.frames.proofs.Shaping.{fitting-kind}
 
 -- ---- field by field: what was read, and what is left of the widths and of the line
@@ -27,8 +27,8 @@ pub record Reading (ws s out : List ℕ) (at j : ℕ) : Type 0 where
   pub right : take j out ++ fieldsAt (drop j ws) (drop at s) ≡ fieldsAt ws (drop 2 s)
 
 module _ (ws s out : List ℕ) where
-  pub reading-first : length out ≡ 32 → 2 + total ws ≤ length s → Reading ws s out 2 0
-  reading-first l h = record { inside = omega arith; long = l; room = h; right = refl }
+  pub reading-first : out ≡ replicate 32 0 → 2 + total ws ≤ length s → Reading ws s out 2 0
+  reading-first z h = record { inside = omega arith; long = ap length z ∙ length-replicate {A = ℕ} 32 0; room = h; right = refl }
 
   module _ (at j : ℕ) (r : Reading ws s out at j) (w : ℕ) (h : j < length ws) (e : w ≡ getD ws j 0) where
     next : drop j ws ≡ w ∷ drop (j + 1) ws
@@ -96,17 +96,21 @@ unfolding asked
 asked-length l w k e = rw e (omega (arith, w .exact, total-layout (kindOf l) (repeats (kindOf l) (fieldsAt (fixed (kindOf l)) (drop 2 l)))))
 
 module _ (l : List ℕ) (f : Frame) where
-  pub refused : f .kind ≡ 0 → (WellFormed l → ⊥) → callIn f ≡ read l
-  refused z h = call-none f z ∙ sym (reads-none l h)
+  -- what `decode` ensures
+  abbrev pub Decodes : Type 0
+  Decodes = (callIn f ≡ read l) × (f .kind ≡ 0 → Zero f)
+
+  pub refused : Zero f → (WellFormed l → ⊥) → Decodes
+  refused z h = (call-none f (z .0) ∙ sym (reads-none l h), λ e. z)
 
   pub accepted : (k n : ℕ) → k ≡ kindOf l → n ≡ repeats k (fieldsAt (fixed k) (drop 2 l)) → length l ≤ longest → allHex l ≡ true → known k ≡ true
       → length l ≡ 2 + total (fixed k) + listed * n → (f .kind ≡ 0 → ⊥) → f .kind ≡ k → take (f .count) (f .fields) ≡ fieldsAt (layout k n) (drop 2 l)
-      → callIn f ≡ read l
+      → Decodes
   unfolding asked callOf
   accepted k n e q short hex there exact fz fk ff =
       let a : asked l ≡ layout k n = rw (q, e) in
       let w : WellFormed l = record { short = short; hex = hex; kind-known = rw e at there; exact = exact ∙ omega (arith, ap total a, total-layout k n) } in
-      call-some f fz ∙ ap some (same (fk ∙ e) (ff ∙ ap (λ (ws : List ℕ). fieldsAt ws (drop 2 l)) (sym a))) ∙ sym (reads l w)
+      (call-some f fz ∙ ap some (same (fk ∙ e) (ff ∙ ap (λ (ws : List ℕ). fieldsAt ws (drop 2 l)) (sym a))) ∙ sym (reads l w), λ z. absurd (fz z))
     where
       same : {i j : ℕ} {a b : List ℕ} → i ≡ j → a ≡ b → _≡_ {A = RawCall} (record { kind = i; fields = a }) (record { kind = j; fields = b })
       same p q = λ i. record { kind = p i; fields = q i }

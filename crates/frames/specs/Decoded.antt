@@ -6,7 +6,7 @@ use mathlib.Core.List.{List}
 use mathlib.Core.Option.{Option, none, some}
 use borrow.Author.Tests.{eq-eqb, ne-eqb}
 use lib.Dec.{eqb}
-use lib.ListN.{take}
+use lib.ListN.{take, replicate}
 use Rattle.format.specs.Fields.{RawCall, read}
 use Rattle.format.specs.FieldLaws.{Formed, formed}
 use Rattle.frames.specs.declared.Frame.{Frame}
@@ -16,6 +16,10 @@ held f = record { kind = f .kind; fields = take (f .count) (f .fields) }
 
 unfoldable pub callIn : Frame → Option RawCall
 callIn f = cond (eqb (f .kind) 0) none (some (held f))
+
+-- zero in every place
+abbrev pub Zero : Frame → Type 0
+Zero f = (f .kind ≡ 0) × (f .count ≡ 0) × (f .fields ≡ replicate 32 0)
 
 -- ---- laws
 

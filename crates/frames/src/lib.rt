@@ -3,14 +3,14 @@
 ghost use mathlib.Core.Path.{_≡_};
 ghost use mathlib.Core.List.{[], _∷_};
 ghost use Prim.Native.Nat.{ℕ, _+_, _≤_, _<_};
-ghost use lib.ListN.{length, getD, take, drop};
+ghost use lib.ListN.{length, getD, take, drop, replicate};
 ghost use Rattle.numbers.specs.Lists.{total};
 ghost use Rattle.format.specs.Hex.{isHex, allHex, valueOf, charOf, number, digits};
 ghost use Rattle.numbers.specs.Tails.{laid};
 ghost use Rattle.format.specs.Lines.{run, part, lineStart, lineEnd};
 ghost use Rattle.format.specs.Fields.{fixed, repeats, fieldsAt, textAt, read};
 ghost use Rattle.frames.specs.Shapes.{Tabled, Shaped};
-ghost use Rattle.frames.specs.Decoded.{callIn};
+ghost use Rattle.frames.specs.Decoded.{callIn, Zero};
 
 // The fields of a frame kind: the kind, the widths of its fixed fields, which a 0 ends, and how many fields follow for each one that the last of
 // them counts.
@@ -154,13 +154,13 @@ impl Frame {
 }
 
 fn no_fields() -> [u64; 32]
-    ensures { λ r. ⌜ length r ≡ 32 ⌝ }
+    ensures { λ r. ⌜ r ≡ replicate 32 0 ⌝ }
 {
     [0; 32]
 }
 
 fn malformed() -> Frame
-    ensures { λ r. ⌜ r .kind ≡ 0 ⌝ }
+    ensures { λ r. ⌜ Zero r ⌝ }
 {
     Frame {
         kind: 0,
@@ -200,9 +200,9 @@ fn repeated(line: &[u8], shape: Shape) -> usize
     shape.each * first[last] as usize
 }
 
-// A line read by the table.
+// A line read by the table; of a malformed line all is zero.
 pub fn decode(line: &[u8]) -> Frame
-    ensures { λ r. ⌜ callIn r ≡ read (now (line .entry)) ⌝ }
+    ensures { λ r. ⌜ (callIn r ≡ read (now (line .entry))) × (r .kind ≡ 0 → Zero r) ⌝ }
 {
     let len = line.len();
     if Frame::LONGEST < len {

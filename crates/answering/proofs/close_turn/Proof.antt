@@ -25,7 +25,7 @@ closing-values-requires c κs = search needs
 returns : tie.Need-returns
 returns c =
     let closed = c .before .before .before .before .before .close in
-    let b = c .before .before .before .before .blank .ensures in
+    let b = c .before .before .before .before .blank .ensures .0 in
     let s : SFits w64 (closed .result .excess) = search needs in
     let bits = c .before .before .bits-of .ensures ∙ ap twosComplement (toZ-ofZ s) in
     takes-close _ _ _ _ (closed .ensures) (record { auction = refl; kind = b .0; number = b .1 }) (c .before .closing-values .ensures (closingIn (closed .result)) bits)

@@ -9,7 +9,7 @@ blank-requires : tie.Need-blank-requires
 blank-requires c κs = search needs
 
 returns : tie.Need-returns
-returns c = takes-none _ _ refl (c .blank .ensures .0) (c .blank .ensures .1)
+returns c = takes-none _ _ refl (c .blank .ensures .0 .0) (c .blank .ensures .0 .1)
 
 pub malformed-spec : {M : Type 1} → statement M
 malformed-spec = tie.close (tie.spec blank-requires returns)

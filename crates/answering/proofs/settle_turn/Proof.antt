@@ -1,5 +1,7 @@
 -- A settling has 192 bytes of its own for awards.
-use mathlib.Core.Path.{refl}
+use Prim.Native.Nat.{ℕ}
+use mathlib.Core.Path.{refl, ap, _∙_}
+use lib.ListN.{length, length-replicate}
 use borrow.Author.Needs.{needs}
 use Rattle.format.specs.Fields.{fixed}
 use Rattle.answering.proofs.Taking.{takes-settling}
@@ -32,8 +34,8 @@ returns c =
     let asked = settled .before .before in
     let b = asked .before .before .blank in
     let w = rw (asked .word .ensures) at (settled .settle .ensures) in
-    takes-settling _ _ (b .result .awards) (settled .settle .result) _ (b .ensures .2) w refl
-    record { kind = b .ensures .0; number = refl; values = c .before .settling-values .ensures; filled = c .award-bytes .ensures }
+    takes-settling _ _ (b .result .awards) (settled .settle .result) _ (ap length (b .ensures .0 .2) ∙ length-replicate {A = ℕ} 192 0) w refl
+    record { kind = b .ensures .0 .0; number = refl; values = c .before .settling-values .ensures; filled = c .award-bytes .ensures }
 
 pub settle-turn-spec : {M : Type 1} → statement M
 settle-turn-spec =

@@ -10,11 +10,11 @@ decode-requires : tie.Need-decode-requires
 decode-requires c κs = search needs
 
 respond-requires : tie.Need-respond-requires
-respond-requires c κs = λ k e. formed _ k (sym (c .decode .ensures) ∙ e)
+respond-requires c κs = λ k e. formed _ k (sym (c .decode .ensures .0) ∙ e)
 
 returns : tie.Need-returns
 unfolding orderIn
-returns c = rw (c .before .decode .ensures) at (c .respond .ensures)
+returns c = rw (c .before .decode .ensures .0) at (c .respond .ensures)
 
 pub step-spec : {M : Type 1} → statement M
 step-spec = tie.close (tie.spec decode-requires respond-requires returns)

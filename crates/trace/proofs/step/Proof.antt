@@ -9,7 +9,7 @@ decode-requires : tie.Need-decode-requires
 decode-requires c κs = search needs
 
 respond-requires : tie.Need-respond-requires
-respond-requires c κs = λ k e. formed _ k (sym (c .decode .ensures) ∙ e)
+respond-requires c κs = λ k e. formed _ k (sym (c .decode .ensures .0) ∙ e)
 
 returns : tie.Need-returns
 returns c = search needs
