@@ -14,7 +14,7 @@
 extern "C" {
 #endif
 
-/* What a call returns for refusal n of the twelve numbers: 2^64 - n. */
+/* What a call returns for refusal n: 2^64 - n. README.md has the table of refusal numbers. */
 #define REFERENCE_ENGINE_REFUSAL(n) (UINT64_C(0) - (n))
 
 /*
