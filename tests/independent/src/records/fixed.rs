@@ -46,9 +46,24 @@ type Offer<'a> = (u8, &'a [Step]);
 /// A registration with study value and start day 0: project, developer, kind and levels.
 type Plant<'a> = (u8, u8, u8, &'a [u32]);
 
-/// A record as it grows.
+/// A record as it grows. Small quantities are in thousands of kWh: an excess of a few kWh would end
+/// the auction in its first round (document 02, 1).
 struct Script {
     record: Vec<u8>,
+}
+
+/// In kWh; numbers at the far bounds stay.
+fn kwh(quantity: u64) -> u64 {
+    if quantity <= 100_000 {
+        quantity * 1_000
+    } else {
+        quantity
+    }
+}
+
+fn levels_in_kwh(levels: &[u32]) -> Vec<u32> {
+    let level = |&level: &u32| kwh(level.into()).try_into().expect("fits as it did");
+    levels.iter().map(level).collect()
 }
 
 impl Script {
@@ -64,6 +79,7 @@ impl Script {
 
     /// CE, D, M1, M2 and A.
     fn set_up(self, [ce, d, m1, m2, a]: [u64; 5]) -> Script {
+        let [d, m1, m2] = [d, m1, m2].map(kwh);
         self.call(&Call::SetUp { ce, d, m1, m2, a })
     }
 
@@ -81,7 +97,7 @@ impl Script {
             kind,
             study_value,
             start_day,
-            levels: levels.to_vec(),
+            levels: levels_in_kwh(levels),
         })
     }
 
@@ -104,11 +120,11 @@ impl Script {
 
     fn offer(self, offers: &[Offer]) -> Script {
         offers.iter().fold(self, |script, &(developer, steps)| {
-            let (prices, levels) = steps.iter().copied().unzip();
+            let (prices, levels): (Vec<u32>, Vec<u32>) = steps.iter().copied().unzip();
             script.call(&Call::Offer {
                 developer,
                 prices,
-                levels,
+                levels: levels_in_kwh(&levels),
             })
         })
     }

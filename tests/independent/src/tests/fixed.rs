@@ -6,7 +6,7 @@ use std::collections::BTreeSet;
 
 /// The refusals of each group, by kind and number.
 const REFUSED: [(&str, &[&str]); 10] = [
-    ("whole auctions", &["0203", "0302", "0402", "0502"]),
+    ("whole auctions", &["0203", "0302", "0305", "0407", "0502"]),
     ("phases", &["0102", "0202", "0302", "0402", "0502"]),
     ("settings", &["0101", "0102"]),
     ("registrations", &["0203", "0204"]),
