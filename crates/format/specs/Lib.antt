@@ -1,6 +1,7 @@
 pub mod Hex
 pub mod Lines
 pub mod Fields
+pub mod Written
 pub mod HexLaws
 pub mod LineLaws
 pub mod WidthLaws

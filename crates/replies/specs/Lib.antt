@@ -1,4 +1,5 @@
 pub mod Orders
+pub mod WrittenOrders
 pub mod Replies
 pub mod Lengths
 pub mod SampleRecord
