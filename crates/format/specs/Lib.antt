@@ -7,4 +7,5 @@ pub mod LineLaws
 pub mod WidthLaws
 pub mod TableLaws
 pub mod FieldLaws
+pub mod WrittenLaws
 pub mod Example
