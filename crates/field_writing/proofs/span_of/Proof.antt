@@ -3,9 +3,9 @@ use Prim.Native.Nat.{_+_, _-_}
 use native.Mathlib.Omega.{arith}
 use borrow.Author.Needs.{needs}
 use lib.ListN.{length, getD}
-use Rattle.frames.proofs.Putting.{Adding, adding-first, adding-next, adding-end}
-use Rattle.frames.proofs.span_of.Statement.{statement}
-use Rattle.frames.proofs.span_of.Tie as tie
+use Rattle.field_writing.proofs.Putting.{Adding, adding-first, adding-next, adding-end}
+use Rattle.field_writing.proofs.span_of.Statement.{statement}
+use Rattle.field_writing.proofs.span_of.Tie as tie
 
 abbrev Inv-loop : tie.InvT-loop
 Inv-loop widths sum₀ j₀ sum j = Adding widths sum j

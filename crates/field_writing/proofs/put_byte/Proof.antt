@@ -2,8 +2,8 @@
 use borrow.Author.Needs.{needs}
 use lib.Seq.{set-split}
 use Rattle.numbers.specs.Tails.{laid}
-use Rattle.frames.proofs.put_byte.Statement.{statement}
-use Rattle.frames.proofs.put_byte.Tie as tie
+use Rattle.field_writing.proofs.put_byte.Statement.{statement}
+use Rattle.field_writing.proofs.put_byte.Tie as tie
 
 slice-write-out : tie.Need-slice-write-out
 slice-write-out c = search needs

@@ -2,8 +2,8 @@
 use borrow.Author.Needs.{needs}
 use borrow.Author.Tests.{lt-ltb, le-ltb}
 use Rattle.format.specs.Hex.{charOf}
-use Rattle.frames.proofs.digit_of.Statement.{statement}
-use Rattle.frames.proofs.digit_of.Tie as tie
+use Rattle.field_writing.proofs.digit_of.Statement.{statement}
+use Rattle.field_writing.proofs.digit_of.Tie as tie
 
 cast-result : tie.Need-cast-result
 cast-result c = search needs

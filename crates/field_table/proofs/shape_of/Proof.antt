@@ -3,9 +3,10 @@ use Prim.Native.Nat.{_+_, _-_, _≤_, _<_}
 use native.Mathlib.Omega.{arith}
 use lib.ListN.{length, getD}
 use Rattle.format.specs.Fields.{fixed}
-use Rattle.frames.proofs.Shaping.{fitting-kind, Shaping, shaping-first, shaping-inside, shaping-room, shaping-next, shaping-end}
-use Rattle.frames.proofs.shape_of.Statement.{statement}
-use Rattle.frames.proofs.shape_of.Tie as tie
+use Rattle.field_table.specs.Fitting.{fitting-kind}
+use Rattle.field_table.proofs.Shaping.{Shaping, shaping-first, shaping-inside, shaping-room, shaping-next, shaping-end}
+use Rattle.field_table.proofs.shape_of.Statement.{statement}
+use Rattle.field_table.proofs.shape_of.Tie as tie
 
 abbrev Inv-loop : tie.InvT-loop
 Inv-loop kind row held widths₀ count₀ span₀ widths count span = Shaping (fixed kind) widths count span

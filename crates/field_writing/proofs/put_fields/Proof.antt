@@ -3,9 +3,9 @@ use Prim.Native.Nat.{_+_, _-_, _≤_}
 use native.Mathlib.Omega.{arith}
 use borrow.Author.Needs.{needs}
 use lib.ListN.{length, getD}
-use Rattle.frames.proofs.Putting.{Putting, putting-first, putting-room, putting-tail, putting-next, putting-end}
-use Rattle.frames.proofs.put_fields.Statement.{statement}
-use Rattle.frames.proofs.put_fields.Tie as tie
+use Rattle.field_writing.proofs.Putting.{Putting, putting-first, putting-room, putting-tail, putting-next, putting-end}
+use Rattle.field_writing.proofs.put_fields.Statement.{statement}
+use Rattle.field_writing.proofs.put_fields.Tie as tie
 
 abbrev Inv-loop : tie.InvT-loop
 Inv-loop out₀ widths values at₀ j₀ out at j = Putting widths values out₀ out at j

@@ -3,9 +3,9 @@ use Prim.Native.Nat.{_-_}
 use native.Mathlib.Omega.{arith}
 use lib.ListN.{length}
 use Rattle.format.specs.Fields.{rows}
-use Rattle.frames.proofs.Tables.{tabled, Looking, looking-first, looking-found, looking-next, looking-end}
-use Rattle.frames.proofs.row_of.Statement.{statement}
-use Rattle.frames.proofs.row_of.Tie as tie
+use Rattle.field_table.proofs.Tables.{tabled, Looking, looking-first, looking-found, looking-next, looking-end}
+use Rattle.field_table.proofs.row_of.Statement.{statement}
+use Rattle.field_table.proofs.row_of.Tie as tie
 
 abbrev Inv-loop : tie.InvT-loop
 Inv-loop kind i₀ i = Looking rows kind i

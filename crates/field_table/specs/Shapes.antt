@@ -6,8 +6,8 @@ use mathlib.Core.List.{_++_}
 use lib.ListN.{length, replicate}
 use Rattle.numbers.specs.Lists.{total, padded}
 use Rattle.format.specs.Fields.{listed, known, fixed, each}
-use Rattle.frames.specs.declared.Row.{Row}
-use Rattle.frames.specs.declared.Shape.{Shape}
+use Rattle.field_table.specs.declared.Row.{Row}
+use Rattle.field_table.specs.declared.Shape.{Shape}
 
 -- the row of a kind, whose own kind is 0 where the table has none
 pub record Tabled (k : ℕ) (r : Row) : Type 0 where

@@ -12,8 +12,8 @@ use Rattle.format.specs.Fields as format
 use Rattle.format.specs.Fields.{noRow, rowIn}
 use Rattle.format.specs.Fields.{rows, known, fixed, each}
 use Rattle.format.specs.TableLaws.{row-here, row-kind}
-use Rattle.frames.specs.declared.Row.{Row}
-use Rattle.frames.specs.Shapes.{Tabled}
+use Rattle.field_table.specs.declared.Row.{Row}
+use Rattle.field_table.specs.Shapes.{Tabled}
 
 -- a row whose widths a 0 ends
 abbrev pub coded : format.Row → Row

@@ -1,9 +1,9 @@
 -- The digits are written from the low end; the loop keeps `Writing`.
 use Prim.Native.Nat.{_-_}
 use native.Mathlib.Omega.{arith}
-use Rattle.frames.proofs.Writing.{Writing, writing-first, writing-next, writing-end}
-use Rattle.frames.proofs.put_hex.Statement.{statement}
-use Rattle.frames.proofs.put_hex.Tie as tie
+use Rattle.field_writing.proofs.Writing.{Writing, writing-first, writing-next, writing-end}
+use Rattle.field_writing.proofs.put_hex.Statement.{statement}
+use Rattle.field_writing.proofs.put_hex.Tie as tie
 
 abbrev Inv-loop : tie.InvT-loop
 Inv-loop out₀ value width v₀ i₀ out v i = Writing out₀ value width out v i
