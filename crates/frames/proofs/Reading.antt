@@ -1,13 +1,13 @@
 -- Reading a line by the table: its fields one by one, and what the tests of `decode` say of the line.
-use Prim.Native.Nat.{ℕ, _+_, _-_, _*_, _^_, _≤_, _<_}
-use mathlib.Core.Path.{_≡_, refl, sym, ap, ap₂, _∙_}
+use Prim.Native.Nat.{ℕ, _+_, _-_, _*_, _≤_, _<_}
+use mathlib.Core.Path.{_≡_, refl, sym, ap, _∙_}
 use mathlib.Core.Bool.{true}
 use mathlib.Core.List.{List, [], _∷_, _++_, append-assoc, append-nil}
 use mathlib.Core.Option.{some}
 use native.Mathlib.Numerals.{add-one}
 use native.Mathlib.Omega.{arith}
 use lib.ListN.{length, take, drop, getD, set, replicate, length-set, length-replicate, drop-of-length-le}
-use lib.Seq.{drop-cons, drop-drop, getD-take, take-suc-set}
+use lib.Seq.{drop-cons, drop-drop, take-suc-set}
 use Rattle.numbers.specs.Lists.{total}
 use Rattle.format.specs.Hex.{allHex, number}
 use Rattle.format.specs.Fields.{listed, known, longest, RawCall, fixed, each, count, repeats, layout, fieldsAt, kindOf, asked, callOf, read}
@@ -16,7 +16,6 @@ use Rattle.format.specs.FieldLaws.{WellFormed, reads, reads-none, total-layout}
 use Rattle.field_table.specs.Fitting.{repeats-few}
 use Rattle.frames.specs.declared.Frame.{Frame}
 use Rattle.frames.specs.Decoded.{callIn, Zero, call-none, call-some}
-
 
 -- ---- field by field: what was read, and what is left of the widths and of the line
 

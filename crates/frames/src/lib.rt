@@ -9,9 +9,9 @@ ghost use Rattle.format.specs.Lines.{run, part, lineStart, lineEnd};
 ghost use Rattle.format.specs.Fields.{fixed, repeats, fieldsAt, read};
 ghost use Rattle.field_table.specs.Shapes.{Shaped};
 ghost use Rattle.frames.specs.Decoded.{callIn, Zero};
-use field_table::Shape;
 use field_table::LISTED;
 use field_table::LONGEST;
+use field_table::Shape;
 
 // Whether a byte is one of 0-9 and A-F.
 fn is_hex(c: u8) -> bool

@@ -1,7 +1,7 @@
 -- The widths of the row are copied up to the 0 that ends them; the loop keeps `Shaping`.
-use Prim.Native.Nat.{_+_, _-_, _≤_, _<_}
+use Prim.Native.Nat.{_-_, _<_}
 use native.Mathlib.Omega.{arith}
-use lib.ListN.{length, getD}
+use lib.ListN.{length}
 use Rattle.format.specs.Fields.{fixed}
 use Rattle.field_table.specs.Fitting.{fitting-kind}
 use Rattle.field_table.proofs.Shaping.{Shaping, shaping-first, shaping-inside, shaping-room, shaping-next, shaping-end}
