@@ -1,6 +1,5 @@
 -- The list is copied one by one; the loop keeps `Joining`.
 use Prim.Native.Nat.{_-_}
-use mathlib.Core.Path.{_≡_}
 use native.Mathlib.Omega.{arith}
 use borrow.Author.Needs.{needs}
 use lib.ListN.{length}

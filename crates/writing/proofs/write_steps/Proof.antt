@@ -1,15 +1,11 @@
 -- Steps that were gathered are the paired lists; of unequal lists, and of more steps than the array holds, the answer is 14.
-use Prim.Native.Nat.{ℕ, _*_}
-use mathlib.Core.Path.{_≡_, refl, sym, ap, _∙_, subst}
-use mathlib.Core.Bool.{false, _&&_}
+use Prim.Native.Nat.{ℕ}
+use mathlib.Core.Path.{_≡_, refl, sym, ap, _∙_}
 use mathlib.Core.List.{List, _∷_}
 use native.Mathlib.Omega.{arith}
 use borrow.Author.Needs.{needs}
-use borrow.Author.Tests.{eq-eqb, ne-eqb}
-use lib.ListN.{length, take}
-use Rattle.format.specs.Written.{frameOf, writable}
-use Rattle.replies.specs.WrittenOrders.{raw, paired}
-use Rattle.frame_writing.specs.Lodged.{Encodes, Lodges}
+use lib.ListN.{length}
+use Rattle.replies.specs.WrittenOrders.{paired}
 use Rattle.frame_writing.specs.LodgedLaws.{not-writable, too-many}
 use Rattle.writing.proofs.Gathering.{length-paired, same-fields, equal-lists, unequal-lists}
 use Rattle.writing.proofs.write_steps.Statement.{statement}
