@@ -117,11 +117,14 @@ module _ (c : RawCall) (f : Formed c) (k : ℕ) (e : c .kind ≡ k) where
         let r = paired-back (drop (suc m) ns) (getD ns m 0) (behind ∙ rw two) in
         (counted _ _ (r .prices) (r .same), eq-eqb _ _ (r .prices ∙ sym (r .levels)))
 
--- an order that something asks comes from no other kind and fields
-record From (c : RawCall) (o : Order) : Type 0 where
-  back : (o ≡ Malformed → ⊥) → (rawOf o ≡ c) × (listsMatch o ≡ true)
+-- an order that asks something has the kind and fields that it was read from
+abbrev Same : RawCall → Order → Type 0
+Same c o = (rawOf o ≡ c) × (listsMatch o ≡ true)
 
-at-kind : (c : RawCall) (k : ℕ) (x y : Order) → (c .kind ≡ k → (rawOf x ≡ c) × (listsMatch x ≡ true)) → From c y → From c (cond (eqb (c .kind) k) x y)
+record From (c : RawCall) (o : Order) : Type 0 where
+  back : (o ≡ Malformed → ⊥) → Same c o
+
+at-kind : (c : RawCall) (k : ℕ) (x y : Order) → (c .kind ≡ k → Same c x) → From c y → From c (cond (eqb (c .kind) k) x y)
 at-kind c k x y here other = go (eqb (c .kind) k) refl
   where
     go : (b : Bool) → eqb (c .kind) k ≡ b → From c (cond b x y)
@@ -149,7 +152,8 @@ order-reads o e =
     ap ordered (reads-back (rawOf o) (t .1)) ∙ order-raw o (t .0)
 
 -- each line that asks something, read and then written, is the same bytes, 0A added
-pub line-writes : (l : List ℕ) (o : Order) → orderIn l ≡ o → (o ≡ Malformed → ⊥) → (frameOfOrder o ≡ l ++ (10 ∷ [])) × (writableOrder o ≡ true)
+pub line-writes : (l : List ℕ) (o : Order) → orderIn l ≡ o → (o ≡ Malformed → ⊥)
+    → (frameOfOrder o ≡ l ++ (10 ∷ [])) × (writableOrder o ≡ true)
 unfolding orderIn ordered writableOrder frameOfOrder frameOf
 line-writes l o e asks = go (read l) refl e
   where
