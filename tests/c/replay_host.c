@@ -1,16 +1,9 @@
 /*
- * A C host of both calls. Records and buffers have exact lengths, in memory where a byte beyond
- * either end is seen: on the heap by the sanitizers, beside closed pages by the processor, which
- * watches the engine's own code too.
+ * A C host of demand and replay. Records and buffers have exact lengths (memory.h).
  * Prints what fails; the exit status is 0 only if nothing does.
  */
-#define _DEFAULT_SOURCE
-#include <inttypes.h>
-#include <stdio.h>
-#include <stdlib.h>
+#include "memory.h"
 #include <string.h>
-#include <sys/mman.h>
-#include <unistd.h>
 
 #include "reference_engine.h"
 
@@ -47,83 +40,15 @@ static const struct check checks[] = {
     {"closing before set-up", "05", "0502\n"},
 };
 
-/* What lent buffers hold before a call. */
-enum { UNTOUCHED = 0xEE };
-
 static unsigned made, failed;
 
-static void expect(int holds, const char *memory, const char *name, size_t length)
+static void expect(int passes, const char *memory, const char *name, size_t length)
 {
     made++;
-    if (holds)
+    if (passes)
         return;
     failed++;
     printf("replay_host: %s: %s, buffer of %zu bytes\n", memory, name, length);
-}
-
-static void *must(void *memory)
-{
-    if (memory == NULL || memory == MAP_FAILED) {
-        perror("replay_host");
-        exit(EXIT_FAILURE);
-    }
-    return memory;
-}
-
-/* Pages for so many bytes between two closed ones. They are kept until the program ends. */
-static uint8_t *open_pages(size_t length, size_t *opened)
-{
-    size_t page = (size_t)sysconf(_SC_PAGESIZE);
-    *opened = (length / page + 1) * page;
-    uint8_t *pages = must(mmap(NULL, *opened + 2 * page, PROT_NONE,
-                               MAP_PRIVATE | MAP_ANONYMOUS, -1, 0));
-    if (mprotect(pages + page, *opened, PROT_READ | PROT_WRITE) != 0)
-        must(NULL);
-    return pages + page;
-}
-
-static uint8_t *before_closed_page(size_t length)
-{
-    size_t opened;
-    uint8_t *pages = open_pages(length, &opened);
-    return pages + opened - length;
-}
-
-static uint8_t *behind_closed_page(size_t length)
-{
-    size_t opened;
-    return open_pages(length, &opened);
-}
-
-static uint8_t *on_heap(size_t length)
-{
-    return must(malloc(length));
-}
-
-struct memory {
-    const char *name;
-    uint8_t *(*lend)(size_t length);
-    void (*give_back)(void *lent);
-};
-
-static void keep(void *lent)
-{
-    (void)lent;
-}
-
-static const struct memory memories[] = {
-    {"heap", on_heap, free},
-    {"before a closed page", before_closed_page, keep},
-    {"behind a closed page", behind_closed_page, keep},
-};
-
-/* Whether the buffer holds the replies and is untouched behind them. */
-static int holds_replies(const uint8_t *buffer, size_t length, const char *replies, size_t written)
-{
-    for (size_t i = 0; i < length; i++)
-        if (buffer[i] != (i < written ? (uint8_t)replies[i] : UNTOUCHED))
-            return 0;
-    return 1;
 }
 
 /* Replays the record into a buffer of so many bytes. */
@@ -138,7 +63,7 @@ static void replay_into(const struct memory *memory, const struct check *check, 
     int fits = replies_length <= length;
     size_t written = fits ? replies_length : 0;
     expect(result == (fits ? replies_length : REFERENCE_ENGINE_REFUSAL(11)) &&
-               holds_replies(buffer, length, check->replies, written) &&
+               holds(buffer, length, check->replies, written) &&
                memcmp(record, check->record, record_length) == 0,
            memory->name, check->name, length);
     memory->give_back(record);

@@ -1,7 +1,8 @@
 /*
  * A deliberately wrong engine over the right one, to see that the comparisons report a fault.
  * WRONG in the environment names it: demand (one kWh more), digit (the last digit of the
- * replies) or behind (the byte behind the replies); without it the engine is right.
+ * replies), behind (the byte behind the replies), step (the last digit of an offer's frame) or
+ * width (an opening's price cut to its field); without it the engine is right.
  */
 #include "reference_engine.h"
 #include <stdlib.h>
@@ -10,6 +11,10 @@
 uint64_t right_demand(uint64_t ce, uint64_t d, uint64_t m1, uint64_t m2, uint64_t p);
 uint64_t right_replay(const uint8_t *record, size_t record_length, uint8_t *replies,
                       size_t replies_length);
+uint64_t right_write_opening(uint64_t c, uint8_t *frame, size_t frame_length);
+uint64_t right_write_offer(uint64_t developer, const uint64_t *prices, size_t prices_length,
+                           const uint64_t *levels, size_t levels_length, uint8_t *frame,
+                           size_t frame_length);
 
 static int fault(const char *name) {
     const char *wrong = getenv("WRONG");
@@ -30,5 +35,19 @@ uint64_t replay(const uint8_t *record, size_t record_length, uint8_t *replies,
         replies[written - 2] ^= 1;
     if (fault("behind") && written < replies_length)
         replies[written] ^= 1;
+    return written;
+}
+
+uint64_t write_opening(uint64_t c, uint8_t *frame, size_t frame_length) {
+    return right_write_opening(fault("width") ? (uint32_t)c : c, frame, frame_length);
+}
+
+uint64_t write_offer(uint64_t developer, const uint64_t *prices, size_t prices_length,
+                     const uint64_t *levels, size_t levels_length, uint8_t *frame,
+                     size_t frame_length) {
+    uint64_t written = right_write_offer(developer, prices, prices_length, levels, levels_length,
+                                         frame, frame_length);
+    if (written <= frame_length && prices_length > 0 && fault("step"))
+        frame[written - 2] ^= 1;
     return written;
 }

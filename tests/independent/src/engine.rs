@@ -2,6 +2,8 @@
 //! Only the programs under `bin/` take this module in; the library links no engine.
 #![allow(dead_code, reason = "a program makes the calls that it tests")]
 
+use independent::replay::Fields;
+
 mod host {
     #[link(name = "host", kind = "static")]
     extern "C" {
@@ -12,6 +14,38 @@ mod host {
             replies: *mut u8,
             replies_length: usize,
         ) -> u64;
+        pub fn write_set_up(
+            ce: u64,
+            d: u64,
+            m1: u64,
+            m2: u64,
+            a: u64,
+            frame: *mut u8,
+            frame_length: usize,
+        ) -> u64;
+        pub fn write_registration(
+            project: u64,
+            developer: u64,
+            kind: u64,
+            study: u64,
+            day: u64,
+            levels: *const u64,
+            levels_length: usize,
+            frame: *mut u8,
+            frame_length: usize,
+        ) -> u64;
+        pub fn write_opening(c: u64, frame: *mut u8, frame_length: usize) -> u64;
+        pub fn write_offer(
+            developer: u64,
+            prices: *const u64,
+            prices_length: usize,
+            levels: *const u64,
+            levels_length: usize,
+            frame: *mut u8,
+            frame_length: usize,
+        ) -> u64;
+        pub fn write_closing(frame: *mut u8, frame_length: usize) -> u64;
+        pub fn write_settling(limit: u64, frame: *mut u8, frame_length: usize) -> u64;
     }
 }
 
@@ -32,5 +66,41 @@ pub fn replay(record: &[u8], replies: &mut [u8]) -> u64 {
             replies.as_mut_ptr(),
             replies.len(),
         )
+    }
+}
+
+/// The number of bytes written from the start of `frame`, or 2^64 - 13 or 2^64 - 14 for those
+/// refusals: the call of the fields' kind.
+pub fn write(fields: &Fields, frame: &mut [u8]) -> u64 {
+    let (start, length) = (frame.as_mut_ptr(), frame.len());
+    // SAFETY: the calls read the lists and write the frame; an exclusive borrow keeps them apart.
+    unsafe {
+        match (fields.kind, &fields.numbers[..], &fields.lists[..]) {
+            (1, &[ce, d, m1, m2, a], []) => host::write_set_up(ce, d, m1, m2, a, start, length),
+            (2, &[project, developer, kind, study, day], [levels]) => host::write_registration(
+                project,
+                developer,
+                kind,
+                study,
+                day,
+                levels.as_ptr(),
+                levels.len(),
+                start,
+                length,
+            ),
+            (3, &[c], []) => host::write_opening(c, start, length),
+            (4, &[developer], [prices, levels]) => host::write_offer(
+                developer,
+                prices.as_ptr(),
+                prices.len(),
+                levels.as_ptr(),
+                levels.len(),
+                start,
+                length,
+            ),
+            (5, [], []) => host::write_closing(start, length),
+            (6, &[limit], []) => host::write_settling(limit, start, length),
+            _ => panic!("no call: {fields:?}"),
+        }
     }
 }

@@ -4,7 +4,9 @@
 //! Where the paper gives a rule and a formula for it, this one takes the rule.
 
 pub mod auction;
+pub mod calls;
 mod demand;
+pub mod lent;
 pub mod program;
 pub mod random;
 pub mod records;
@@ -47,6 +49,13 @@ pub const ABOVE_THE_LIMIT: u8 = 10;
 pub const BUFFER_TOO_SHORT: u8 = 11;
 /// Refusal 12: malformed line.
 pub const MALFORMED_LINE: u8 = 12;
+
+// The numbers of document 02.
+
+/// Refusal 13: buffer too short for the frame.
+pub const FRAME_BUFFER_TOO_SHORT: u8 = 13;
+/// Refusal 14: call not writable.
+pub const NOT_WRITABLE: u8 = 14;
 
 /// The one number of 64 bits that a C host gets: for a refusal, 2^64 less its number.
 pub fn host_number(answer: Answer) -> u64 {

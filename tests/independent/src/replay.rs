@@ -1,12 +1,18 @@
-//! Replay of a recorded auction: frames in, replies out (document 01, Frames).
+//! Replay of a recorded auction: frames in, replies out (document 01, Frames); and frames out
+//! (document 02, request 2).
 
 mod frames;
+mod writing;
 
 use crate::auction::Auction;
 use crate::settling::Settlement;
 use crate::{host_number, BUFFER_TOO_SHORT, MALFORMED_LINE};
-use frames::digits;
-pub use frames::{kind_of, lines, next_line, read_call, write_call, Call, LONGEST_LINE};
+pub use frames::{lines, next_line, read_call, Call, LONGEST_LINE};
+pub(crate) use frames::{row, Row, KIND_WIDTH, ROWS};
+use writing::digits;
+pub use writing::{
+    causes, fields, frame, frame_length, kind_of, write_call, write_frame, Cause, Fields,
+};
 
 /// All replies to a record, run from a fresh auction.
 pub fn replay(record: &[u8]) -> Vec<u8> {

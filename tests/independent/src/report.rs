@@ -10,9 +10,14 @@ use std::collections::BTreeMap;
 use std::fmt::Write;
 use std::process::ExitCode;
 
-/// So many generated inputs, or a hundredth of them where `FEW` is set: enough for a coarse fault.
+/// Whether `FEW` is set: a few inputs are enough for a coarse fault.
+pub fn few() -> bool {
+    std::env::var_os("FEW").is_some()
+}
+
+/// So many generated inputs, or a hundredth of them where few are enough.
 pub fn inputs(many: u64) -> u64 {
-    if std::env::var_os("FEW").is_some() {
+    if few() {
         many / 100
     } else {
         many
@@ -36,6 +41,8 @@ pub struct Group {
     settled: u64,
     /// Replies by kind and answer, the first four digits.
     replies: BTreeMap<String, u64>,
+    /// Lines that the engine wrote again.
+    written: u64,
     closings: Closings,
     difference: Option<String>,
 }
@@ -47,6 +54,7 @@ impl Group {
             records: 0,
             settled: 0,
             replies: BTreeMap::new(),
+            written: 0,
             closings: Closings::default(),
             difference: None,
         }
@@ -63,6 +71,11 @@ impl Group {
             let kind_and_answer = shown(&reply[..reply.len().min(4)]);
             *self.replies.entry(kind_and_answer).or_default() += 1;
         }
+    }
+
+    /// Counts a line that the engine wrote again.
+    pub fn count_written(&mut self) {
+        self.written += 1;
     }
 
     /// Keeps the first difference: the record, and two replies to it with whose they are.
@@ -93,6 +106,9 @@ impl Group {
             "{name}: {records} records, {percent:.1}% settle, {replies} replies ({}): {verdict}",
             counts.join(", ")
         );
+        if self.written > 0 {
+            println!("  well-formed lines written again: {}", self.written);
+        }
         self.closings.print();
         self.difference.is_none()
     }

@@ -12,6 +12,7 @@ mod sample;
 mod settling;
 mod shares;
 mod trace;
+mod writing;
 
 use crate::auction::{Auction, EXISTING, NEW};
 use crate::records::record;

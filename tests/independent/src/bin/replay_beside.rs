@@ -1,36 +1,39 @@
 //! Runs the engine's replay call beside the independent implementation.
 //! Each record is replayed into buffers that are one byte too short, exact, and longer; every
-//! byte of them, and of their surroundings, is compared.
+//! byte of them, and of their surroundings, is compared. Each well-formed line is also written
+//! again by the engine, which has to give the same bytes, with their 0A.
 //! One line a group of records: their replies by kind and answer, and `ok` or the first
-//! difference; below it, how many rounds closed where the closing rule decides. The exit status
-//! is 0 only if no group differs.
+//! difference; below it, how many lines were written again, and how many rounds closed where the
+//! closing rule decides. The exit status is 0 only if no group differs.
 
 #[path = "../engine.rs"]
 mod engine;
 
+use independent::lent::{difference, lend};
 use independent::random::Random;
 use independent::records::{edges, fixed, record, Records};
-use independent::replay::{replay, write_replies};
-use independent::report::{inputs, verdict, Group};
+use independent::replay::{fields, lines, read_call, replay, write_replies, Call};
+use independent::report::{few, inputs, verdict, Group};
 use independent::sample;
 use std::process::ExitCode;
 
 fn main() -> ExitCode {
     // Each group is reported when it is done, also behind one that differs.
     let stated = STATED.map(|group| group().report());
-    let fixed = fixed::groups().map(|(name, records)| compared(name, records).report());
-    let compared = COMPARED.map(|(name, records)| compared(name, records()).report());
+    let fixed = fixed::groups().map(|(name, records)| compare_all(name, records).report());
+    let sizes = if few() { &[][..] } else { &SIZES };
+    let compared = COMPARED.iter().chain(sizes);
+    let compared: Vec<bool> = compared
+        .map(|(name, records)| compare_all(name, records()).report())
+        .collect();
     verdict(stated.iter().chain(&fixed).chain(&compared))
 }
 
 const STATED: [fn() -> Group; 2] = [sample_record, twelve_numbers];
 
-const COMPARED: [(&str, Records); 7] = [
+const COMPARED: [(&str, Records); 4] = [
     ("edges of lines", edges::lines),
     ("damaged samples", edges::damaged_samples),
-    ("sizes of records", edges::record_sizes),
-    ("sizes of replies", edges::reply_sizes),
-    ("largest books", edges::largest_books),
     // The seeds whose shares the tests of the independent implementation look at.
     ("generated", || (0..inputs(20_000)).map(record).collect()),
     ("few different bytes", || {
@@ -38,7 +41,13 @@ const COMPARED: [(&str, Records); 7] = [
     }),
 ];
 
-fn compared(name: &'static str, records: Vec<Vec<u8>>) -> Group {
+const SIZES: [(&str, Records); 3] = [
+    ("sizes of records", edges::record_sizes),
+    ("sizes of replies", edges::reply_sizes),
+    ("largest books", edges::largest_books),
+];
+
+fn compare_all(name: &'static str, records: Vec<Vec<u8>>) -> Group {
     let mut group = Group::new(name);
     for record in records {
         compare(&mut group, &record);
@@ -52,6 +61,23 @@ fn compare(group: &mut Group, record: &[u8]) {
     group.count(record, &independent);
     for length in lengths_around(independent.len()) {
         compare_lent(group, record, &independent, length);
+    }
+    for line in lines(record) {
+        if let Some(call) = read_call(line) {
+            write_again(group, line, &call);
+        }
+    }
+}
+
+/// A line's call, written by the engine (document 02, request 2).
+fn write_again(group: &mut Group, line: &[u8], call: &Call) {
+    group.count_written();
+    let frame = [line, b"\n"].concat();
+    let mut buffer = vec![0; frame.len()];
+    let number = engine::write(&fields(call), &mut buffer);
+    if (number, &buffer) != (frame.len() as u64, &frame) {
+        let frames = [("engine", &buffer[..]), ("line", &frame)];
+        group.differ(&format!("a line written again: {number:#X}"), line, frames);
     }
 }
 
@@ -74,31 +100,15 @@ fn lengths_around(replies: usize) -> Vec<usize> {
     [replies].into_iter().chain(short).chain(longer).collect()
 }
 
-/// Bytes on either side of the lent buffer, which no call may touch.
-const MARGIN: usize = 64;
-
 /// Compares a call with a buffer of so many bytes.
 fn compare_lent(group: &mut Group, record: &[u8], independent: &[u8], length: usize) {
     let engine = lend(length, |buffer| engine::replay(record, buffer));
     let expected = lend(length, |buffer| write_replies(independent, buffer));
-    if engine != expected {
-        let byte = std::iter::zip(engine.1, expected.1).position(|(got, wanted)| got != wanted);
-        let why = format!(
-            "buffer of {length} bytes: engine gives {:#X}, expected {:#X}; first byte that \
-             differs, counted from {MARGIN} before the buffer: {byte:?}",
-            engine.0, expected.0
-        );
+    if let Some(why) = difference(length, &engine, &expected) {
         let engine = engines_replies(record, 2 * independent.len() + (1 << 16));
         let replies = [("engine", &engine[..]), ("independent", independent)];
         group.differ(&why, record, replies);
     }
-}
-
-/// A call with a buffer of so many bytes: its number, and the memory that the buffer is in.
-fn lend(length: usize, call: impl FnOnce(&mut [u8]) -> u64) -> (u64, Vec<u8>) {
-    let mut memory = pattern(MARGIN + length + MARGIN);
-    let number = call(&mut memory[MARGIN..MARGIN + length]);
-    (number, memory)
 }
 
 /// What the engine writes into a buffer of so many bytes.
@@ -107,11 +117,6 @@ fn engines_replies(record: &[u8], length: usize) -> Vec<u8> {
     let written = engine::replay(record, &mut replies);
     replies.truncate(usize::try_from(written).unwrap_or(0));
     replies
-}
-
-/// Bytes of which no two neighbours are alike.
-fn pattern(length: usize) -> Vec<u8> {
-    (0..length).map(|place| (place * 37 % 251) as u8).collect()
 }
 
 /// The paper's sample, with buffers of every length up to its reply's.

@@ -33,31 +33,31 @@ pub enum Call {
     },
 }
 
-const SET_UP: u8 = 1;
-const REGISTRATION: u8 = 2;
-const OPEN: u8 = 3;
-const OFFER: u8 = 4;
-const CLOSE: u8 = 5;
-const SETTLE: u8 = 6;
+pub(super) const SET_UP: u8 = 1;
+pub(super) const REGISTRATION: u8 = 2;
+pub(super) const OPEN: u8 = 3;
+pub(super) const OFFER: u8 = 4;
+pub(super) const CLOSE: u8 = 5;
+pub(super) const SETTLE: u8 = 6;
 
 /// The fields of one kind of frame. Those of an item stand as often as the count says, which
 /// is then the last field before them.
-struct Frame {
-    kind: u8,
-    fields: &'static [Field],
-    item: &'static [Field],
+pub(crate) struct Row {
+    pub(crate) kind: u8,
+    pub(crate) fields: &'static [Field],
+    pub(crate) item: &'static [Field],
 }
 
 /// A field's name and its width in hexadecimal digits.
 type Field = (&'static str, usize);
 
-const FRAMES: [Frame; 6] = [
-    Frame {
+pub(crate) const ROWS: [Row; 6] = [
+    Row {
         kind: SET_UP,
         fields: &[("CE", 8), ("D", 10), ("M1", 10), ("M2", 10), ("A", 8)],
         item: &[],
     },
-    Frame {
+    Row {
         kind: REGISTRATION,
         fields: &[
             ("project", 2),
@@ -69,35 +69,35 @@ const FRAMES: [Frame; 6] = [
         ],
         item: &[("level", 8)],
     },
-    Frame {
+    Row {
         kind: OPEN,
         fields: &[("C", 8)],
         item: &[],
     },
-    Frame {
+    Row {
         kind: OFFER,
         fields: &[("developer", 2), ("count", 2)],
         item: &[("price", 8), ("level", 8)],
     },
-    Frame {
+    Row {
         kind: CLOSE,
         fields: &[],
         item: &[],
     },
-    Frame {
+    Row {
         kind: SETTLE,
         fields: &[("limit", 8)],
         item: &[],
     },
 ];
 
-const KIND_WIDTH: usize = 2;
+pub(crate) const KIND_WIDTH: usize = 2;
 
 /// The most characters of a line.
 pub const LONGEST_LINE: usize = 160;
 
-fn frame(kind: u8) -> Option<&'static Frame> {
-    FRAMES.iter().find(|frame| frame.kind == kind)
+pub(crate) fn row(kind: u8) -> Option<&'static Row> {
+    ROWS.iter().find(|row| row.kind == kind)
 }
 
 /// The part of the record from the position to the next 0A or the end, without the 0A.
@@ -126,12 +126,12 @@ pub fn read_call(line: &[u8]) -> Option<Call> {
     }
     let mut rest = line;
     let kind = narrow(take_number(&mut rest, KIND_WIDTH)?);
-    let frame = frame(kind)?;
-    let mut numbers = take_fields(&mut rest, frame.fields)?;
-    if !frame.item.is_empty() {
+    let row = row(kind)?;
+    let mut numbers = take_fields(&mut rest, row.fields)?;
+    if !row.item.is_empty() {
         let count = *numbers.last().expect("the count");
         for _ in 0..count {
-            numbers.extend(take_fields(&mut rest, frame.item)?);
+            numbers.extend(take_fields(&mut rest, row.item)?);
         }
     }
     rest.is_empty().then(|| call(kind, &numbers))
@@ -198,70 +198,4 @@ fn call(kind: u8, numbers: &[u64]) -> Call {
         },
         _ => unreachable!("the numbers are those of the table"),
     }
-}
-
-/// The line of a call, without its 0A; it may be longer than a reader takes.
-pub fn write_call(call: &Call) -> Vec<u8> {
-    let (kind, numbers) = kind_and_numbers(call);
-    let frame = frame(kind).expect("a kind of the table");
-    let fields = frame.fields.iter().chain(frame.item.iter().cycle());
-    let mut line = digits(kind.into(), KIND_WIDTH);
-    for (number, &(_, width)) in numbers.into_iter().zip(fields) {
-        line += &digits(number, width);
-    }
-    line.into_bytes()
-}
-
-pub fn kind_of(call: &Call) -> u8 {
-    kind_and_numbers(call).0
-}
-
-fn kind_and_numbers(call: &Call) -> (u8, Vec<u64>) {
-    match call {
-        &Call::SetUp { ce, d, m1, m2, a } => (SET_UP, vec![ce, d, m1, m2, a]),
-        Call::Register {
-            project,
-            developer,
-            kind,
-            study_value,
-            start_day,
-            levels,
-        } => {
-            let bytes = [project, developer, kind].map(|&byte| u64::from(byte));
-            let words = [study_value, start_day].map(|&word| u64::from(word));
-            let levels_and_count = counted(levels.iter().map(|&level| vec![level.into()]));
-            (
-                REGISTRATION,
-                [&bytes[..], &words, &levels_and_count].concat(),
-            )
-        }
-        &Call::Open { c } => (OPEN, vec![c.into()]),
-        Call::Offer {
-            developer,
-            prices,
-            levels,
-        } => {
-            let steps = prices.iter().zip(levels);
-            let steps = steps.map(|(&price, &level)| vec![price.into(), level.into()]);
-            (
-                OFFER,
-                [&[(*developer).into()], &counted(steps)[..]].concat(),
-            )
-        }
-        Call::Close => (CLOSE, Vec::new()),
-        &Call::Settle { limit } => (SETTLE, vec![limit.into()]),
-    }
-}
-
-/// The count of the items, then their numbers.
-fn counted(items: impl ExactSizeIterator<Item = Vec<u64>>) -> Vec<u64> {
-    let count = items.len() as u64;
-    std::iter::once(count).chain(items.flatten()).collect()
-}
-
-/// The number in hexadecimal digits, as many as the width says.
-pub fn digits(number: u64, width: usize) -> String {
-    let digits = format!("{number:0width$X}");
-    assert_eq!(digits.len(), width, "{number} is wider than its field");
-    digits
 }
