@@ -18,8 +18,10 @@ use Rattle.rules.specs.Sample.{sample, SampleSettled, shown-jointly}
 use Rattle.format.specs.Hex.{isHex, valueOf, charOf, digits, numberFrom}
 use Rattle.format.specs.Fields.{known, fixed, each, count, layout, fieldsAt, textAt, kindOf, asked, wellFormed, callOf, read}
 use Rattle.format.specs.Lines.{onFirst, lines}
+use Rattle.format.specs.Written.{widthsOf, lineOf, frameOf}
 use Rattle.format.specs.Example.{codes}
 use Rattle.replies.specs.Orders.{Order, Asks, Settle, firsts, seconds, orderOf, ordered, orderIn}
+use Rattle.replies.specs.WrittenOrders.{paired, rawOf, frameOfOrder}
 use Rattle.replies.specs.Replies.{closingText, settlingText, answerLine, replyTo, after, repliesFrom, replies}
 
 -- a line, ended by 0A
@@ -65,6 +67,11 @@ unfolding codes line text all any total
     isHex valueOf numberFrom known fixed each count layout fieldsAt textAt kindOf asked wellFormed callOf read onFirst lines
     firsts seconds orderOf ordered orderIn
 sample-asks = refl
+
+-- the writer's frames of these calls are the record (document 02, 2)
+pub sample-written : flatten (map frameOfOrder (map Asks sample ++ (Settle 100 ∷ []))) ≡ sampleRecord
+unfolding codes line text flatten charOf digits fixed each count layout textAt widthsOf lineOf frameOf paired rawOf frameOfOrder
+sample-written = refl
 
 sample-replied : replies sampleRecord ≡ sampleReply
 unfolding codes line text flatten oneTo keep total greatest lastOr any all leastFrom dem inBounds

@@ -3,7 +3,7 @@
 -- line for each kind); all else are the laws of the table (format, WrittenLaws).
 use Prim.Native.Nat.{ℕ, zero, suc, _+_, _-_, _*_, _≤_}
 use mathlib.Core.Path.{_≡_, refl, sym, ap, ap₂, _∙_, subst}
-use mathlib.Core.Bool.{Bool, true, false, cond}
+use mathlib.Core.Bool.{Bool, true, false, cond, false≢true}
 use mathlib.Core.List.{List, [], _∷_, _++_, map, flatten, append-nil}
 use mathlib.Core.Option.{Option, none, some}
 use native.Mathlib.Omega.{arith}
@@ -13,8 +13,9 @@ use lib.Seq.{drop-cons}
 use borrow.Author.Tests.{eqb-true, eq-eqb}
 use Rattle.numbers.specs.Cases.{and-true}
 use Rattle.numbers.specs.Lists.{all}
-use Rattle.format.specs.Fields.{RawCall, fixed, each, read}
-use Rattle.format.specs.FieldLaws.{Formed, formed, as-many-at, listed-fields}
+use Rattle.numbers.specs.ListLaws.{any-true, all-true}
+use Rattle.format.specs.Fields.{Row, rows, known, RawCall, fixed, each, kindOf, callOf, read}
+use Rattle.format.specs.FieldLaws.{WellFormed, reads, Formed, formed, as-many-at, listed-fields}
 use Rattle.format.specs.Lines.{lines}
 use Rattle.format.specs.Written.{lineOf, frameOf, writable}
 use Rattle.format.specs.WrittenLaws.{reads-back, writes-back, frame-first}
@@ -117,11 +118,14 @@ module _ (c : RawCall) (f : Formed c) (k : ℕ) (e : c .kind ≡ k) where
         let r = paired-back (drop (suc m) ns) (getD ns m 0) (behind ∙ rw two) in
         (counted _ _ (r .prices) (r .same), eq-eqb _ _ (r .prices ∙ sym (r .levels)))
 
--- an order that something asks comes from no other kind and fields
-record From (c : RawCall) (o : Order) : Type 0 where
-  back : (o ≡ Malformed → ⊥) → (rawOf o ≡ c) × (listsMatch o ≡ true)
+-- an order that asks something has the kind and fields that it was read from
+abbrev Same : RawCall → Order → Type 0
+Same c o = (rawOf o ≡ c) × (listsMatch o ≡ true)
 
-at-kind : (c : RawCall) (k : ℕ) (x y : Order) → (c .kind ≡ k → (rawOf x ≡ c) × (listsMatch x ≡ true)) → From c y → From c (cond (eqb (c .kind) k) x y)
+record From (c : RawCall) (o : Order) : Type 0 where
+  back : (o ≡ Malformed → ⊥) → Same c o
+
+at-kind : (c : RawCall) (k : ℕ) (x y : Order) → (c .kind ≡ k → Same c x) → From c y → From c (cond (eqb (c .kind) k) x y)
 at-kind c k x y here other = go (eqb (c .kind) k) refl
   where
     go : (b : Bool) → eqb (c .kind) k ≡ b → From c (cond b x y)
@@ -139,7 +143,7 @@ raw-order c f =
     (at-kind c 6 _ _ (λ e. (plain c f 6 e refl, refl))
     (record { back = λ o. absurd (o refl) }))))))
 
--- ---- a line, and a record
+-- ---- a line
 
 -- the frame of a writable order, without its 0A, asks that order
 pub order-reads : (o : Order) → writableOrder o ≡ true → orderIn (lineOf (rawOf o)) ≡ o
@@ -149,7 +153,8 @@ order-reads o e =
     ap ordered (reads-back (rawOf o) (t .1)) ∙ order-raw o (t .0)
 
 -- each line that asks something, read and then written, is the same bytes, 0A added
-pub line-writes : (l : List ℕ) (o : Order) → orderIn l ≡ o → (o ≡ Malformed → ⊥) → (frameOfOrder o ≡ l ++ (10 ∷ [])) × (writableOrder o ≡ true)
+pub line-writes : (l : List ℕ) (o : Order) → orderIn l ≡ o → (o ≡ Malformed → ⊥)
+    → (frameOfOrder o ≡ l ++ (10 ∷ [])) × (writableOrder o ≡ true)
 unfolding orderIn ordered writableOrder frameOfOrder frameOf
 line-writes l o e asks = go (read l) refl e
   where
@@ -159,6 +164,35 @@ line-writes l o e asks = go (read l) refl e
         let w = writes-back l c g in
         let b = subst (From c) e (raw-order c (formed l c g)) .back asks in
         (ap frameOf (b .0) ∙ ap (λ (s : List ℕ). s ++ (10 ∷ [])) (w .0), rw (b .1, b .0) (w .1))
+
+-- ---- each well-formed line asks something: a test computed over the table
+
+unfoldable asks : Order → Bool
+asks Malformed = false
+asks (Asks c) = true
+asks (Settle limit) = true
+
+cond-asks : (b : Bool) (x y : Order) → asks (cond b x y) ≡ cond b (asks x) (asks y)
+cond-asks true x y = refl
+cond-asks false x y = refl
+
+kind-asks : (k : ℕ) (ns ms : List ℕ) → asks (orderOf (raw k ns)) ≡ asks (orderOf (raw k ms))
+unfolding asks orderOf
+kind-asks k ns ms = simp cond-asks
+
+known-asks : (k : ℕ) (ns : List ℕ) → known k ≡ true → asks (orderOf (raw k ns)) ≡ true
+unfolding known all asks orderOf
+known-asks k ns e =
+    let r = any-true (λ (q : Row). eqb (q .kind) k) rows .0 e in
+    let t = all-true (λ (q : Row). asks (orderOf (raw (q .kind) []))) rows refl (r .0) (r .1) in
+    kind-asks k ns [] ∙ ap (λ (j : ℕ). asks (orderOf (raw j []))) (sym (eqb-true (r .0 .kind) k (r .2))) ∙ t
+
+pub well-formed-asks : (l : List ℕ) → WellFormed l → orderIn l ≡ Malformed → ⊥
+unfolding orderIn ordered callOf asks
+well-formed-asks l w e =
+    false≢true (sym (ap asks (sym (ap ordered (reads l w)) ∙ e)) ∙ known-asks (kindOf l) (callOf l .fields) (w .kind-known))
+
+-- ---- a record
 
 -- a record written order by order asks exactly those orders, in their order
 pub record-asks : (os : List Order) → all writableOrder os ≡ true → map orderIn (lines (flatten (map frameOfOrder os))) ≡ os
