@@ -7,7 +7,7 @@ ghost use lib.Dec.{ltb};
 ghost use lib.ListN.{length};
 ghost use Rattle.numbers.specs.Tails.{laid};
 ghost use Rattle.format.specs.Written.{fit, lineOf, writable};
-ghost use Rattle.frame_writing.specs.Lodged.{call, lineLength, Encodes};
+ghost use Rattle.frame_writing.specs.Lodged.{call, frameSize, Refuses, Encodes};
 use field_table::LISTED;
 use field_table::LONGEST;
 
@@ -18,9 +18,9 @@ pub struct Written {
 }
 
 impl Written {
-    // The buffer is too short for the frame; tested last.
+    // The buffer is too short for the frame.
     pub const TOO_SHORT: u8 = 13;
-    // The call is not writable; tested first.
+    // The call is not writable.
     pub const NOT_WRITABLE: u8 = 14;
 
     pub fn refused(number: u8) -> Written
@@ -61,9 +61,9 @@ fn fields_fit(widths: &[usize], fields: &[u64]) -> bool
     true
 }
 
-// How many characters the line of a call has; 0 where the call is not writable. A line that is not too long has at most 32 fields.
-fn line_length(kind: usize, fields: &[u64]) -> usize
-    ensures { λ r. ⌜ r ≡ lineLength (call kind (now (fields .entry))) ⌝ }
+// How many bytes the frame of a call has; 0 where the call is not writable. A line that is not too long has at most 32 fields.
+fn frame_size(kind: usize, fields: &[u64]) -> usize
+    ensures { λ r. ⌜ r ≡ frameSize (call kind (now (fields .entry))) ⌝ }
 {
     let shape = field_table::shape_of(kind);
     if shape.kind == 0 {
@@ -88,7 +88,20 @@ fn line_length(kind: usize, fields: &[u64]) -> usize
     if LONGEST < length {
         return 0;
     }
-    length
+    length + 1
+}
+
+// Which refusal, 0 if none: 14 where the call is not writable, tested first; 13 where the buffer is too short for the frame, tested last.
+fn refusal_of(size: usize, room: usize) -> u8
+    ensures { λ r. ⌜ Refuses size room r ⌝ }
+{
+    if size == 0 {
+        return Written::NOT_WRITABLE;
+    }
+    if room < size {
+        return Written::TOO_SHORT;
+    }
+    0
 }
 
 // Writes the line of a writable call at the start of a buffer.
@@ -107,17 +120,16 @@ fn put_line(kind: usize, fields: &[u64], out: &mut [u8])
 pub fn encode(kind: usize, fields: &[u64], out: &mut [u8]) -> Written
     ensures { λ r. ⌜ Encodes (call kind (now (fields .entry))) (now (out .entry)) (now (out .exit)) r ⌝ }
 {
-    let length = line_length(kind, fields);
-    if length == 0 {
-        return Written::refused(Written::NOT_WRITABLE);
-    }
-    if out.len() <= length {
-        return Written::refused(Written::TOO_SHORT);
+    let size = frame_size(kind, fields);
+    let number = refusal_of(size, out.len());
+    if number != 0 {
+        return Written::refused(number);
     }
     put_line(kind, fields, out);
-    field_writing::put_byte(&mut out[length..], 10);
+    let end = size - 1;
+    field_writing::put_byte(&mut out[end..], 10);
     Written {
         number: 0,
-        bytes: length + 1,
+        bytes: size,
     }
 }

@@ -1,7 +1,7 @@
 // A function for each kind of frame (document 02, 2): what it asks, any numbers and lists of any lengths, written as a frame at the start of a
 // lent buffer. The contracts name the order that the frame's line then asks.
 ghost use mathlib.Core.Path.{_≡_};
-ghost use mathlib.Core.List.{[], _++_};
+ghost use mathlib.Core.List.{_++_};
 ghost use Prim.Native.Nat.{_+_, _*_, _≤_};
 ghost use lib.ListN.{length, take};
 ghost use Rattle.rules.specs.Ledger.{settingsOf, Offer, SetUp, Open, By, Close};

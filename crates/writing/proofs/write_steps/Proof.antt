@@ -13,7 +13,7 @@ use Rattle.writing.proofs.write_steps.Tie as tie
 
 -- past the first test the lists are equally long
 same : (c : tie.Else1) → let a = c .before .before .before .before .args in length (a .prices .now) ≡ length (a .levels .now)
-same c = c .if1 .left
+same c = omega arith
 
 refused-requires : tie.Need-refused-requires
 refused-requires c κs = search needs
@@ -21,7 +21,7 @@ refused-requires c κs = search needs
 returns : tie.Need-returns
 returns c =
     let a = c .before .before .before .before .before .args in
-    unequal-lists _ _ _ _ _ (a .prices .now) (a .levels .now) (c .refused .ensures) (c .before .if1 .taken) refl
+    unequal-lists _ _ _ _ _ (a .prices .now) (a .levels .now) (c .refused .ensures) (λ e. omega arith) refl
 
 refused-requires-2 : tie.Need-refused-requires-2
 refused-requires-2 c κs = search needs
@@ -31,7 +31,8 @@ returns-2 c =
     let a = c .before .before .before .before .before .before .args in
     let e = same (c .before .before) in
     let n = length-paired (a .prices .now) (a .levels .now) e in
-    let many = too-many (a .kind) (a .developer ∷ (length (a .prices .now) ∷ paired (a .prices .now) (a .levels .now))) (omega (arith, n, c .before .if2 .taken)) in
+    let many =
+    too-many (a .kind) (a .developer ∷ (length (a .prices .now) ∷ paired (a .prices .now) (a .levels .now))) (omega (arith, n, c .before .if2 .taken)) in
     equal-lists _ _ _ _ _ (a .prices .now) (a .levels .now) e (not-writable _ _ _ _ _ (c .refused2 .ensures) many refl)
 
 steps-of-requires : tie.Need-steps-of-requires

@@ -1,4 +1,4 @@
--- Each 0 is a fact that a writable call denies; past all tests the call is writable, and its line has the length that was added.
+-- Each 0 is a fact that a writable call denies; past all tests the call is writable, and its frame has the length that was added.
 use Prim.Native.Nat.{ℕ, _+_, _*_, _≤_}
 use mathlib.Core.Path.{_≡_, refl, sym, ap, _∙_}
 use mathlib.Core.Bool.{true}
@@ -10,14 +10,14 @@ use lib.Seq.{length-take-le}
 use Rattle.numbers.specs.Cases.{clash}
 use Rattle.format.specs.Fields.{listed, known, fixed, repeats}
 use Rattle.format.specs.Written.{fit, lineOf}
-use Rattle.format.specs.WrittenLaws.{Writable}
+use Rattle.format.specs.WrittenLaws.{Writable, length-line, length-frame}
 use Rattle.field_table.specs.Shapes.{Shaped}
 use Rattle.field_table.specs.Fitting.{fitting-kind}
 use Rattle.field_table.specs.ShapeLaws.{shape-kind, shape-unknown}
 use Rattle.frame_writing.specs.Lodged.{call}
-use Rattle.frame_writing.specs.LodgedLaws.{as-many, few-fields, line-long, no-length, the-length, widths-are, fit-few}
-use Rattle.frame_writing.proofs.line_length.Statement.{statement}
-use Rattle.frame_writing.proofs.line_length.Tie as tie
+use Rattle.frame_writing.specs.LodgedLaws.{as-many, few-fields, line-long, no-size, the-size, widths-are, fit-few}
+use Rattle.frame_writing.proofs.frame_size.Statement.{statement}
+use Rattle.frame_writing.proofs.frame_size.Tie as tie
 
 abbrev start : tie.After-shape-of → tie.Start
 start c = c .before .before
@@ -88,13 +88,13 @@ shape-of-requires : tie.Need-shape-of-requires
 shape-of-requires c κs = search needs
 
 returns : tie.Need-returns
-returns c = no-length _ _ (λ w. shape-unknown _ _ (c .before .before .shape-of .ensures) (c .if1 .taken) (w .kind-known))
+returns c = no-size _ _ (λ w. shape-unknown _ _ (c .before .before .shape-of .ensures) (c .if1 .taken) (w .kind-known))
 
 returns-2 : tie.Need-returns-2
-returns-2 c = no-length _ _ (λ w. let f = few-fields _ _ w in omega arith)
+returns-2 c = no-size _ _ (λ w. let f = few-fields _ _ w in omega arith)
 
 returns-3 : tie.Need-returns-3
-returns-3 c = no-length _ _ (λ w. omega (arith, as-many _ _ w, c .before .before .before .before .before .shape-of .ensures .many))
+returns-3 c = no-size _ _ (λ w. omega (arith, as-many _ _ w, c .before .before .before .before .before .shape-of .ensures .many))
 
 array-share-prefix-widths : tie.Need-array-share-prefix-widths
 array-share-prefix-widths c =
@@ -113,7 +113,7 @@ returns-4 c =
     let s = shaped n in
     let ns = start s .args .fields .now in
     let no = sym (c .before .fields-fit .ensures) ∙ not-true (c .before .fields-fit .result) (c .if4 .taken) in
-    no-length _ _ (λ w. clash (w .fields-fit) (rw (widths-are _ ns _ (s .shape-of .ensures) _ refl (many n .0) (as-many _ ns w)) at no))
+    no-size _ _ (λ w. clash (w .fields-fit) (rw (widths-are _ ns _ (s .shape-of .ensures) _ refl (many n .0) (as-many _ ns w)) at no))
 
 repeated-requires : tie.Need-repeated-requires
 repeated-requires c κs =
@@ -128,7 +128,7 @@ returns-5 : tie.Need-returns-5
 returns-5 c =
     let r = c .before .before in
     let s = shaped (counted (r .before .before)) in
-    no-length _ _ (λ w. omega (arith, as-many _ _ w, s .shape-of .ensures .many, more r .0))
+    no-size _ _ (λ w. omega (arith, as-many _ _ w, s .shape-of .ensures .many, more r .0))
 
 add-length : tie.Need-add-length
 add-length c = omega (arith, long (c .before .before .before) .1)
@@ -140,7 +140,10 @@ add-length-2 : tie.Need-add-length-2
 add-length-2 c = let r = c .before .before .before in omega (arith, more r .1, long r .1)
 
 returns-6 : tie.Need-returns-6
-returns-6 c = let r = c .before .before .before .before in no-length _ _ (λ w. omega (arith, long r .0, w .short))
+returns-6 c = let r = c .before .before .before .before in no-size _ _ (λ w. omega (arith, long r .0, w .short))
+
+add-result : tie.Need-add-result
+add-result c = search needs
 
 returns-7 : tie.Need-returns-7
 returns-7 c =
@@ -155,10 +158,10 @@ returns-7 c =
       fields-fit = rw (widths-are _ _ _ (s .shape-of .ensures) _ refl (many n .0) q) at (fits (r .before) .0);
       short = omega (arith, long r .0, c .if6 .left);
     } in
-    sym (long r .0) ∙ the-length _ _ w
+    omega (arith, long r .0, length-line (call (a .kind) (a .fields .now)), length-frame (call (a .kind) (a .fields .now)), the-size _ _ w)
 
-pub line-length-spec : {M : Type 1} → statement M
-line-length-spec =
+pub frame-size-spec : {M : Type 1} → statement M
+frame-size-spec =
     tie.close
     (tie.spec
     shape-of-requires
@@ -176,4 +179,5 @@ line-length-spec =
     mul-length
     add-length-2
     returns-6
+    add-result
     returns-7)
