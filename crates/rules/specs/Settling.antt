@@ -8,7 +8,7 @@ use Rattle.numbers.specs.Lists.{total}
 use Rattle.rules.specs.Ledger.{Ledger}
 use Rattle.rules.specs.Clearing.{demandAt, closingPrice}
 use Rattle.rules.specs.Refusals.{check, isClosed}
-use Rattle.rules.specs.Award.{admissible, coveringChoices, award, winner}
+use Rattle.rules.specs.Award.{admissible, coveringChoices, keptChoices, award, winner}
 
 -- an award record, 6 bytes: project, developer, quantity with the high byte first
 abbrev pub recordOf : ℕ → ℕ → ℕ → List ℕ
@@ -29,13 +29,14 @@ settlingNumber l limit room =
     (check (leb (length (admissible l (closingPrice l))) (min limit 65536)) 10
     (check (leb (6 * length (records l (closingPrice l))) room) 11 0))
 
--- P, Dem(P), the award's total, the numbers of admissible and of covering choices, and the award records
+-- P, Dem(P), the award's total, the numbers of admissible, of covering and of kept choices, and the award records
 pub record Settlement : Type 0 where
   pub price : ℕ
   pub demand : ℕ
   pub total : ℕ
   pub choices : ℕ
   pub covering : ℕ
+  pub kept : ℕ
   pub records : List (List ℕ)
 
 unfoldable pub settlementAt : Ledger → ℕ → Settlement
@@ -45,6 +46,7 @@ settlementAt l p = record {
   total = total (award l p);
   choices = length (admissible l p);
   covering = length (coveringChoices l p);
+  kept = keptChoices l p;
   records = records l p;
 }
 
