@@ -7,6 +7,7 @@ pub mod auction;
 pub mod calls;
 mod demand;
 pub mod lent;
+pub mod parts;
 pub mod program;
 pub mod random;
 pub mod records;

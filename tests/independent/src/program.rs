@@ -8,6 +8,9 @@ use std::time::Duration;
 /// So many bytes at once as there are.
 pub const AT_ONCE: usize = usize::MAX;
 
+/// Bytes that a pipe takes before anyone reads them.
+const IN_A_PIPE: usize = 4_096;
+
 /// Runs the program to its end, with the input given in pieces of so many bytes.
 pub fn run(mut program: Command, input: &[u8], piece: usize) -> io::Result<Output> {
     let mut running = program
@@ -15,6 +18,11 @@ pub fn run(mut program: Command, input: &[u8], piece: usize) -> io::Result<Outpu
         .stdout(Stdio::piped())
         .spawn()?;
     let mut standard_input = running.stdin.take().expect("a pipe");
+    if input.len() <= IN_A_PIPE && piece == AT_ONCE {
+        give(&mut standard_input, input, piece)?;
+        drop(standard_input);
+        return running.wait_with_output();
+    }
     thread::scope(|scope| {
         // Its replies are read meanwhile, so neither side waits for ever.
         let given = scope.spawn(move || give(&mut standard_input, input, piece));

@@ -14,6 +14,7 @@ mod offers;
 mod refused;
 
 use crate::auction::{Auction, Phase};
+use crate::parts::in_parts;
 use crate::random::Random;
 use crate::replay::{make, read_call, write_call, Call};
 use crate::settling::number_of_choices;
@@ -21,9 +22,17 @@ pub use aimed::DECISIVE;
 pub use counted::{largest_book, LARGEST_BOOKS};
 pub use crowded::{easy_book, hard_book};
 pub use long::long_record;
+use std::ops::Range;
 
 /// Makes records of one sort.
 pub type Records = fn() -> Vec<Vec<u8>>;
+
+/// The records of the seeds.
+pub fn records_of(seeds: Range<u64>) -> Vec<Vec<u8>> {
+    let seeds: Vec<u64> = seeds.collect();
+    let records = |seeds: &[u64]| seeds.iter().copied().map(record).collect::<Vec<_>>();
+    in_parts(&seeds, records).concat()
+}
 
 /// The record of a seed.
 pub fn record(seed: u64) -> Vec<u8> {

@@ -1,11 +1,15 @@
 //! What a program that compares replies prints: one line a group of records with what their
 //! replies were, and the first difference; how often rounds closed where the closing rule
-//! decides; and what it ends with.
+//! decides; how searches went; and what it ends with.
 
 mod closings;
+mod searches;
 
+use crate::parts::in_parts;
 use crate::replay::lines;
+use crate::settling::Settlement;
 pub use closings::Closings;
+pub use searches::Searches;
 use std::collections::BTreeMap;
 use std::fmt::Write;
 use std::process::ExitCode;
@@ -44,6 +48,9 @@ pub struct Group {
     /// Lines that the engine wrote again.
     written: u64,
     closings: Closings,
+    searches: Searches,
+    /// Words of traces by their names.
+    words: BTreeMap<String, u64>,
     difference: Option<String>,
 }
 
@@ -56,8 +63,38 @@ impl Group {
             replies: BTreeMap::new(),
             written: 0,
             closings: Closings::default(),
+            searches: Searches::default(),
+            words: BTreeMap::new(),
             difference: None,
         }
+    }
+
+    /// The group of these records, each compared by the function.
+    pub fn of(
+        name: &'static str,
+        records: &[Vec<u8>],
+        compare: impl Fn(&mut Group, &[u8]) + Sync,
+    ) -> Group {
+        let mut group = Group::new(name);
+        let parts = in_parts(records, |records| {
+            let mut part = Group::new(name);
+            records.iter().for_each(|record| compare(&mut part, record));
+            part
+        });
+        parts.into_iter().for_each(|part| group.join(part));
+        group
+    }
+
+    /// With the records of another one behind its own.
+    fn join(&mut self, other: Group) {
+        self.records += other.records;
+        self.settled += other.settled;
+        add(&mut self.replies, other.replies);
+        self.written += other.written;
+        self.closings.join(other.closings);
+        self.searches.join(&other.searches);
+        add(&mut self.words, other.words);
+        self.difference = self.difference.take().or(other.difference);
     }
 
     /// Counts a record by the replies to it.
@@ -76,6 +113,16 @@ impl Group {
     /// Counts a line that the engine wrote again.
     pub fn count_written(&mut self) {
         self.written += 1;
+    }
+
+    /// Counts the settlement of a record.
+    pub fn count_search(&mut self, settlement: &Settlement) {
+        self.searches.count(settlement);
+    }
+
+    /// Counts a line of a trace's words by its name.
+    pub fn count_word(&mut self, name: &str) {
+        *self.words.entry(name.to_owned()).or_default() += 1;
     }
 
     /// Keeps the first difference: the record, and two replies to it with whose they are.
@@ -99,19 +146,33 @@ impl Group {
         } = self;
         let percent = 100.0 * *settled as f64 / (*records).max(1) as f64;
         let replies: u64 = self.replies.values().sum();
-        let counts = self.replies.iter();
-        let counts: Vec<String> = counts.map(|(reply, n)| format!("{reply} {n}")).collect();
+        let counts = listed_counts(&self.replies);
         let verdict = self.difference.as_deref().unwrap_or("ok");
         println!(
-            "{name}: {records} records, {percent:.1}% settle, {replies} replies ({}): {verdict}",
-            counts.join(", ")
+            "{name}: {records} records, {percent:.1}% settle, {replies} replies ({counts}): {verdict}"
         );
         if self.written > 0 {
             println!("  well-formed lines written again: {}", self.written);
         }
         self.closings.print();
+        if !self.words.is_empty() {
+            println!("  words: {}", listed_counts(&self.words));
+        }
+        self.searches.print();
         self.difference.is_none()
     }
+}
+
+/// Adds the counts of another map.
+fn add<K: Ord>(counts: &mut BTreeMap<K, u64>, others: BTreeMap<K, u64>) {
+    for (key, count) in others {
+        *counts.entry(key).or_default() += count;
+    }
+}
+
+fn listed_counts(counts: &BTreeMap<String, u64>) -> String {
+    let counts = counts.iter().map(|(name, count)| format!("{name} {count}"));
+    counts.collect::<Vec<_>>().join(", ")
 }
 
 /// The first line that got two replies, if any did, with both.

@@ -50,6 +50,7 @@ choices 4
 covering 3
 award 1 1 820
 award 2 3 200
+kept 2
 ";
 
 /// Lines of the sample up to its set-up, last registration, opening, first offer and closing.

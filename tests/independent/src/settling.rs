@@ -2,8 +2,11 @@
 //! Every admissible choice is looked at; only the closing price is found without trying every
 //! price, and `closing_price_by_walk` stands beside it.
 
+mod search;
+
 use crate::auction::{Auction, Developer, Phase, Withdrawal};
 use crate::{require, ABOVE_THE_LIMIT, BUFFER_TOO_SHORT, NOT_IN_THIS_PHASE};
+pub use search::kept;
 use std::cmp::{Ordering, Reverse};
 use std::collections::{BTreeMap, BTreeSet};
 
@@ -24,6 +27,9 @@ pub struct Settlement {
     pub covering: u64,
     /// One for each project above 0, by rising project. The paper leaves the order free.
     pub awards: Vec<Award>,
+    /// The totals of the complete choices that document 02's request 3 does not set aside; the
+    /// result tells how many they are.
+    pub kept: Vec<u64>,
 }
 
 #[derive(Clone, Copy, Debug, PartialEq, Eq)]
@@ -142,6 +148,7 @@ impl Auction {
                     quantity: level,
                 })
                 .collect(),
+            kept: kept(open, demand),
         }
     }
 }

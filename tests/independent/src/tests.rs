@@ -9,19 +9,36 @@ mod frames;
 mod properties;
 mod rounds;
 mod sample;
+mod searching;
 mod settling;
 mod shares;
 mod trace;
 mod writing;
 
 use crate::auction::{Auction, EXISTING, NEW};
-use crate::records::record;
+use crate::records::records_of;
 use crate::replay::{lines, make, read_call, Accepted, Call};
+use crate::settling::Settlement;
 use crate::MALFORMED_LINE;
 use std::sync::LazyLock;
 
 /// The records of the seeds from 0 on, made once for all tests.
-static RECORDS: LazyLock<Vec<Vec<u8>>> = LazyLock::new(|| (0..20_000).map(record).collect());
+static RECORDS: LazyLock<Vec<Vec<u8>>> = LazyLock::new(|| records_of(0..20_000));
+
+/// The accepted settlings of some records, each with its auction.
+static SETTLINGS: LazyLock<Vec<(Auction, Settlement)>> = LazyLock::new(|| {
+    let mut settlings = Vec::new();
+    let mut keep = |step: Step| {
+        if let Ok(Accepted::Settled(settlement)) = step.answer {
+            settlings.push((step.after.clone(), settlement.clone()));
+        }
+    };
+    for record in &RECORDS[..3_000] {
+        each_step(record, &mut keep);
+    }
+    assert!(settlings.len() > 3_000, "{} settlings", settlings.len());
+    settlings
+});
 
 /// An auction with the settings of the sample record and no registrations.
 fn sample_set_up() -> Auction {

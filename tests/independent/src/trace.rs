@@ -8,17 +8,25 @@ use crate::settling::Settlement;
 /// What the program prints for its standard input: as much as there is, unless the record is
 /// too long.
 pub fn traced(input: &[u8]) -> Vec<u8> {
+    traced_with_settlement(input).0
+}
+
+/// The same, and the record's settlement if it settles; a further settling gives it again.
+pub fn traced_with_settlement(input: &[u8]) -> (Vec<u8>, Option<Settlement>) {
     if input.len() > PROGRAM_BYTES {
-        return b"FF0B\n".to_vec();
+        return (b"FF0B\n".to_vec(), None);
     }
     let mut auction = Auction::new();
-    let mut text = Vec::new();
+    let (mut text, mut settlement) = (Vec::new(), None);
     for line in lines(input) {
         let (kind, answer) = answer(&mut auction, line);
         text.extend(reply_of(kind, &answer));
         text.extend(words(&answer).into_bytes());
+        if let Ok(Accepted::Settled(settled)) = answer {
+            settlement = Some(settled);
+        }
     }
-    text
+    (text, settlement)
 }
 
 /// What stands below a reply: nothing below a refusal and the other calls.
@@ -30,7 +38,8 @@ fn words(answer: &Result<Accepted, u8>) -> String {
     }
 }
 
-/// The settlement's numbers, then its awards by rising project.
+/// The settlement's numbers, then its awards by rising project, then how many complete choices
+/// were not set aside, which no reply says.
 fn settled(settlement: &Settlement) -> String {
     let mut text = [
         ("price", settlement.closing_price),
@@ -47,5 +56,5 @@ fn settled(settlement: &Settlement) -> String {
         let (project, developer, quantity) = (award.project, award.developer, award.quantity);
         text += &format!("award {project} {developer} {quantity}\n");
     }
-    text
+    text + &format!("kept {}\n", settlement.kept.len())
 }

@@ -83,6 +83,7 @@ fn print_settlement(settlement: &Settlement) {
         choices,
         covering,
         awards,
+        ..
     } = settlement;
     let records = awards.len();
     print!("6 0 {closing_price} {demand} {total} {choices} {covering} {records}");

@@ -11,7 +11,7 @@ mod engine;
 
 use independent::lent::{difference, lend};
 use independent::random::Random;
-use independent::records::{edges, fixed, record, Records};
+use independent::records::{edges, fixed, records_of, Records};
 use independent::replay::{fields, lines, read_call, replay, write_replies, Call};
 use independent::report::{few, inputs, verdict, Group};
 use independent::sample;
@@ -20,11 +20,11 @@ use std::process::ExitCode;
 fn main() -> ExitCode {
     // Each group is reported when it is done, also behind one that differs.
     let stated = STATED.map(|group| group().report());
-    let fixed = fixed::groups().map(|(name, records)| compare_all(name, records).report());
+    let fixed = fixed::groups().map(|(name, records)| Group::of(name, &records, compare).report());
     let sizes = if few() { &[][..] } else { &SIZES };
     let compared = COMPARED.iter().chain(sizes);
     let compared: Vec<bool> = compared
-        .map(|(name, records)| compare_all(name, records()).report())
+        .map(|(name, records)| Group::of(name, &records(), compare).report())
         .collect();
     verdict(stated.iter().chain(&fixed).chain(&compared))
 }
@@ -35,7 +35,7 @@ const COMPARED: [(&str, Records); 4] = [
     ("edges of lines", edges::lines),
     ("damaged samples", edges::damaged_samples),
     // The seeds whose shares the tests of the independent implementation look at.
-    ("generated", || (0..inputs(20_000)).map(record).collect()),
+    ("generated", || records_of(0..inputs(20_000))),
     ("few different bytes", || {
         (0..inputs(5_000)).map(few_different_bytes).collect()
     }),
@@ -46,14 +46,6 @@ const SIZES: [(&str, Records); 3] = [
     ("sizes of replies", edges::reply_sizes),
     ("largest books", edges::largest_books),
 ];
-
-fn compare_all(name: &'static str, records: Vec<Vec<u8>>) -> Group {
-    let mut group = Group::new(name);
-    for record in records {
-        compare(&mut group, &record);
-    }
-    group
-}
 
 /// Compares the engine with the independent implementation's replies to the same record.
 fn compare(group: &mut Group, record: &[u8]) {

@@ -4,7 +4,7 @@
 //! difference. The exit status is 0 only if no group differs.
 
 use independent::program::{run, AT_ONCE};
-use independent::records::{edges, record, Records};
+use independent::records::{edges, records_of, Records};
 use independent::replay::printed;
 use independent::report::{verdict, Group};
 use independent::sample;
@@ -15,15 +15,13 @@ fn main() -> ExitCode {
         eprintln!("replay_program: the program's path is missing");
         return ExitCode::FAILURE;
     };
-    let run = |input: &[u8], piece| run(Command::new(&program), input, piece);
     let groups = GROUPS.map(|(name, records, piece)| {
-        let mut group = Group::new(name);
-        for record in records() {
-            match run(&record, piece) {
-                Ok(output) => compare(&mut group, &record, &output),
-                Err(error) => group.differ(&error.to_string(), &record, [("", b""); 2]),
+        let group = Group::of(name, &records(), |group, record| {
+            match run(Command::new(&program), record, piece) {
+                Ok(output) => compare(group, record, &output),
+                Err(error) => group.differ(&error.to_string(), record, [("", b""); 2]),
             }
-        }
+        });
         group.report()
     });
     verdict(&groups)
@@ -35,7 +33,7 @@ const GROUPS: [(&str, Records, usize); 6] = [
     ("edges of lines", edges::lines, AT_ONCE),
     ("sizes of records", edges::record_sizes, AT_ONCE),
     ("sizes of replies", edges::reply_sizes, AT_ONCE),
-    ("generated", || (0..500).map(record).collect(), AT_ONCE),
+    ("generated", || records_of(0..500), AT_ONCE),
     ("sizes of records, in pieces", edges::record_sizes, 5_000),
 ];
 

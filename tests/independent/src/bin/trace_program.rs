@@ -1,15 +1,15 @@
 //! Runs the program `trace`, whose path is the argument, and compares what it prints with the
 //! independent implementation, byte for byte.
-//! One line a group of records, as for `replay`, and what their words were; `ok` or the first
-//! difference. The exit status is 0 only if no group differs.
+//! One line a group of records, as for `replay`, with `ok` or the first difference; below it, what
+//! their words were, and how the searches of those that settle went. The exit status is 0 only if
+//! no group differs.
 
 use independent::program::{run, AT_ONCE};
-use independent::records::{edges, record, Records};
+use independent::records::{edges, records_of, Records};
 use independent::replay::lines;
 use independent::report::{verdict, Group};
 use independent::sample;
-use independent::trace::traced;
-use std::collections::BTreeMap;
+use independent::trace::traced_with_settlement;
 use std::process::{Command, ExitCode, Output};
 
 fn main() -> ExitCode {
@@ -17,30 +17,27 @@ fn main() -> ExitCode {
         eprintln!("trace_program: the program's path is missing");
         return ExitCode::FAILURE;
     };
-    let run = |input: &[u8], piece| run(Command::new(&program), input, piece);
-    let mut words = BTreeMap::new();
     let groups = GROUPS.map(|(name, records, piece)| {
-        let mut group = Group::new(name);
-        for record in records() {
-            match run(&record, piece) {
-                Ok(output) => compare(&mut group, &mut words, &record, &output),
-                Err(error) => group.differ(&error.to_string(), &record, [("", b""); 2]),
+        let group = Group::of(name, &records(), |group, record| {
+            match run(Command::new(&program), record, piece) {
+                Ok(output) => compare(group, record, &output),
+                Err(error) => group.differ(&error.to_string(), record, [("", b""); 2]),
             }
-        }
+        });
         group.report()
     });
-    let words = words.iter().map(|(word, count)| format!("{word} {count}"));
-    println!("words: {}", words.collect::<Vec<_>>().join(", "));
     verdict(&groups)
 }
 
 /// Groups of records, and the bytes of standard input that arrive at once.
-const GROUPS: [(&str, Records, usize); 6] = [
+const GROUPS: [(&str, Records, usize); 7] = [
     ("sample and examples", sample_and_examples, AT_ONCE),
     ("edges of lines", edges::lines, AT_ONCE),
     ("sizes of records", edges::record_sizes, AT_ONCE),
     ("sizes of replies", edges::reply_sizes, AT_ONCE),
-    ("generated", || (0..3_000).map(record).collect(), AT_ONCE),
+    ("largest books", edges::largest_books, AT_ONCE),
+    // The seeds whose shares the tests of the independent implementation look at.
+    ("generated", || records_of(0..20_000), AT_ONCE),
     ("sizes of records, in pieces", edges::record_sizes, 5_000),
 ];
 
@@ -50,9 +47,12 @@ fn sample_and_examples() -> Vec<Vec<u8>> {
     [sample].into_iter().chain(examples).collect()
 }
 
-fn compare(group: &mut Group, words: &mut BTreeMap<String, u64>, record: &[u8], output: &Output) {
-    let expected = traced(record);
-    count(group, words, record, &expected);
+fn compare(group: &mut Group, record: &[u8], output: &Output) {
+    let (expected, settlement) = traced_with_settlement(record);
+    count(group, record, &expected);
+    if let Some(settlement) = settlement {
+        group.count_search(&settlement);
+    }
     // Which exit status it has is left free; a signal is none.
     if output.stdout != expected || output.status.code().is_none() {
         let why = format!("the program ended with {}", output.status);
@@ -63,7 +63,7 @@ fn compare(group: &mut Group, words: &mut BTreeMap<String, u64>, record: &[u8], 
 
 /// Counts the replies, which begin with a digit or a capital, and the words by their names; the
 /// excess by its sign.
-fn count(group: &mut Group, words: &mut BTreeMap<String, u64>, record: &[u8], text: &[u8]) {
+fn count(group: &mut Group, record: &[u8], text: &[u8]) {
     let (below, replies): (Vec<&[u8]>, Vec<&[u8]>) = lines(text)
         .into_iter()
         .partition(|line| line[0].is_ascii_lowercase());
@@ -71,12 +71,11 @@ fn count(group: &mut Group, words: &mut BTreeMap<String, u64>, record: &[u8], te
     for line in below {
         let line = String::from_utf8_lossy(line);
         let (name, number) = line.split_once(' ').expect("a name and a number");
-        let name = match (name, number) {
+        group.count_word(match (name, number) {
             ("excess", "0") => "excess 0",
             ("excess", number) if number.starts_with('-') => "excess below 0",
             ("excess", _) => "excess above 0",
             _ => name,
-        };
-        *words.entry(name.to_owned()).or_default() += 1;
+        });
     }
 }

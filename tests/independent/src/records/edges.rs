@@ -1,6 +1,6 @@
 //! Records at the edges of the format: of lines, of bytes, and of sizes.
 
-use super::{largest_book, long_record, LARGEST_BOOKS};
+use super::{easy_book, hard_book, largest_book, long_record, LARGEST_BOOKS};
 use crate::replay::{LONGEST_LINE, PROGRAM_BYTES};
 use crate::sample;
 
@@ -146,10 +146,11 @@ fn thirty_two_awards() -> String {
     record + "0300002710\n05\n"
 }
 
-/// The books with the most choices that are looked at.
+/// The books with the most choices that are looked at, the benchmark's among them.
 pub fn largest_books() -> Vec<Vec<u8>> {
     let books = LARGEST_BOOKS.iter();
     books
         .flat_map(|book| (0..5).map(|seed| largest_book(seed, book)))
+        .chain([easy_book(), hard_book()])
         .collect()
 }

@@ -29,6 +29,12 @@ impl Closings {
         }
     }
 
+    /// With the closings counted elsewhere.
+    pub fn join(&mut self, other: Closings) {
+        super::add(&mut self.all, other.all);
+        super::add(&mut self.large, other.large);
+    }
+
     /// How many closed with the excess, and how many of them in books of large levels.
     pub fn with(&self, excess: i64) -> (u64, u64) {
         let [all, large] = [&self.all, &self.large].map(|closings| closings.get(&excess));

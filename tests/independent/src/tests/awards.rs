@@ -1,26 +1,9 @@
 //! What document 01's rules imply for settlings, on those of generated records.
 
-use super::{choices, each_step, Step, RECORDS};
+use super::{choices, SETTLINGS};
 use crate::auction::{Auction, Developer};
-use crate::replay::Accepted;
 use crate::settling::{Award, Settlement};
 use std::cmp::Reverse;
-use std::sync::LazyLock;
-
-/// The accepted settlings of some records, each with its auction.
-static SETTLINGS: LazyLock<Vec<(Auction, Settlement)>> = LazyLock::new(|| {
-    let mut settlings = Vec::new();
-    let mut keep = |step: Step| {
-        if let Ok(Accepted::Settled(settlement)) = step.answer {
-            settlings.push((step.after.clone(), settlement.clone()));
-        }
-    };
-    for record in &RECORDS[..3_000] {
-        each_step(record, &mut keep);
-    }
-    assert!(settlings.len() > 3_000, "{} settlings", settlings.len());
-    settlings
-});
 
 fn each_settling(mut visit: impl FnMut(&Auction, &Settlement)) {
     for (auction, settlement) in &*SETTLINGS {
