@@ -14,7 +14,8 @@ use Rattle.rules.specs.Clearing.{quantityAfter, high, low, developersOf,
 use Rattle.rules.specs.Refusals.{settingsOk, numbersOk, rising, levelsOk, mayJoin, declarationOk, openingPrice, closingOk, startCovered, mayOffer, falling, pricesOk, lowering, moveNumber, number}
 use Rattle.rules.specs.Rounds.{steps, withdrawsAll, added, lastLevel, applied, supplyAfter, thousandths, clears, phaseAfter, moved, accepted, step, stepAll, ledger, excess, granted, answer, answersFrom, answers}
 use Rattle.choices.specs.Choices.{spread, choices, covering, larger, before, best, bestOf}
-use Rattle.rules.specs.Award.{openBetween, openToDeveloper, openTo, insert, insertAll, declaredBy, openLevels, row, rows, admissible, coveringChoices, award, preferred, mostPreferred, firstPreferred, winner}
+use Rattle.choices.specs.Search.{placed, byFalling, order, lowest, highest, aboveBest, setAside, inTurn, searched, given, found, kept}
+use Rattle.rules.specs.Award.{openBetween, openToDeveloper, openTo, insert, insertAll, declaredBy, openLevels, row, rows, admissible, coveringChoices, keptChoices, award, preferred, mostPreferred, firstPreferred, winner}
 use Rattle.rules.specs.Settling.{recordsFrom, records, settlingNumber, settlementAt, settlement}
 
 abbrev pub sample : List Call
@@ -32,8 +33,8 @@ sample =
     ∷ []
 
 -- the ledger is closed, and settling with the record's limit 100 and the replay's 192 bytes is accepted; P is 26,000 and Dem(P) 970, with no
--- remainder; the open totals are 920, 1,020, 1,070 and 1,170, of which three cover; the award is 1,020: 820 to developer 1 of project 1 and 200 to
--- developer 3 of project 2
+-- remainder (document 02, 4); the open totals are 920, 1,020, 1,070 and 1,170, of which three cover; the search keeps 1,070, then 1,020
+-- (document 02, 3); the award is 1,020: 820 to developer 1 of project 1 and 200 to developer 3 of project 2
 abbrev pub SampleSettled : Type 0
 SampleSettled =
     (ledger sample .phase ≡ Closed)
@@ -46,6 +47,7 @@ SampleSettled =
       total = 1020;
       choices = 4;
       covering = 3;
+      kept = 2;
       records = (1 ∷ 1 ∷ 0 ∷ 0 ∷ 3 ∷ 52 ∷ []) ∷ (2 ∷ 3 ∷ 0 ∷ 0 ∷ 0 ∷ 200 ∷ []) ∷ [];
     })
     × (map (λ r. r .number) (answers sample) ≡ replicate 10 0)
@@ -58,6 +60,7 @@ unfolding oneTo keep total greatest lastOr any all leastFrom dem exactTimesCe re
     settingsOk numbersOk rising levelsOk mayJoin declarationOk openingPrice closingOk startCovered mayOffer falling pricesOk lowering moveNumber number
     steps withdrawsAll added lastLevel applied supplyAfter thousandths clears phaseAfter moved accepted step stepAll ledger excess granted answer answersFrom answers
     spread choices covering larger before best bestOf
-    openBetween openToDeveloper openTo insert insertAll declaredBy openLevels row rows admissible coveringChoices award preferred mostPreferred firstPreferred winner
+    placed byFalling order lowest highest aboveBest setAside inTurn searched given found kept
+    openBetween openToDeveloper openTo insert insertAll declaredBy openLevels row rows admissible coveringChoices keptChoices award preferred mostPreferred firstPreferred winner
     recordsFrom records settlingNumber settlementAt settlement
 shown-jointly = (marked-cases, (refl, refl, refl, refl, refl, refl, refl))
