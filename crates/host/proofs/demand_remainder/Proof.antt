@@ -12,6 +12,9 @@ demand-requires c κs = search needs
 enum-known-r : tie.Need-enum-known-r
 enum-known-r c = search needs
 
+cast-result : tie.Need-cast-result
+cast-result c = search needs
+
 enum-told : tie.Need-enum-told
 enum-told c = search needs
 
@@ -24,4 +27,4 @@ unfolding hostRemainder
 returns-2 c = ap (λ x. hostRemainder (answerOf x)) (sym (c .enum-told .given .1)) ∙ ap hostRemainder (c .before .before .demand .ensures)
 
 pub demand-remainder-spec : {M : Type 1} → statement M
-demand-remainder-spec = tie.close (tie.spec demand-requires enum-known-r enum-told returns returns-2)
+demand-remainder-spec = tie.close (tie.spec demand-requires enum-known-r cast-result enum-told returns returns-2)
