@@ -3,8 +3,8 @@ ghost use Rattle.settling.specs.Settles.{Settles, refusedWith};
 ghost use mathlib.Core.Path.{_≡_};
 use auction::Auction;
 
-// The answer: 0 or a refusal's number; P, Dem(P) with its remainder (document 02, 4), the award's total, the numbers of admissible choices, of covering ones and of those that the
-// search keeps (document 02, 3), and of award records. A refusal has 0 in every other place.
+// The answer: 0 or a refusal's number; P, Dem(P) with its remainder (document 02, 4), the award's total, the numbers of admissible choices, of
+// covering ones and of those that the search keeps (document 02, 3), and of award records. A refusal has 0 in every other place.
 pub struct Settled {
     pub number: u8,
     pub price: u32,

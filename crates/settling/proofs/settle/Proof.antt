@@ -15,7 +15,8 @@ priced c = highs c .before .before .before
 computed :
     (c : tie.After-select) →
     let s = priced c .before .before .before .before .before .before .before .before .args in
-    Computed (s .auction) (s .limit) (priced c .closing-price .result) (c .before .before .before .demand-at .result) (c .before .before .remainder-at .result) (highs c .before .before .lows-at .result) (highs c .lows-at2 .result) (c .select .result)
+    Computed (s .auction) (s .limit) (priced c .closing-price .result)
+    (c .before .before .before .demand-at .result) (c .before .before .remainder-at .result) (highs c .before .before .lows-at .result) (highs c .lows-at2 .result) (c .select .result)
 computed c =
     let h = highs c in
     let p = priced c in

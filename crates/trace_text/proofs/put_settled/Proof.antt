@@ -46,4 +46,16 @@ returns c =
     puts-as (puts-then (puts-then behind (kept .put-item .ensures)) (remainder .put-item2 .ensures)) _ _ refl (omega (arith, n .ensures .0, n .ensures .1))
 
 pub put-settled-spec : {M : Type 1} → statement M
-put-settled-spec = tie.close (tie.spec put-items-requires count-requires put-awards-requires slice-aggregate-put-item put-item-requires slice-aggregate-put-item-2 cast-put-item put-item-requires-2 same-length returns)
+put-settled-spec =
+    tie.close
+    (tie.spec
+    put-items-requires
+    count-requires
+    put-awards-requires
+    slice-aggregate-put-item
+    put-item-requires
+    slice-aggregate-put-item-2
+    cast-put-item
+    put-item-requires-2
+    same-length
+    returns)
