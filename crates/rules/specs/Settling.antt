@@ -6,7 +6,7 @@ use lib.Dec.{leb, eqb}
 use lib.ListN.{length}
 use Rattle.numbers.specs.Lists.{total}
 use Rattle.rules.specs.Ledger.{Ledger}
-use Rattle.rules.specs.Clearing.{demandAt, closingPrice}
+use Rattle.rules.specs.Clearing.{demandAt, remainderAt, closingPrice}
 use Rattle.rules.specs.Refusals.{check, isClosed}
 use Rattle.rules.specs.Award.{admissible, coveringChoices, keptChoices, award, winner}
 
@@ -29,10 +29,12 @@ settlingNumber l limit room =
     (check (leb (length (admissible l (closingPrice l))) (min limit 65536)) 10
     (check (leb (6 * length (records l (closingPrice l))) room) 11 0))
 
--- P, Dem(P), the award's total, the numbers of admissible, of covering and of kept choices, and the award records
+-- P, Dem(P) with its remainder (document 02, 4), the award's total, the numbers of admissible, of covering and of kept choices, and the award
+-- records
 pub record Settlement : Type 0 where
   pub price : ℕ
   pub demand : ℕ
+  pub remainder : ℕ
   pub total : ℕ
   pub choices : ℕ
   pub covering : ℕ
@@ -43,6 +45,7 @@ unfoldable pub settlementAt : Ledger → ℕ → Settlement
 settlementAt l p = record {
   price = p;
   demand = demandAt l p;
+  remainder = remainderAt l p;
   total = total (award l p);
   choices = length (admissible l p);
   covering = length (coveringChoices l p);
