@@ -23,8 +23,9 @@ _Static_assert(REFERENCE_ENGINE_REFUSAL(11) == UINT64_MAX - 10, "refusal 11 is 2
     "0600000064"
 
 #define SAMPLE_REPLIES                                                              \
-    "0100\n0200\n0200\n0200\n0200\n0300\n0400\n0400\n0400\n0500FFFFFFFFFFFFFFC9\n" \
-    "06000000659000000003CA00000003FC0000000400000003020101000003340203000000C8\n"
+    "0100\n0200\n0200\n0200\n0200\n0300\n0400\n0400\n0400\n"                     \
+    "0500FFFFFFFFFFFFFFC900000000\n"                                               \
+    "06000000659000000003CA00000003FC0000000400000003020101000003340203000000C800000000\n"
 
 struct check {
     const char *name, *record, *replies;
@@ -100,6 +101,7 @@ int main(void)
     replay_null();
     expect(demand(20000, 1000, 900, 1200, 29999) == 951, "demand", "accepted", 0);
     expect(demand(3, 1000, 900, 1200, 3) == REFERENCE_ENGINE_REFUSAL(1), "demand", "refused", 0);
+    expect(demand_remainder(20000, 1000, 900, 1200, 29999) == 19900, "remainder", "accepted", 0);
     if (failed > 0) {
         printf("replay_host: %u of %u checks failed\n", failed, made);
         return 1;

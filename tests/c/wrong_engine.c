@@ -1,14 +1,16 @@
 /*
  * A deliberately wrong engine over the right one, to see that the comparisons report a fault.
- * WRONG in the environment names it: demand (one kWh more), digit (the last digit of the
- * replies), behind (the byte behind the replies), step (the last digit of an offer's frame) or
- * width (an opening's price cut to its field); without it the engine is right.
+ * WRONG in the environment names it: demand (one kWh more), remainder (that of the quotient, which
+ * is CE less the right one), digit (the last digit of the replies), behind (the byte behind the
+ * replies), step (the last digit of an offer's frame) or width (an opening's price cut to its
+ * field); without it the engine is right.
  */
 #include "reference_engine.h"
 #include <stdlib.h>
 #include <string.h>
 
 uint64_t right_demand(uint64_t ce, uint64_t d, uint64_t m1, uint64_t m2, uint64_t p);
+uint64_t right_demand_remainder(uint64_t ce, uint64_t d, uint64_t m1, uint64_t m2, uint64_t p);
 uint64_t right_replay(const uint8_t *record, size_t record_length, uint8_t *replies,
                       size_t replies_length);
 uint64_t right_write_opening(uint64_t c, uint8_t *frame, size_t frame_length);
@@ -24,6 +26,11 @@ static int fault(const char *name) {
 uint64_t demand(uint64_t ce, uint64_t d, uint64_t m1, uint64_t m2, uint64_t p) {
     uint64_t answer = right_demand(ce, d, m1, m2, p);
     return answer + (answer < REFERENCE_ENGINE_REFUSAL(1) && p == ce && fault("demand"));
+}
+
+uint64_t demand_remainder(uint64_t ce, uint64_t d, uint64_t m1, uint64_t m2, uint64_t p) {
+    uint64_t answer = right_demand_remainder(ce, d, m1, m2, p);
+    return answer > 0 && answer < ce && fault("remainder") ? ce - answer : answer;
 }
 
 uint64_t replay(const uint8_t *record, size_t record_length, uint8_t *replies,

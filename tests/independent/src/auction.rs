@@ -6,8 +6,8 @@
 mod developer;
 
 use crate::{
-    demand, require, BAD_LEVEL, BAD_NUMBER, BAD_REGISTRATION, BAD_ROUND_PRICE, BAD_STEPS,
-    BEYOND_BOUNDS, NOT_IN_THIS_PHASE, OPENING_NOT_COVERED, SECOND_OFFER,
+    demand, demand_remainder, require, BAD_LEVEL, BAD_NUMBER, BAD_REGISTRATION, BAD_ROUND_PRICE,
+    BAD_STEPS, BEYOND_BOUNDS, NOT_IN_THIS_PHASE, OPENING_NOT_COVERED, SECOND_OFFER,
 };
 use developer::may_be_declared;
 pub use developer::{Developer, Withdrawal};
@@ -75,6 +75,20 @@ impl Settings {
     pub fn demand(&self, p: u64) -> u64 {
         demand(self.ce, self.d, self.m1, self.m2, p).expect("settings and price within the bounds")
     }
+
+    /// The remainder of Dem(p), for a price that the clock can pass.
+    pub fn remainder(&self, p: u64) -> u64 {
+        let remainder = demand_remainder(self.ce, self.d, self.m1, self.m2, p);
+        remainder.expect("settings and price within the bounds")
+    }
+}
+
+/// The answer of an accepted closing.
+#[derive(Clone, Copy, Debug, PartialEq, Eq)]
+pub struct Closing {
+    pub excess: i64,
+    /// The remainder of Dem(C) (document 02, request 4).
+    pub remainder: u64,
 }
 
 /// An open round: its prices and the offers accepted so far, by developer.
@@ -200,8 +214,8 @@ impl Auction {
         Ok(())
     }
 
-    /// Checks: 2. The answer is the excess at C.
-    pub fn close(&mut self) -> Result<i64, u8> {
+    /// Checks: 2. The answer is the excess at C, with demand's remainder there.
+    pub fn close(&mut self) -> Result<Closing, u8> {
         let Phase::RoundOpen(round) = &self.phase else {
             return Err(NOT_IN_THIS_PHASE);
         };
@@ -222,7 +236,10 @@ impl Auction {
         } else {
             Phase::BetweenRounds
         };
-        Ok(excess)
+        Ok(Closing {
+            excess,
+            remainder: self.settings.remainder(c),
+        })
     }
 
     /// The price at which the next round opens: A, or the previous C.

@@ -1,6 +1,7 @@
-//! Demand, read off the price curve of numeral 3.8.
+//! Demand and its remainder, read off the price curve of numeral 3.8.
 //! Prices on the curve stay fractions and are compared by cross-multiplying, so nothing is
-//! rounded: demand is the least whole quantity that the curve prices at p or less.
+//! rounded: demand is the least whole quantity that the curve prices at p or less, and exact
+//! demand the least of all quantities.
 
 use crate::{Answer, BEYOND_BOUNDS};
 
@@ -14,6 +15,19 @@ pub fn demand(ce: u64, d: u64, m1: u64, m2: u64, p: u64) -> Answer {
 pub fn demand_by_scan(ce: u64, d: u64, m1: u64, m2: u64, p: u64) -> Answer {
     let curve = Curve::within_bounds(ce, d, m1, m2, p)?;
     Ok(curve.demand(p, Curve::least_by_scan))
+}
+
+/// The remainder of Dem(p), in CE-ths of a kWh: rounded demand times CE less exact demand times CE
+/// (document 02, request 4); for settings of any size.
+pub fn demand_remainder(ce: u64, d: u64, m1: u64, m2: u64, p: u64) -> Answer {
+    let curve = Curve::within_bounds(ce, d, m1, m2, p)?;
+    Ok(curve.remainder(p, Curve::least_by_bisection))
+}
+
+/// The remainder, with the quantities tried one by one; for small settings.
+pub fn demand_remainder_by_scan(ce: u64, d: u64, m1: u64, m2: u64, p: u64) -> Answer {
+    let curve = Curve::within_bounds(ce, d, m1, m2, p)?;
+    Ok(curve.remainder(p, Curve::least_by_scan))
 }
 
 /// The paper's highest CE.
@@ -36,7 +50,14 @@ struct Fraction {
     denominator: i128,
 }
 
+/// Finds the least number of parts of a kWh, so many to each, that the curve prices at p or less.
+type Least = fn(&Curve, parts: i128, p: i128) -> i128;
+
 impl Fraction {
+    fn is(&self, price: i128) -> bool {
+        self.numerator == price * self.denominator
+    }
+
     fn at_most(&self, price: i128) -> bool {
         let product = price * self.denominator;
         // Multiplying by a negative denominator turns the order round.
@@ -65,9 +86,10 @@ impl Curve {
         }
     }
 
-    /// p(q) of numeral 3.8.
-    fn price(&self, q: i128) -> Fraction {
-        let Curve { ce, d, m1, m2 } = *self;
+    /// p(q) of numeral 3.8, for the quantity q / parts.
+    fn price(&self, q: i128, parts: i128) -> Fraction {
+        let ce = self.ce;
+        let [d, m1, m2] = [self.d, self.m1, self.m2].map(|quantity| quantity * parts);
         let (numerator, denominator) = if q < m1 {
             (2 * ce, 1)
         } else if q <= d {
@@ -83,37 +105,50 @@ impl Curve {
         }
     }
 
-    fn priced_at_most(&self, q: i128, price: i128) -> bool {
-        self.price(q).at_most(price)
-    }
-
-    /// The paper's exception comes first: at 2 × CE every quantity from 0 on would do.
-    fn demand(&self, p: u64, least: fn(&Curve, i128) -> i128) -> u64 {
-        let p = i128::from(p);
-        let quantity = if p == 2 * self.ce {
-            self.m1
-        } else {
-            least(self, p)
-        };
+    fn demand(&self, p: u64, least: Least) -> u64 {
+        let quantity = self.least_quantity(1, p.into(), least);
         u64::try_from(quantity).expect("a quantity from 0 to M2")
     }
 
+    /// Exact demand is a whole number of CE-ths: the curve prices it at p itself.
+    fn remainder(&self, p: u64, least: Least) -> u64 {
+        let p = i128::from(p);
+        let rounded = self.least_quantity(1, p, least);
+        let exact = self.least_quantity(self.ce, p, least);
+        assert!(
+            self.price(exact, self.ce).is(p),
+            "{exact} CE-ths are rounded"
+        );
+        let remainder = rounded * self.ce - exact;
+        u64::try_from(remainder).expect("rounded demand is not below exact demand")
+    }
+
+    /// The least quantity, in parts of a kWh, that the curve prices at p or less. The paper's
+    /// exception comes first: at 2 × CE every quantity from 0 on would do.
+    fn least_quantity(&self, parts: i128, p: i128, least: Least) -> i128 {
+        if p == 2 * self.ce {
+            self.m1 * parts
+        } else {
+            least(self, parts, p)
+        }
+    }
+
     /// The scan ends at M2, which the curve prices at the floor.
-    fn least_by_scan(&self, price: i128) -> i128 {
+    fn least_by_scan(&self, parts: i128, p: i128) -> i128 {
         let mut q = 0;
-        while !self.priced_at_most(q, price) {
+        while !self.price(q, parts).at_most(p) {
             q += 1;
         }
         q
     }
 
-    /// The curve does not rise with q, so the quantities priced at most `price` are all those
-    /// from the least one on. M2 is one of them; `low` stays at or below the least one.
-    fn least_by_bisection(&self, price: i128) -> i128 {
-        let (mut low, mut high) = (0, self.m2);
+    /// The curve does not rise with q, so the quantities priced at most p are all those from the
+    /// least one on. M2 is one of them; `low` stays at or below the least one.
+    fn least_by_bisection(&self, parts: i128, p: i128) -> i128 {
+        let (mut low, mut high) = (0, self.m2 * parts);
         while low < high {
             let middle = (low + high) / 2;
-            if self.priced_at_most(middle, price) {
+            if self.price(middle, parts).at_most(p) {
                 high = middle;
             } else {
                 low = middle + 1;
@@ -126,13 +161,15 @@ impl Curve {
 #[cfg(test)]
 mod tests {
     use super::*;
+    use crate::random::Random;
     use crate::sample::MARKED_CASES;
 
     #[test]
     fn marked_cases() {
-        for ([ce, d, m1, m2, p], quantity) in MARKED_CASES {
+        for ([ce, d, m1, m2, p], quantity, remainder) in MARKED_CASES {
             assert_eq!(demand(ce, d, m1, m2, p), Ok(quantity), "p {p}");
             assert_eq!(demand_by_scan(ce, d, m1, m2, p), Ok(quantity), "p {p}");
+            assert_eq!(demand_remainder(ce, d, m1, m2, p), Ok(remainder), "p {p}");
         }
     }
 
@@ -158,10 +195,51 @@ mod tests {
                         demand_by_scan(ce, d, m1, m2, p),
                         "CE {ce}, D {d}, M1 {m1}, M2 {m2}, p {p}"
                     );
+                    assert_eq!(
+                        demand_remainder(ce, d, m1, m2, p),
+                        demand_remainder_by_scan(ce, d, m1, m2, p),
+                        "CE {ce}, D {d}, M1 {m1}, M2 {m2}, p {p}"
+                    );
                 }
             });
         }
         assert_eq!(settings, 7 * 560);
+    }
+
+    /// Document 01's formulas: what the whole part of (D - M1)(p - CE)/CE leaves, and what rounding
+    /// 2(M2 - D)(CE - p)/CE up adds. From 0 to CE - 1; 0 exactly where the curve prices Dem(p) at p.
+    #[test]
+    fn remainder_by_formulas() {
+        let mut random = Random::new(4);
+        let mut zeros = 0;
+        for _ in 0..100_000 {
+            let ce = 2 * random.of_any_size(1, HIGHEST_CE / 2);
+            let m2 = random.of_any_size(3, HIGHEST_M2);
+            let d = m2 - random.of_any_size(1, m2 - 2);
+            let m1 = d - random.of_any_size(1, d - 1);
+            let p = random.between(ce / 2, 2 * ce);
+            let remainder = demand_remainder(ce, d, m1, m2, p).expect("within the bounds");
+            let expected = if p >= ce {
+                (d - m1) * (p - ce) % ce
+            } else {
+                (2 * (m2 - d) * (ce - p)).next_multiple_of(ce) - 2 * (m2 - d) * (ce - p)
+            };
+            assert_eq!(
+                remainder, expected,
+                "CE {ce}, D {d}, M1 {m1}, M2 {m2}, p {p}"
+            );
+            assert!(remainder < ce);
+            let curve = Curve::within_bounds(ce, d, m1, m2, p).expect("within the bounds");
+            let demanded = curve.demand(p, Curve::least_by_bisection);
+            let whole = curve.price(demanded.into(), 1).is(p.into());
+            assert_eq!(
+                remainder == 0,
+                whole,
+                "CE {ce}, D {d}, M1 {m1}, M2 {m2}, p {p}"
+            );
+            zeros += u64::from(remainder == 0);
+        }
+        assert!((1_000..99_000).contains(&zeros), "{zeros} remainders of 0");
     }
 
     /// What bisection rests on.
@@ -170,8 +248,11 @@ mod tests {
         margins_up_to(12, |d, m1, m2| {
             let curve = Curve::within_bounds(6, d, m1, m2, 6).expect("within the bounds");
             for p in 3..=12 {
-                let cheap = (0..=i128::from(m2) + 2).map(|q| curve.priced_at_most(q, p));
-                assert!(cheap.is_sorted(), "D {d}, M1 {m1}, M2 {m2}, p {p}");
+                for parts in [1, 6] {
+                    let quantities = 0..=(i128::from(m2) + 2) * parts;
+                    let cheap = quantities.map(|q| curve.price(q, parts).at_most(p));
+                    assert!(cheap.is_sorted(), "D {d}, M1 {m1}, M2 {m2}, p {p}");
+                }
             }
         });
     }
@@ -190,6 +271,9 @@ mod tests {
                 assert_eq!(demand(ce, d, m1, m2, 2 * ce), Ok(m1));
                 assert_eq!(demand(ce, d, m1, m2, ce), Ok(d));
                 assert_eq!(demand(ce, d, m1, m2, ce / 2), Ok(m2));
+                for p in [2 * ce, ce, ce / 2] {
+                    assert_eq!(demand_remainder(ce, d, m1, m2, p), Ok(0));
+                }
             }
         }
     }
@@ -212,6 +296,7 @@ mod tests {
         ] {
             assert_eq!(demand(ce, d, m1, m2, p), Err(BEYOND_BOUNDS));
             assert_eq!(demand_by_scan(ce, d, m1, m2, p), Err(BEYOND_BOUNDS));
+            assert_eq!(demand_remainder(ce, d, m1, m2, p), Err(BEYOND_BOUNDS));
         }
     }
 }

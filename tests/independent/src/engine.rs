@@ -8,6 +8,7 @@ mod host {
     #[link(name = "host", kind = "static")]
     extern "C" {
         pub fn demand(ce: u64, d: u64, m1: u64, m2: u64, p: u64) -> u64;
+        pub fn demand_remainder(ce: u64, d: u64, m1: u64, m2: u64, p: u64) -> u64;
         pub fn replay(
             record: *const u8,
             record_length: usize,
@@ -53,6 +54,12 @@ mod host {
 pub fn demand(ce: u64, d: u64, m1: u64, m2: u64, p: u64) -> u64 {
     // SAFETY: the call takes and returns plain numbers and has no preconditions.
     unsafe { host::demand(ce, d, m1, m2, p) }
+}
+
+/// The remainder of Dem, or 2^64 - 1 for refusal 1.
+pub fn demand_remainder(ce: u64, d: u64, m1: u64, m2: u64, p: u64) -> u64 {
+    // SAFETY: the call takes and returns plain numbers and has no preconditions.
+    unsafe { host::demand_remainder(ce, d, m1, m2, p) }
 }
 
 /// The number of bytes written from the start of `replies`, or 2^64 - 11 for refusal 11.

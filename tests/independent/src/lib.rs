@@ -19,7 +19,8 @@ pub mod settling;
 mod tests;
 pub mod trace;
 
-pub use demand::{demand, demand_by_scan, HIGHEST_CE, HIGHEST_M2};
+pub use demand::{demand, demand_by_scan, demand_remainder, demand_remainder_by_scan};
+pub use demand::{HIGHEST_CE, HIGHEST_M2};
 
 /// An accepted call's number, or the number of its refusal.
 pub type Answer = Result<u64, u8>;

@@ -1,10 +1,10 @@
-//! Replay of a recorded auction: frames in, replies out (document 01, Frames); and frames out
-//! (document 02, request 2).
+//! Replay of a recorded auction: frames in, replies out (document 01, Frames; the remainders of
+//! document 02's request 4 at their ends); and frames out (document 02, request 2).
 
 mod frames;
 mod writing;
 
-use crate::auction::Auction;
+use crate::auction::{Auction, Closing};
 use crate::settling::Settlement;
 use crate::{host_number, BUFFER_TOO_SHORT, MALFORMED_LINE};
 pub use frames::{lines, next_line, read_call, Call, LONGEST_LINE};
@@ -53,7 +53,7 @@ pub fn printed(input: &[u8]) -> Vec<u8> {
 #[derive(Clone, Debug, PartialEq, Eq)]
 pub enum Accepted {
     Plain,
-    Excess(i64),
+    Closed(Closing),
     Settled(Settlement),
 }
 
@@ -89,7 +89,7 @@ pub fn make(auction: &mut Auction, call: &Call) -> Result<Accepted, u8> {
             let answer = auction.offer(*developer, prices, levels);
             answer.map(|()| Accepted::Plain)
         }
-        Call::Close => auction.close().map(Accepted::Excess),
+        Call::Close => auction.close().map(Accepted::Closed),
         &Call::Settle { limit } => {
             let answer = auction.settle(limit.into(), &mut [0; AWARD_BYTES]);
             answer.map(Accepted::Settled)
@@ -129,13 +129,15 @@ pub fn reply_of(kind: u8, answer: &Result<Accepted, u8>) -> Vec<u8> {
 fn behind_answer(accepted: &Accepted) -> String {
     match accepted {
         Accepted::Plain => String::new(),
-        Accepted::Excess(excess) => digits(excess.cast_unsigned(), 16),
+        Accepted::Closed(closing) => {
+            digits(closing.excess.cast_unsigned(), 16) + &digits(closing.remainder, 8)
+        }
         Accepted::Settled(settlement) => settled(settlement),
     }
 }
 
 /// P 8, Dem 10, total 10, choices 8, covering 8, awards 2, then project 2, developer 2,
-/// quantity 8, by rising project.
+/// quantity 8, by rising project, then the remainder 8.
 fn settled(settlement: &Settlement) -> String {
     let mut rest = [
         (settlement.closing_price, 8),
@@ -152,5 +154,5 @@ fn settled(settlement: &Settlement) -> String {
         rest += &digits(award.developer.into(), 2);
         rest += &digits(award.quantity, 8);
     }
-    rest
+    rest + &digits(settlement.remainder, 8)
 }

@@ -1,14 +1,16 @@
 //! What a program that compares replies prints: one line a group of records with what their
 //! replies were, and the first difference; how often rounds closed where the closing rule
-//! decides; how searches went; and what it ends with.
+//! decides; how often demand had a remainder; how searches went; and what it ends with.
 
 mod closings;
+mod remainders;
 mod searches;
 
 use crate::parts::in_parts;
 use crate::replay::lines;
 use crate::settling::Settlement;
 pub use closings::Closings;
+pub use remainders::Remainders;
 pub use searches::Searches;
 use std::collections::BTreeMap;
 use std::fmt::Write;
@@ -48,6 +50,7 @@ pub struct Group {
     /// Lines that the engine wrote again.
     written: u64,
     closings: Closings,
+    remainders: Remainders,
     searches: Searches,
     /// Words of traces by their names.
     words: BTreeMap<String, u64>,
@@ -63,6 +66,7 @@ impl Group {
             replies: BTreeMap::new(),
             written: 0,
             closings: Closings::default(),
+            remainders: Remainders::default(),
             searches: Searches::default(),
             words: BTreeMap::new(),
             difference: None,
@@ -92,6 +96,7 @@ impl Group {
         add(&mut self.replies, other.replies);
         self.written += other.written;
         self.closings.join(other.closings);
+        self.remainders.join(&other.remainders);
         self.searches.join(&other.searches);
         add(&mut self.words, other.words);
         self.difference = self.difference.take().or(other.difference);
@@ -100,6 +105,7 @@ impl Group {
     /// Counts a record by the replies to it.
     pub fn count(&mut self, record: &[u8], replies: &[u8]) {
         self.closings.count(record, replies);
+        self.remainders.count(replies);
         let replies = lines(replies);
         let settled = replies.iter().any(|reply| reply.starts_with(b"0600"));
         self.records += 1;
@@ -155,6 +161,7 @@ impl Group {
             println!("  well-formed lines written again: {}", self.written);
         }
         self.closings.print();
+        self.remainders.print();
         if !self.words.is_empty() {
             println!("  words: {}", listed_counts(&self.words));
         }

@@ -1,5 +1,6 @@
-//! Document 01's sample record and its whole reply as the paper prints them, the examples of
-//! the twelve numbers as lines behind the sample's, and the marked cases of demand.
+//! Document 01's sample record as the paper prints it and its whole reply with the remainders of
+//! document 02's request 4, the examples of the twelve numbers as lines behind the sample's, and the
+//! marked cases of demand.
 
 pub const RECORD: &str = "\
 0100004E2000000003E8000000038400000004B000009C40
@@ -25,8 +26,8 @@ pub const REPLY: &str = "\
 0400
 0400
 0400
-0500FFFFFFFFFFFFFFC9
-06000000659000000003CA00000003FC0000000400000003020101000003340203000000C8
+0500FFFFFFFFFFFFFFC900000000
+06000000659000000003CA00000003FC0000000400000003020101000003340203000000C800000000
 ";
 
 /// What the program `trace` prints of the sample: the reply with its words and decimal numbers.
@@ -40,9 +41,10 @@ pub const TRACE: &str = "\
 0400
 0400
 0400
-0500FFFFFFFFFFFFFFC9
+0500FFFFFFFFFFFFFFC900000000
 excess -55
-06000000659000000003CA00000003FC0000000400000003020101000003340203000000C8
+remainder 0
+06000000659000000003CA00000003FC0000000400000003020101000003340203000000C800000000
 price 26000
 demand 970
 total 1020
@@ -51,6 +53,7 @@ covering 3
 award 1 1 820
 award 2 3 200
 kept 2
+remainder 0
 ";
 
 /// Lines of the sample up to its set-up, last registration, opening, first offer and closing.
@@ -99,16 +102,18 @@ pub fn example((count, line, reply): (usize, &str, &str)) -> (String, String) {
     (behind(RECORD, line), behind(REPLY, reply))
 }
 
-/// The marked cases (document 01, Demand): CE, D, M1, M2 and p, with Dem(p).
-pub const MARKED_CASES: [([u64; 5], u64); 10] = [
-    ([20_000, 1_000, 900, 1_200, 40_000], 900),
-    ([20_000, 1_000, 900, 1_200, 30_001], 950),
-    ([20_000, 1_000, 900, 1_200, 30_000], 950),
-    ([20_000, 1_000, 900, 1_200, 29_999], 951),
-    ([20_000, 1_000, 900, 1_200, 25_999], 971),
-    ([20_000, 1_000, 900, 1_200, 20_000], 1_000),
-    ([20_000, 1_000, 900, 1_200, 19_999], 1_001),
-    ([20_000, 1_000, 900, 1_200, 19_950], 1_001),
-    ([20_000, 1_000, 900, 1_200, 19_949], 1_002),
-    ([20_000, 1_000, 900, 1_200, 10_000], 1_200),
+/// The marked cases (document 01, Demand): CE, D, M1, M2 and p, with Dem(p) and its remainder
+/// (document 02, request 4). Exact demand times CE is 20,000,000 less 100 for each thousandth above
+/// 20,000, and 400 more for each below.
+pub const MARKED_CASES: [([u64; 5], u64, u64); 10] = [
+    ([20_000, 1_000, 900, 1_200, 40_000], 900, 0),
+    ([20_000, 1_000, 900, 1_200, 30_001], 950, 100),
+    ([20_000, 1_000, 900, 1_200, 30_000], 950, 0),
+    ([20_000, 1_000, 900, 1_200, 29_999], 951, 19_900),
+    ([20_000, 1_000, 900, 1_200, 25_999], 971, 19_900),
+    ([20_000, 1_000, 900, 1_200, 20_000], 1_000, 0),
+    ([20_000, 1_000, 900, 1_200, 19_999], 1_001, 19_600),
+    ([20_000, 1_000, 900, 1_200, 19_950], 1_001, 0),
+    ([20_000, 1_000, 900, 1_200, 19_949], 1_002, 19_600),
+    ([20_000, 1_000, 900, 1_200, 10_000], 1_200, 0),
 ];

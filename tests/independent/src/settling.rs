@@ -30,6 +30,8 @@ pub struct Settlement {
     /// The totals of the complete choices that document 02's request 3 does not set aside; the
     /// result tells how many they are.
     pub kept: Vec<u64>,
+    /// The remainder of Dem at the closing price (document 02, request 4).
+    pub remainder: u64,
 }
 
 #[derive(Clone, Copy, Debug, PartialEq, Eq)]
@@ -149,6 +151,7 @@ impl Auction {
                 })
                 .collect(),
             kept: kept(open, demand),
+            remainder: self.settings().remainder(p),
         }
     }
 }

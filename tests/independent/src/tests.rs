@@ -84,6 +84,11 @@ fn sample_closed() -> Auction {
     auction
 }
 
+/// Closes the round; the excess of its answer.
+fn close(auction: &mut Auction) -> Result<i64, u8> {
+    auction.close().map(|closing| closing.excess)
+}
+
 /// One line of a record: its call unless it is malformed, the answer, and the auctions before
 /// and after it.
 struct Step<'a> {

@@ -1,7 +1,7 @@
 //! The program `trace` (docs/FORMAT.md): each reply and, below it, what it says in words and
 //! decimal numbers, an item a line.
 
-use crate::auction::Auction;
+use crate::auction::{Auction, Closing};
 use crate::replay::{answer, lines, reply_of, Accepted, PROGRAM_BYTES};
 use crate::settling::Settlement;
 
@@ -32,14 +32,17 @@ pub fn traced_with_settlement(input: &[u8]) -> (Vec<u8>, Option<Settlement>) {
 /// What stands below a reply: nothing below a refusal and the other calls.
 fn words(answer: &Result<Accepted, u8>) -> String {
     match answer {
-        Ok(Accepted::Excess(excess)) => format!("excess {excess}\n"),
+        Ok(Accepted::Closed(closing)) => {
+            let Closing { excess, remainder } = closing;
+            format!("excess {excess}\nremainder {remainder}\n")
+        }
         Ok(Accepted::Settled(settlement)) => settled(settlement),
         Ok(Accepted::Plain) | Err(_) => String::new(),
     }
 }
 
 /// The settlement's numbers, then its awards by rising project, then how many complete choices
-/// were not set aside, which no reply says.
+/// were not set aside, which no reply says, and the remainder.
 fn settled(settlement: &Settlement) -> String {
     let mut text = [
         ("price", settlement.closing_price),
@@ -56,5 +59,6 @@ fn settled(settlement: &Settlement) -> String {
         let (project, developer, quantity) = (award.project, award.developer, award.quantity);
         text += &format!("award {project} {developer} {quantity}\n");
     }
-    text + &format!("kept {}\n", settlement.kept.len())
+    let (kept, remainder) = (settlement.kept.len(), settlement.remainder);
+    text + &format!("kept {kept}\nremainder {remainder}\n")
 }

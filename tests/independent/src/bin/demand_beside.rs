@@ -1,14 +1,16 @@
-//! Runs the engine's demand call beside the independent implementation.
-//! One line a group of inputs: how many were compared, and `ok` or the first difference.
+//! Runs the engine's demand call and its remainder call beside the independent implementation.
+//! One line a group of inputs: how many were compared, how often the remainder was 0, and `ok` or
+//! the first difference.
 //! The exit status is 0 only if no group differs.
 
 #[path = "../engine.rs"]
 mod engine;
 
 use independent::random::Random;
-use independent::report::{inputs, verdict};
+use independent::report::{few, inputs, verdict};
 use independent::sample::MARKED_CASES;
-use independent::{demand, demand_by_scan, host_number, Answer};
+use independent::{demand, demand_by_scan, demand_remainder, demand_remainder_by_scan};
+use independent::{host_number, Answer};
 use independent::{BEYOND_BOUNDS, HIGHEST_CE, HIGHEST_M2};
 use std::process::ExitCode;
 
@@ -16,6 +18,13 @@ use std::process::ExitCode;
 type Call = [u64; 5];
 
 const REFUSED: Answer = Err(BEYOND_BOUNDS);
+
+/// The answers to the two calls.
+#[derive(Clone, Copy, Debug, PartialEq, Eq)]
+struct Answers {
+    demand: Answer,
+    remainder: Answer,
+}
 
 fn main() -> ExitCode {
     // Each group is reported when it is done, also behind one that differs.
@@ -53,6 +62,8 @@ struct Group {
     name: &'static str,
     demands: u64,
     refusals: u64,
+    /// Demands with remainder 0.
+    whole: u64,
     difference: Option<String>,
 }
 
@@ -62,30 +73,40 @@ impl Group {
             name,
             demands: 0,
             refusals: 0,
+            whole: 0,
             difference: None,
         }
     }
 
-    /// Compares the engine with the independent implementation's answer to the same call.
-    fn compare(&mut self, call: Call, independent: Answer) {
+    /// Compares the engine with the independent implementation's answers to the same input.
+    fn compare(&mut self, call: Call, independent: Answers) {
         let [ce, d, m1, m2, p] = call;
-        let engine = engine::demand(ce, d, m1, m2, p);
-        if engine != host_number(independent) {
-            self.differ(
-                call,
-                format!("engine {engine}, independent {independent:?}"),
-            );
+        let Answers { demand, remainder } = independent;
+        for (name, engine, independent) in [
+            ("demand", engine::demand(ce, d, m1, m2, p), demand),
+            (
+                "remainder",
+                engine::demand_remainder(ce, d, m1, m2, p),
+                remainder,
+            ),
+        ] {
+            if engine != host_number(independent) {
+                let why = format!("{name}: engine {engine}, independent {independent:?}");
+                self.differ(call, why);
+            }
         }
-        match independent {
+        match demand {
             Ok(_) => self.demands += 1,
             Err(_) => self.refusals += 1,
         }
+        self.whole += u64::from(remainder == Ok(0));
     }
 
     /// Holds both implementations to an answer that is written out, so that an error which
     /// they have in common shows.
-    fn compare_stated(&mut self, call: Call, stated: Answer) {
-        let independent = answer(call);
+    fn compare_stated(&mut self, call: Call, demand: Answer, remainder: Answer) {
+        let stated = Answers { demand, remainder };
+        let independent = answers(call);
         if independent != stated {
             self.differ(
                 call,
@@ -107,31 +128,36 @@ impl Group {
             Some(difference) => difference,
         };
         println!(
-            "{}: {} compared ({} demands, {} refusals): {verdict}",
+            "{}: {} compared ({} demands, {} refusals; remainder 0 {}, above 0 {}): {verdict}",
             self.name,
             self.demands + self.refusals,
             self.demands,
-            self.refusals
+            self.refusals,
+            self.whole,
+            self.demands - self.whole
         );
         self.difference.is_none()
     }
 }
 
-fn answer([ce, d, m1, m2, p]: Call) -> Answer {
-    demand(ce, d, m1, m2, p)
+fn answers([ce, d, m1, m2, p]: Call) -> Answers {
+    Answers {
+        demand: demand(ce, d, m1, m2, p),
+        remainder: demand_remainder(ce, d, m1, m2, p),
+    }
 }
 
-/// The paper's ten, with its numbers.
+/// The paper's ten, with its numbers, and remainders from the fraction.
 fn marked_cases() -> Group {
     let mut group = Group::new("marked cases");
-    for (call, quantity) in MARKED_CASES {
-        group.compare_stated(call, Ok(quantity));
+    for (call, quantity, remainder) in MARKED_CASES {
+        group.compare_stated(call, Ok(quantity), Ok(remainder));
     }
     group
 }
 
 /// Each bound broken alone, at its edge, and kept by one. Kept, the price is the floor, CE or
-/// 2 × CE, where demand is M2, D or M1.
+/// 2 × CE, where demand is M2, D or M1, all without a remainder.
 const EDGES: [(Call, Answer); 35] = [
     // CE even, 2 to 500,000.
     ([0, 1_000, 900, 1_200, 0], REFUSED),
@@ -182,7 +208,7 @@ const EDGES: [(Call, Answer); 35] = [
 fn edges() -> Group {
     let mut group = Group::new("edges of the bounds");
     for (call, stated) in EDGES {
-        group.compare_stated(call, stated);
+        group.compare_stated(call, stated, stated.map(|_| 0));
     }
     group
 }
@@ -198,7 +224,7 @@ fn greatest_numbers() -> Group {
     let mut group = Group::new("greatest numbers in any places");
     for great in [u64::MAX, u64::MAX - 1, u64::MAX / 2, u64::MAX / 2 + 1] {
         for places in SETS_OF_PLACES {
-            group.compare_stated(changed(SOUND, places, |_| great), REFUSED);
+            group.compare_stated(changed(SOUND, places, |_| great), REFUSED, REFUSED);
         }
     }
     group
@@ -210,7 +236,8 @@ fn raised_numbers() -> Group {
     let mut group = Group::new("numbers raised by 2^37 to 2^63 in any places");
     for power in 37..u64::BITS {
         for places in SETS_OF_PLACES {
-            group.compare_stated(changed(SOUND, places, |n| n + (1 << power)), REFUSED);
+            let raised = changed(SOUND, places, |n| n + (1 << power));
+            group.compare_stated(raised, REFUSED, REFUSED);
         }
     }
     group
@@ -226,28 +253,35 @@ fn changed(call: Call, places: u32, change: impl Fn(u64) -> u64) -> Call {
     })
 }
 
-/// Every price of some small settings, and one beyond each end, beside the scan.
+/// Small settings: CE, D, M1 and M2.
+const SWEPT: [[u64; 4]; 15] = [
+    [20_000, 1_000, 900, 1_200],
+    [2, 2, 1, 3],
+    [2, 500, 1, 1_000],
+    [6, 7, 3, 20],
+    [10, 12, 2, 17],
+    [14, 1_000, 1, 3_000],
+    [100, 50, 1, 51],
+    [998, 500, 499, 2_000],
+    [1_000, 501, 1, 502],
+    [1_000, 1_001, 1, 1_501],
+    [1_000, 1_000, 1, 1_501],
+    [1_000, 1_002, 1, 1_503],
+    [4_096, 64, 63, 65],
+    [65_538, 300, 97, 401],
+    [500_000, 12, 5, 31],
+];
+
+/// Every price of the small settings, and one beyond each end, beside the scan; the CE-ths of a kWh
+/// are too many for one.
 fn sweeps() -> Group {
     let mut group = Group::new("every price of small settings, by scan");
-    for [ce, d, m1, m2] in [
-        [20_000, 1_000, 900, 1_200],
-        [2, 2, 1, 3],
-        [2, 500, 1, 1_000],
-        [6, 7, 3, 20],
-        [10, 12, 2, 17],
-        [14, 1_000, 1, 3_000],
-        [100, 50, 1, 51],
-        [998, 500, 499, 2_000],
-        [1_000, 501, 1, 502],
-        [1_000, 1_001, 1, 1_501],
-        [1_000, 1_000, 1, 1_501],
-        [1_000, 1_002, 1, 1_503],
-        [4_096, 64, 63, 65],
-        [65_538, 300, 97, 401],
-        [500_000, 12, 5, 31],
-    ] {
+    let swept = if few() { &SWEPT[..1] } else { &SWEPT };
+    for &[ce, d, m1, m2] in swept {
         for p in ce / 2 - 1..=2 * ce + 1 {
-            group.compare([ce, d, m1, m2, p], demand_by_scan(ce, d, m1, m2, p));
+            let demand = demand_by_scan(ce, d, m1, m2, p);
+            let remainder = demand_remainder(ce, d, m1, m2, p);
+            group.compare([ce, d, m1, m2, p], Answers { demand, remainder });
         }
     }
     group
@@ -260,7 +294,9 @@ fn small_box() -> Group {
     for number in 0..sides.iter().product() {
         let call = digits(number, sides);
         let [ce, d, m1, m2, p] = call;
-        group.compare(call, demand_by_scan(ce, d, m1, m2, p));
+        let demand = demand_by_scan(ce, d, m1, m2, p);
+        let remainder = demand_remainder_by_scan(ce, d, m1, m2, p);
+        group.compare(call, Answers { demand, remainder });
     }
     group
 }
@@ -279,7 +315,7 @@ fn generated(name: &'static str, generate: Generator) -> Group {
     let mut random = Random::new(2026);
     for _ in 0..inputs(GENERATED_INPUTS) {
         let call = generate(&mut random);
-        group.compare(call, answer(call));
+        group.compare(call, answers(call));
     }
     group
 }

@@ -39,7 +39,7 @@ fn make(auction: &mut Auction, line: &[u64]) {
             let (prices, levels) = (first(&PRICES, n), first(&FALLS, m));
             answered(4, auction.offer(byte(developer), prices, levels));
         }
-        [5] => answered(5, auction.close().map(|_excess| ())),
+        [5] => answered(5, auction.close().map(|_closing| ())),
         [6, limit, lent] => settle(auction, limit, lent),
         [7] => *auction = Auction::new(),
         [] => (),

@@ -3,8 +3,9 @@
 //! byte of them, and of their surroundings, is compared. Each well-formed line is also written
 //! again by the engine, which has to give the same bytes, with their 0A.
 //! One line a group of records: their replies by kind and answer, and `ok` or the first
-//! difference; below it, how many lines were written again, and how many rounds closed where the
-//! closing rule decides. The exit status is 0 only if no group differs.
+//! difference; below it, how many lines were written again, how many rounds closed where the
+//! closing rule decides, and how many closings and settlings had a remainder. The exit status is 0
+//! only if no group differs.
 
 #[path = "../engine.rs"]
 mod engine;

@@ -62,7 +62,7 @@ fn compare(group: &mut Group, record: &[u8], output: &Output) {
 }
 
 /// Counts the replies, which begin with a digit or a capital, and the words by their names; the
-/// excess by its sign.
+/// excess by its sign, the remainder by whether it is 0.
 fn count(group: &mut Group, record: &[u8], text: &[u8]) {
     let (below, replies): (Vec<&[u8]>, Vec<&[u8]>) = lines(text)
         .into_iter()
@@ -75,6 +75,8 @@ fn count(group: &mut Group, record: &[u8], text: &[u8]) {
             ("excess", "0") => "excess 0",
             ("excess", number) if number.starts_with('-') => "excess below 0",
             ("excess", _) => "excess above 0",
+            ("remainder", "0") => "remainder 0",
+            ("remainder", _) => "remainder above 0",
             _ => name,
         });
     }

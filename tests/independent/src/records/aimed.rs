@@ -2,7 +2,7 @@
 //! offers of a round stand, the margins are moved so far that it closes with that excess.
 
 use super::Writer;
-use crate::auction::{Auction, Settings};
+use crate::auction::{Auction, Closing, Settings};
 use crate::replay::{lines, make, read_call, write_call, Call};
 
 /// Around 0 and around 1,000.
@@ -13,7 +13,7 @@ impl Writer {
     /// none is open or the auction would then be another one by now.
     pub(super) fn aim(&mut self) {
         let aimed = self.random.one_of(&DECISIVE);
-        let Ok(excess) = self.auction.clone().close() else {
+        let Ok(Closing { excess, .. }) = self.auction.clone().close() else {
             return;
         };
         let settings = self.auction.settings();

@@ -105,7 +105,7 @@ pub fn reply_sizes() -> Vec<Vec<u8>> {
     let around = PROGRAM_BYTES - 6..=PROGRAM_BYTES + 6;
     let mut records: Vec<Vec<u8>> = around.map(replied_by).collect();
     let (book, settling) = (thirty_two_awards(), "06FFFFFFFF\n");
-    for count in [149, 150, 151, 300] {
+    for count in [146, 147, 148, 300] {
         let record = book.clone() + &settling.repeat(count);
         records.push(record.into_bytes());
     }
@@ -113,7 +113,7 @@ pub fn reply_sizes() -> Vec<Vec<u8>> {
 }
 
 const SHORTEST_REPLY: usize = "FF0C\n".len();
-const CLOSING_REPLY: usize = "0500FFFFFFFFFFFFFFC9\n".len();
+const CLOSING_REPLY: usize = "0500FFFFFFFFFFFFFFC900000000\n".len();
 
 /// A record with so many bytes of replies: rounds of an existing plant alone, whose excess stays
 /// above 1,000, then blank lines. Closings have the longer replies, so their number decides the
@@ -122,7 +122,7 @@ fn replied_by(bytes: usize) -> Vec<u8> {
     let longer = CLOSING_REPLY - SHORTEST_REPLY;
     let closings = (0..SHORTEST_REPLY)
         .find(|closings| (bytes - closings * longer).is_multiple_of(SHORTEST_REPLY))
-        .expect("5 does not divide 16");
+        .expect("5 does not divide 24");
     let mut record = "0100004E2000000003E8000000038400000004B000009C40\n\
                       02010101000000000000000001000007D0\n"
         .to_owned();

@@ -104,10 +104,9 @@ fn award_among_all_choices() {
         let award = awarded_levels(auction, settlement);
         assert!(covering.contains(&&award));
         assert_eq!(settlement.total, total(&award));
-        assert_eq!(
-            settlement.demand,
-            auction.settings().demand(settlement.closing_price)
-        );
+        let (settings, p) = (auction.settings(), settlement.closing_price);
+        assert_eq!(settlement.demand, settings.demand(p));
+        assert_eq!(settlement.remainder, settings.remainder(p));
         for other in covering {
             assert!(total(other) >= settlement.total);
             if total(other) == settlement.total && *other != award {

@@ -1,7 +1,7 @@
 //! The twelve numbers: each row's example, each bound at its edge, and the order of the checks
 //! where two causes meet.
 
-use super::{sample_closed, sample_opened, sample_registered, sample_set_up};
+use super::{close, sample_closed, sample_opened, sample_registered, sample_set_up};
 use crate::auction::{Auction, EXISTING, HIGHEST_LEVEL, NEW};
 use crate::replay::replay;
 
@@ -49,7 +49,7 @@ fn one_award() -> Auction {
     let registered = auction.register(1, 1, EXISTING, 0, 0, &[900]);
     registered.expect("a sound registration");
     auction.open(10_000).expect("900 cover A");
-    assert_eq!(auction.close(), Ok(-300));
+    assert_eq!(close(&mut auction), Ok(-300));
     auction
 }
 

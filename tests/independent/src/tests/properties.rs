@@ -1,7 +1,7 @@
 //! What document 01's rules imply for the ledger and the replies, on generated records.
 
 use super::{each_step, Step, RECORDS};
-use crate::auction::{Phase, NEW};
+use crate::auction::{Closing, Phase, NEW};
 use crate::records::{edges, record};
 use crate::replay::{lines, replay, replay_into, Accepted, Call, PROGRAM_BYTES};
 use crate::{host_number, BUFFER_TOO_SHORT};
@@ -38,13 +38,14 @@ fn a_stays_covered() {
     });
 }
 
-/// The excess is supply less Dem at C, supply there is the sum of the lows, and the phase goes
+/// The excess is supply less Dem at C, with the remainder there, supply is the sum of the lows, and
+/// the phase goes
 /// by the floor and the excess in GWh per day with what lies beyond the third decimal dropped
 /// (document 02, request 1).
 #[test]
 fn excess_and_phase_agree() {
     each_line(|Step { answer, after, .. }| {
-        let Ok(Accepted::Excess(excess)) = answer else {
+        let Ok(Accepted::Closed(Closing { excess, remainder })) = answer else {
             return;
         };
         let settings = after.settings();
@@ -55,6 +56,7 @@ fn excess_and_phase_agree() {
             i128::from(*excess),
             i128::from(lows) - i128::from(settings.demand(c))
         );
+        assert_eq!(*remainder, settings.remainder(c));
         let thousandths = *excess / 1_000;
         let closed = thousandths <= 0 || c == settings.floor();
         let phase = if closed {

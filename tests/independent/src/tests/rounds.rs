@@ -1,6 +1,6 @@
 //! Rounds by calls: phases, offers, missing offers, the excess and when the auction closes.
 
-use super::{sample_closed, sample_opened, sample_registered, sample_set_up};
+use super::{close, sample_closed, sample_opened, sample_registered, sample_set_up};
 use crate::auction::{Auction, Phase, Withdrawal, EXISTING, NEW};
 
 /// The withdrawals of a developer, as (price, level).
@@ -32,7 +32,7 @@ fn all_stay(c: u32) -> (Auction, i64) {
         let offered = auction.offer(developer, &[], &[]);
         offered.expect("an offer of no steps");
     }
-    let excess = auction.close().expect("a round is open");
+    let excess = close(&mut auction).expect("a round is open");
     (auction, excess)
 }
 
@@ -91,7 +91,7 @@ fn greatest_of_a_project() {
 #[test]
 fn missing_offers() {
     let mut auction = sample_opened();
-    assert_eq!(auction.close(), Ok(820 - 975));
+    assert_eq!(close(&mut auction), Ok(820 - 975));
     for developer in [2, 3, 4] {
         assert_eq!(history(&auction, developer), [(40_000, 0)]);
         assert_eq!(quantity(&auction, developer), 0);
@@ -108,12 +108,12 @@ fn missing_offers_later() {
     assert_eq!(auction.open(30_000), Ok(()));
     assert_eq!(auction.offer(2, &[30_000], &[100]), Ok(()));
     assert_eq!(auction.offer(3, &[], &[]), Ok(()));
-    assert_eq!(auction.close(), Ok(1_820 + 200 - 950));
+    assert_eq!(close(&mut auction), Ok(1_820 + 200 - 950));
     assert_eq!(history(&auction, 2), [(30_000, 100)]);
     assert_eq!(history(&auction, 4), [(40_000, 0)]);
     assert_eq!(auction.open(29_000), Ok(()));
     assert_eq!(auction.offer(3, &[29_999], &[0]), Ok(()));
-    assert_eq!(auction.close(), Ok(1_820 - 955));
+    assert_eq!(close(&mut auction), Ok(1_820 - 955));
     assert_eq!(history(&auction, 2), [(30_000, 100), (30_000, 0)]);
     assert_eq!(history(&auction, 3), [(29_999, 0)]);
     assert_eq!(history(&auction, 4), [(40_000, 0)]);
@@ -126,7 +126,7 @@ fn closed_at(c: u32, plant: u32) -> (i64, Phase) {
     let registered = auction.register(1, 1, EXISTING, 0, 0, &[plant]);
     assert_eq!(registered, Ok(()));
     assert_eq!(auction.open(c), Ok(()));
-    let excess = auction.close().expect("a round is open");
+    let excess = close(&mut auction).expect("a round is open");
     (excess, auction.phase().clone())
 }
 
@@ -166,10 +166,10 @@ fn closed_in_a_later_round() {
     let registered = auction.register(1, 1, EXISTING, 0, 0, &[1_950]);
     assert_eq!(registered, Ok(()));
     assert_eq!(auction.open(30_000), Ok(()));
-    assert_eq!(auction.close(), Ok(1_000));
+    assert_eq!(close(&mut auction), Ok(1_000));
     assert_eq!(auction.settle(1, &mut [0; 192]), Err(2));
     assert_eq!(auction.open(29_999), Ok(()));
-    assert_eq!(auction.close(), Ok(999));
+    assert_eq!(close(&mut auction), Ok(999));
     assert_eq!(*auction.phase(), Phase::Closed);
     assert_eq!(auction.open(29_998), Err(2));
 }
@@ -189,7 +189,7 @@ fn closing_price_after_an_excess() {
             assert_eq!(answer, Ok(()));
         }
         let excess = i64::from(plant) + 100 - 950;
-        assert_eq!(auction.close(), Ok(excess));
+        assert_eq!(close(&mut auction), Ok(excess));
         assert_eq!(*auction.phase() == Phase::Closed, excess <= 999);
         if excess <= 999 {
             let settlement = auction.settle(2, &mut [0; 192]).expect("two choices");
@@ -217,7 +217,7 @@ fn one_offer_a_round() {
         200,
         "offers apply when the round is closed"
     );
-    assert_eq!(auction.close(), Ok(2_170 - 950));
+    assert_eq!(close(&mut auction), Ok(2_170 - 950));
     assert_eq!(quantity(&auction, 2), 100);
     assert_eq!(auction.open(29_000), Ok(()));
     assert_eq!(
@@ -238,7 +238,7 @@ fn most_rounds() {
         assert_eq!(auction.open(c + 1), Err(5));
         assert_eq!(auction.open(2), Err(5));
         assert_eq!(auction.open(c), Ok(()));
-        assert!(auction.close().is_ok_and(|excess| excess > 1_000));
+        assert!(close(&mut auction).is_ok_and(|excess| excess > 1_000));
     }
     assert_eq!(*auction.phase(), Phase::Closed);
 }
@@ -255,7 +255,7 @@ fn longest_history() {
     let mut slowly = auction.clone();
     assert_eq!(auction.open(39_992), Ok(()));
     assert_eq!(auction.offer(1, &prices, &falls), Ok(()));
-    assert_eq!(auction.close(), Ok(2_000 - 901));
+    assert_eq!(close(&mut auction), Ok(2_000 - 901));
     for (&price, &level) in prices.iter().zip(&falls) {
         assert_eq!(slowly.open(price), Ok(()));
         assert_eq!(slowly.offer(1, &[price], &[level]), Ok(()));

@@ -1,4 +1,4 @@
-//! Document 01's sample record and its whole reply, as the paper prints them.
+//! Document 01's sample record and its whole reply, with the remainders of document 02's request 4.
 
 use super::sample_closed;
 use crate::replay::{lines, replay, replay_into};
@@ -55,6 +55,7 @@ fn settled_by_calls() {
     assert_eq!(settlement.demand, 970);
     assert_eq!(settlement.total, 1_020);
     assert_eq!((settlement.choices, settlement.covering), (4, 3));
+    assert_eq!(settlement.remainder, 0);
     let award = |project, developer, quantity| Award {
         project,
         developer,

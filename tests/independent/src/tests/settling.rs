@@ -1,7 +1,7 @@
 //! Settling by calls: the closing price, open levels, the award with its ties, developers of
 //! awarded levels, limits and buffers. The paper's plausible errors among them.
 
-use super::{sample_closed, sample_opened, sample_registered, sample_set_up};
+use super::{close, sample_closed, sample_opened, sample_registered, sample_set_up};
 use crate::auction::{Auction, EXISTING, NEW};
 use crate::settling::{number_of_choices, Award, Settlement};
 
@@ -21,7 +21,7 @@ fn closed_after(existing: u32, falls: &[Fall]) -> Auction {
         let steps = usize::from(levels.last() != Some(&to));
         answers.push(auction.offer(developer, &[30_000][..steps], &[to][..steps]));
     }
-    answers.push(auction.close().map(|excess| assert!(excess <= 0)));
+    answers.push(close(&mut auction).map(|excess| assert!(excess <= 0)));
     assert_eq!(answers, vec![Ok(()); answers.len()]);
     auction
 }

@@ -5,7 +5,7 @@ use super::{each_step, Step, RECORDS};
 use crate::auction::Auction;
 use crate::records::DECISIVE;
 use crate::replay::{lines, replay, Accepted, Call};
-use crate::report::Closings;
+use crate::report::{Closings, Remainders};
 use crate::settling::{Award, Settlement};
 use std::collections::BTreeMap;
 
@@ -20,12 +20,14 @@ struct Shares {
     /// Replies by kind and answer.
     replies: BTreeMap<(u8, u8), u64>,
     closings: Closings,
+    remainders: Remainders,
 }
 
 impl Shares {
     fn count(&mut self, record: &[u8]) {
         let replies = replay(record);
         self.closings.count(record, &replies);
+        self.remainders.count(&replies);
         let replies = lines(&replies);
         assert_eq!(replies.len(), lines(record).len(), "one reply a line");
         self.records += 1;
@@ -62,6 +64,7 @@ impl Shares {
             println!("kind {kind:02X}, answer {answer:02X}: {count}");
         }
         self.closings.print();
+        self.remainders.print();
     }
 }
 
@@ -97,6 +100,8 @@ fn shares_of_replies() {
         let (all, large) = shares.closings.with(excess);
         assert!(all >= 300 && large >= 100, "closings at {excess}");
     }
+    let remainders = shares.remainders.counts();
+    assert!(remainders.iter().flatten().all(|&count| count >= 1_000));
 }
 
 /// A settled record: its auction at the end, the last settlement, and the rounds opened.

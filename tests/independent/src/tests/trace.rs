@@ -22,16 +22,42 @@ fn replies_stay() {
     }
 }
 
+const SET_UP: &str = "0100004E2000000003E8000000038400000004B000009C40\n";
+
 /// Rounds that close at CE, where Dem is D, with as much supply and with more.
 #[test]
 fn excess_0_and_above() {
-    let set_up = "0100004E2000000003E8000000038400000004B000009C40\n";
     for (level, excess) in [(1_000, 0), (1_001, 1), (1_200, 200)] {
         let plant = format!("02010101000000000000000001{level:08X}");
-        let record = format!("{set_up}{plant}\n0300004E20\n05\n");
-        let trace = format!("0100\n0200\n0300\n0500{excess:016X}\nexcess {excess}\n");
+        let record = format!("{SET_UP}{plant}\n0300004E20\n05\n");
+        let reply = format!("0500{excess:016X}00000000\nexcess {excess}\nremainder 0\n");
+        let trace = format!("0100\n0200\n0300\n{reply}");
         assert_eq!(traced(record.as_bytes()), trace.as_bytes());
     }
+}
+
+/// A plant of 951 covers 29,999, where the remainder is 19,900, and one of 950 leaves at 30,001,
+/// where it is 100: a closing has that at C, a settling that at P.
+#[test]
+fn remainders() {
+    let record =
+        format!("{SET_UP}02010101000000000000000001000003B7\n030000752F\n05\n0600000001\n");
+    let trace = "0100\n0200\n0300\n\
+        0500000000000000000000004DBC\nexcess 0\nremainder 19900\n\
+        06000000752F00000003B700000003B70000000100000001010101000003B700004DBC\n\
+        price 29999\ndemand 951\ntotal 951\nchoices 1\ncovering 1\naward 1 1 951\nkept 1\n\
+        remainder 19900\n";
+    assert_eq!(traced(record.as_bytes()), trace.as_bytes());
+    let record = format!(
+        "{SET_UP}02010102000000000000000001000003B6\n030000752F\n04010100007531\
+         00000000\n05\n0600000002\n"
+    );
+    let trace = "0100\n0200\n0300\n0400\n\
+        0500FFFFFFFFFFFFFC4900004DBC\nexcess -951\nremainder 19900\n\
+        06000000753100000003B600000003B60000000200000001010101000003B600000064\n\
+        price 30001\ndemand 950\ntotal 950\nchoices 2\ncovering 1\naward 1 1 950\nkept 1\n\
+        remainder 100\n";
+    assert_eq!(traced(record.as_bytes()), trace.as_bytes());
 }
 
 #[test]

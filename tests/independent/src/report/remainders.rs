@@ -1,0 +1,48 @@
+//! How many accepted closings and settlings had a remainder (document 02, request 4).
+
+use crate::replay::lines;
+
+/// Replies by where the remainder is that of, each 0 and above.
+#[derive(Default)]
+pub struct Remainders {
+    at_c: [u64; 2],
+    at_p: [u64; 2],
+}
+
+impl Remainders {
+    /// Counts the accepted closings and settlings among the replies.
+    pub fn count(&mut self, replies: &[u8]) {
+        for reply in lines(replies) {
+            let above = usize::from(!reply.ends_with(b"00000000"));
+            match reply.get(..4) {
+                Some(b"0500") => self.at_c[above] += 1,
+                Some(b"0600") => self.at_p[above] += 1,
+                _ => (),
+            }
+        }
+    }
+
+    /// With the replies counted elsewhere.
+    pub fn join(&mut self, other: &Remainders) {
+        for above in [0, 1] {
+            self.at_c[above] += other.at_c[above];
+            self.at_p[above] += other.at_p[above];
+        }
+    }
+
+    /// How many were 0, and how many above, at C and at P.
+    pub fn counts(&self) -> [[u64; 2]; 2] {
+        [self.at_c, self.at_p]
+    }
+
+    /// One line, if any round closed.
+    pub fn print(&self) {
+        let [[zero_at_c, above_at_c], [zero_at_p, above_at_p]] = self.counts();
+        if zero_at_c + above_at_c > 0 {
+            println!(
+                "  remainders: at C 0 {zero_at_c}, above 0 {above_at_c}; at P 0 {zero_at_p}, \
+                 above 0 {above_at_p}"
+            );
+        }
+    }
+}
