@@ -4,9 +4,10 @@ use mathlib.Core.Path.{_≡_, refl}
 use mathlib.Core.Bool.{Bool, true, false}
 use mathlib.Core.List.{List}
 use native.Mathlib.Omega.{arith}
-use Rattle.rules.specs.Ledger.{Settings, Declaration, Offer, SetUp, Register, Open, Close, Developer, Ledger}
-use Rattle.rules.specs.Refusals.{isFresh, isReady, mayOpen, inRound, settingsOk, numbersOk, declarationOk, closingOk, startCovered, isNone, mayOffer, pricesOk, lowering, check, moveNumber, number}
-pub use Rattle.rules.specs.CheckLaws.{Numbers, numbers-facts, levels-facts, Declared, declaration-facts, closing-facts, may-offer-facts, prices-facts}
+use Rattle.rules.specs.Ledger.{Settings, Declaration, Offer, Lodge, SetUp, Register, Open, Close, Developer, Ledger}
+use Rattle.rules.specs.Clearing.{highest}
+use Rattle.rules.specs.Refusals.{isFresh, isReady, mayOpen, inRound, settingsOk, numbersOk, declarationOk, floor, closingOk, startCovered, isNone, mayOffer, mayLodge, pricesOk, lowering, check, moveNumber, number}
+pub use Rattle.rules.specs.CheckLaws.{Numbers, numbers-facts, levels-facts, Declared, declaration-facts, closing-facts, may-offer-facts, may-lodge-facts, prices-facts}
 
 pub record SetUpPassed (l : Ledger) (s : Settings) : Type 0 where
   pub phase : isFresh (l .phase) ≡ true
@@ -28,6 +29,12 @@ pub record OfferPassed (l : Ledger) (n : ℕ) (x : Developer) (ps qs : List ℕ)
   pub first : isNone (x .offer) ≡ true
   pub prices : pricesOk (l .closing) (l .opening) ps qs ≡ true
   pub levels : lowering (x .declared .levels) (x .quantity) qs ≡ true
+
+pub record LodgePassed (l : Ledger) (n : ℕ) (x : Developer) (ps qs : List ℕ) : Type 0 where
+  pub phase : isReady (l .phase) ≡ true
+  pub developer : mayLodge n (x .declared .kind) ≡ true
+  pub prices : pricesOk (floor l) (l .settings .a) ps qs ≡ true
+  pub levels : lowering (x .declared .levels) (highest x) qs ≡ true
 
 pub record ClosePassed (l : Ledger) : Type 0 where
   pub phase : inRound (l .phase) ≡ true
@@ -68,6 +75,15 @@ offer-passed l n x ps qs e =
     let s = passed (pricesOk (l .closing) (l .opening) ps qs) 5 _ (r .1) in
     let t = passed (lowering (x .declared .levels) (x .quantity) qs) 6 _ (s .1) in
     record { phase = p .0; developer = q .0; first = r .0; prices = s .0; levels = t .0 }
+
+pub lodge-passed : (l : Ledger) (n : ℕ) (x : Developer) (ps qs : List ℕ) → moveNumber l n x (Lodge ps qs) ≡ 0 → LodgePassed l n x ps qs
+unfolding moveNumber
+lodge-passed l n x ps qs e =
+    let p = passed (isReady (l .phase)) 1 _ e in
+    let q = passed (mayLodge n (x .declared .kind)) 14 _ (p .1) in
+    let s = passed (pricesOk (floor l) (l .settings .a) ps qs) 5 _ (q .1) in
+    let t = passed (lowering (x .declared .levels) (highest x) qs) 6 _ (s .1) in
+    record { phase = p .0; developer = q .0; prices = s .0; levels = t .0 }
 
 pub close-passed : (l : Ledger) → number l Close ≡ 0 → ClosePassed l
 unfolding number

@@ -2,6 +2,7 @@ pub mod Ledger
 pub mod Clearing
 pub mod Refusals
 pub mod Rounds
+pub mod Second
 pub mod Award
 pub mod Settling
 pub mod Sample
