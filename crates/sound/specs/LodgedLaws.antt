@@ -35,6 +35,12 @@ none-reached f b c o (s ∷ ss) h e =
     let r = none-reached f (s .price) c o ss (omega arith) (t .2) in
     (rw (k .0) (r .0), rw (k .1, r .1))
 
+-- and none where the first is not
+pub reached-stops : (f b c o : ℕ) (s : Step) (ss : List Step) → s .price < c → falling f b (pricesOf (s ∷ ss)) ≡ true → reached c o (s ∷ ss) ≡ []
+reached-stops f b c o s ss h e =
+    let t = falling-first f b (s .price) (pricesOf ss) e in
+    rw (below-first c o s ss h .0) (none-reached f (s .price) c o ss (omega arith) (t .2) .0)
+
 -- ---- prices from below b, which is at most o: those reached are the first
 
 pub reached-front : (f b c o : ℕ) (ss : List Step) → b ≤ o → falling f b (pricesOf ss) ≡ true → reached c o ss ++ unreached c o ss ≡ ss
