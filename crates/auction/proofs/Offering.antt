@@ -10,8 +10,8 @@ use lib.ListN.{length, getD, set}
 use lib.Seq.{take-append-seam}
 use borrow.Author.Tests.{eq-eqb, ne-eqb}
 use Rattle.rules.specs.Ledger.{none, made, Developer, Offer, By, Ledger, nobody, withOffer}
-use Rattle.rules.specs.Refusals.{inRound, isNumber, mayOffer, isNone, pricesOk, lowering, moveNumber, number}
-use Rattle.rules.specs.CheckLaws.{is-number, may-offer-facts, prices-facts}
+use Rattle.rules.specs.Refusals.{inRound, isNumber, isOfKind, isNone, pricesOk, lowering, moveNumber, number}
+use Rattle.rules.specs.CheckLaws.{is-number, of-kind-facts, prices-facts}
 use Rattle.rules.specs.Rounds.{steps, moved, accepted, numberAlone, granted}
 use Rattle.sound.specs.Sound.{Sound, Registered}
 use Rattle.reachable.specs.Bounds.{offer-fits}
@@ -60,31 +60,31 @@ module _ (n : ℕ) (ps qs : List ℕ) (a : Auction) where
   abbrev kindHeld : ℕ
   kindHeld = getD (a .kinds) (n - 1) 0
 
-  may-offer-at : (l : Ledger) → a ≡ auctionOf l → mayOffer n (l .developers n .declared .kind) ≡ mayOffer n kindHeld
-  unfolding mayOffer
-  may-offer-at l h = where-true (isNumber n) (λ e. let b = is-number n e in ap (λ (k : ℕ). eqb k 2) (sym (kind-at l h (b .0) (b .1))))
+  kind-is : (l : Ledger) → a ≡ auctionOf l → isOfKind 2 n (l .developers n .declared .kind) ≡ isOfKind 2 n kindHeld
+  unfolding isOfKind
+  kind-is l h = where-true (isNumber n) (λ e. let b = is-number n e in ap (λ (k : ℕ). eqb k 2) (sym (kind-at l h (b .0) (b .1))))
 
   pub offer-phase : (a .phase ≡ 2 → ⊥) → Refused (By n (Offer ps qs)) a 2
   unfolding number moveNumber
   offer-phase z = refused _ a 2 (omega arith) (λ l s h. simp (round-is a l h ∙ ne-eqb _ 2 z))
 
-  pub offer-barred : a .phase ≡ 2 → mayOffer n kindHeld ≡ false → Refused (By n (Offer ps qs)) a 3
+  pub offer-barred : a .phase ≡ 2 → isOfKind 2 n kindHeld ≡ false → Refused (By n (Offer ps qs)) a 3
   unfolding number moveNumber
-  offer-barred z f = refused _ a 3 (omega arith) (λ l s h. simp (in-round z l h, may-offer-at l h ∙ f))
+  offer-barred z f = refused _ a 3 (omega arith) (λ l s h. simp (in-round z l h, kind-is l h ∙ f))
 
-  module _ (z : a .phase ≡ 2) (w : mayOffer n kindHeld ≡ true) (d : History) where
+  module _ (z : a .phase ≡ 2) (w : isOfKind 2 n kindHeld ≡ true) (d : History) where
     low : 1 ≤ n
-    low = may-offer-facts n _ w .0
+    low = of-kind-facts 2 n _ w .0
 
     high : n ≤ 32
-    high = may-offer-facts n _ w .1
+    high = of-kind-facts 2 n _ w .1
 
     offered-at : (l : Ledger) → a ≡ auctionOf l → offeredNumber (l .developers n .offer) ≡ getD (a .histories) (n - 1) d .offered
     offered-at l h = ap (λ (x : History). x .offered) (sym (history-at l h low high d))
 
     pub offer-second : 0 < getD (a .histories) (n - 1) d .offered → Refused (By n (Offer ps qs)) a 8
     unfolding number moveNumber
-    offer-second v = refused _ a 8 (omega arith) (λ l s h. simp (in-round z l h, may-offer-at l h ∙ w, is-none-by-number (l .developers n .offer) ∙ ne-eqb (offeredNumber (l .developers n .offer)) 0 (λ e. let k = offered-at l h in omega arith)))
+    offer-second v = refused _ a 8 (omega arith) (λ l s h. simp (in-round z l h, kind-is l h ∙ w, is-none-by-number (l .developers n .offer) ∙ ne-eqb (offeredNumber (l .developers n .offer)) 0 (λ e. let k = offered-at l h in omega arith)))
 
     module _ (none-yet : getD (a .histories) (n - 1) d .offered ≤ 0) where
       first : getD (a .histories) (n - 1) d .offered ≡ 0
@@ -99,7 +99,7 @@ module _ (n : ℕ) (ps qs : List ℕ) (a : Auction) where
 
       pub offer-prices : pricesOk (a .closing) (a .opening) ps qs ≡ false → Refused (By n (Offer ps qs)) a 6
       unfolding number moveNumber
-      offer-prices f = refused _ a 6 (omega arith) (λ l s h. simp (in-round z l h, may-offer-at l h ∙ w, first-is l h, prices-at l h ∙ f))
+      offer-prices f = refused _ a 6 (omega arith) (λ l s h. simp (in-round z l h, kind-is l h ∙ w, first-is l h, prices-at l h ∙ f))
 
       module _ (f : pricesOk (a .closing) (a .opening) ps qs ≡ true) (k : Levels) where
         lowering-at : (l : Ledger) → a ≡ auctionOf l → lowering (l .developers n .declared .levels) (l .developers n .quantity) qs ≡ lowering (levelsIn (getD (a .declared) (n - 1) k)) (getD (a .quantities) (n - 1) 0) qs
@@ -107,12 +107,12 @@ module _ (n : ℕ) (ps qs : List ℕ) (a : Auction) where
 
         pub offer-levels : lowering (levelsIn (getD (a .declared) (n - 1) k)) (getD (a .quantities) (n - 1) 0) qs ≡ false → Refused (By n (Offer ps qs)) a 7
         unfolding number moveNumber
-        offer-levels g = refused _ a 7 (omega arith) (λ l s h. simp (in-round z l h, may-offer-at l h ∙ w, first-is l h, prices-at l h ∙ f, lowering-at l h ∙ g))
+        offer-levels g = refused _ a 7 (omega arith) (λ l s h. simp (in-round z l h, kind-is l h ∙ w, first-is l h, prices-at l h ∙ f, lowering-at l h ∙ g))
 
         module _ (g : lowering (levelsIn (getD (a .declared) (n - 1) k)) (getD (a .quantities) (n - 1) 0) qs ≡ true) (r : History) (o : Offered (getD (a .histories) (n - 1) d) ps qs r) where
           passes : (l : Ledger) → a ≡ auctionOf l → number l (By n (Offer ps qs)) ≡ 0
           unfolding number moveNumber
-          passes l h = simp (in-round z l h, may-offer-at l h ∙ w, first-is l h, prices-at l h ∙ f, lowering-at l h ∙ g)
+          passes l h = simp (in-round z l h, kind-is l h ∙ w, first-is l h, prices-at l h ∙ f, lowering-at l h ∙ g)
 
           -- the developer with the offer
           abbrev entry : Ledger → Developer

@@ -266,7 +266,7 @@ impl Auction {
             return self.refused(2);
         }
         let kinds = self.kinds;
-        if !checks::may_offer(kinds, developer) {
+        if !checks::is_of_kind(kinds, developer, Auction::NEW_PLANT) {
             return self.refused(3);
         }
         let i = (developer - 1) as usize;

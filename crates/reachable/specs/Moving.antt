@@ -12,7 +12,7 @@ use Rattle.rules.specs.Refusals.{isFresh, inRound, floor, lowering, moveNumber}
 use Rattle.rules.specs.Rounds.{steps, lastLevel, moved, accepted}
 use Rattle.sound.specs.Sound.{started, appliedTo, SoundDeveloper, SoundSteps, SoundOffer, SoundLodged, Stands, Registered, Sound}
 use Rattle.sound.specs.StepLaws.{steps-prices, steps-levels, steps-length}
-use Rattle.reachable.specs.Checks.{OfferPassed, offer-passed, LodgePassed, lodge-passed, may-offer-facts, may-lodge-facts, prices-facts}
+use Rattle.reachable.specs.Checks.{OfferPassed, offer-passed, LodgePassed, lodge-passed, of-kind-facts, prices-facts}
 use Rattle.reachable.specs.Supplies.{covered-same}
 use Rattle.numbers.specs.Cases.{clash}
 use Rattle.reachable.specs.Held.{is-ready, in-round, Kept, by-put, developer-with, lodged-with, offer-with, kept-with, sound-with}
@@ -64,7 +64,7 @@ module _ (l : Ledger) (n : ℕ) (ps qs : List ℕ) (s : Sound l) (p : OfferPasse
       let f = prices-facts _ _ ps qs (p .prices) in
       record {
         round = p .phase;
-        kind = may-offer-facts n _ (p .developer) .2;
+        kind = of-kind-facts 2 n _ (p .developer) .2;
         few = omega (arith, steps-length ps qs (f .same));
         prices = rw (steps-prices ps qs (f .same)) (f .falls);
         levels = rw (steps-levels ps qs (f .same)) (p .levels);
@@ -73,7 +73,7 @@ module _ (l : Ledger) (n : ℕ) (ps qs : List ℕ) (s : Sound l) (p : OfferPasse
   offer-moved : Moved l n offering
   unfolding SoundOffer
   offer-moved =
-      let r = registered-kind l n s 2 (may-offer-facts n _ (p .developer) .2) (λ z. omega arith) in
+      let r = registered-kind l n s 2 (of-kind-facts 2 n _ (p .developer) .2) (λ z. omega arith) in
       let d = developer-with l (put n offering (l .developers)) (l .developers n) (r .developer) in
       let g = lodged-with l (put n offering (l .developers)) (l .developers n) (r .lodged) in
       record {
@@ -98,7 +98,7 @@ module _ (l : Ledger) (n : ℕ) (ps qs : List ℕ) (s : Sound l) (p : LodgePasse
   ready = is-ready (l .phase) (p .phase)
 
   existing : l .developers n .declared .kind ≡ 1
-  existing = may-lodge-facts n _ (p .developer) .2
+  existing = of-kind-facts 1 n _ (p .developer) .2
 
   registered : Registered l n
   registered = registered-kind l n s 1 existing (λ z. omega arith)

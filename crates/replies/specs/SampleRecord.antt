@@ -9,7 +9,7 @@ use Rattle.numbers.specs.Least.{leastFrom}
 use Rattle.curve.specs.Demand.{dem, inBounds}
 use Rattle.choices.specs.Choices.{spread, choices, covering, larger, before, best, bestOf}
 use Rattle.rules.specs.Clearing.{quantityAfter, high, low, developersOf, greatestOf, supply, covered, closingPrice}
-use Rattle.rules.specs.Refusals.{settingsOk, numbersOk, rising, levelsOk, mayJoin, declarationOk, openingPrice, closingOk, startCovered, mayOffer, falling, pricesOk, lowering, moveNumber, number}
+use Rattle.rules.specs.Refusals.{settingsOk, numbersOk, rising, levelsOk, mayJoin, declarationOk, openingPrice, closingOk, startCovered, isOfKind, falling, pricesOk, lowering, moveNumber, number}
 use Rattle.rules.specs.Rounds.{steps, withdrawsAll, added, lastLevel, applied, supplyAfter, thousandths, clears, phaseAfter, moved, accepted, step, excess, granted, answer}
 use Rattle.rules.specs.Award.{openBetween, openToDeveloper, openTo, insert, insertAll, declaredBy, openLevels, row, rows, admissible, coveringChoices, award, preferred, mostPreferred, firstPreferred, winner}
 use Rattle.rules.specs.Settling.{recordsFrom, records, settlingNumber, settlementAt, settlement}
@@ -69,7 +69,7 @@ sample-asks = refl
 sample-replied : replies sampleRecord ≡ sampleReply
 unfolding codes line text flatten oneTo keep total greatest lastOr any all leastFrom dem inBounds
     quantityAfter high low developersOf greatestOf supply covered closingPrice
-    settingsOk numbersOk rising levelsOk mayJoin declarationOk openingPrice closingOk startCovered mayOffer falling pricesOk lowering moveNumber number
+    settingsOk numbersOk rising levelsOk mayJoin declarationOk openingPrice closingOk startCovered isOfKind falling pricesOk lowering moveNumber number
     steps withdrawsAll added lastLevel applied supplyAfter thousandths clears phaseAfter moved accepted step excess granted answer
     spread choices covering larger before best bestOf
     openBetween openToDeveloper openTo insert insertAll declaredBy openLevels row rows admissible coveringChoices award preferred mostPreferred firstPreferred winner

@@ -113,13 +113,10 @@ abbrev pub isNone : Standing → Bool
 isNone none = true
 isNone (made ss) = false
 
--- a developer of kind 2 alone makes offers
-unfoldable pub mayOffer : ℕ → ℕ → Bool
-mayOffer n kind = isNumber n && eqb kind 2
-
--- a registered existing plant alone lodges a withdrawal list (document 02, 5)
-unfoldable pub mayLodge : ℕ → ℕ → Bool
-mayLodge n kind = isNumber n && eqb kind 1
+-- the number n, under which this kind is registered, is that of a developer of kind k: one of kind 2 alone makes offers, one of kind 1 alone
+-- lodges a withdrawal list (document 02, 5)
+unfoldable pub isOfKind : ℕ → ℕ → ℕ → Bool
+isOfKind k n kind = isNumber n && eqb kind k
 
 -- prices fall strictly from below o, and are at least c
 unfoldable pub falling : ℕ → ℕ → List ℕ → Bool
@@ -147,13 +144,13 @@ check passes n next = cond passes next n
 unfoldable pub moveNumber : Ledger → ℕ → Developer → Move → ℕ
 moveNumber l n x (Offer ps qs) =
     check (inRound (l .phase)) 2
-    (check (mayOffer n (x .declared .kind)) 3
+    (check (isOfKind 2 n (x .declared .kind)) 3
     (check (isNone (x .offer)) 8
     (check (pricesOk (l .closing) (l .opening) ps qs) 6
     (check (lowering (x .declared .levels) (x .quantity) qs) 7 0))))
 moveNumber l n x (Lodge ps qs) =
     check (isReady (l .phase)) 2
-    (check (mayLodge n (x .declared .kind)) 15
+    (check (isOfKind 1 n (x .declared .kind)) 15
     (check (pricesOk (floor l) (l .settings .a) ps qs) 6
     (check (lowering (x .declared .levels) (highest x) qs) 7 0)))
 
