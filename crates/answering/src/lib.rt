@@ -31,6 +31,7 @@ const UNSETTLED: Settled = Settled {
     total: 0,
     choices: 0,
     covering: 0,
+    kept: 0,
     records: 0,
 };
 

@@ -6,6 +6,7 @@ use native.Mathlib.Omega.{arith}
 use borrow.Author.Tests.{ne-eqb, eq-eqb}
 use Rattle.numbers.specs.Cases.{and-true}
 use Rattle.curve.specs.Demand.{dem, inBounds, inRange}
+use Rattle.curve.specs.Remainder.{remainder}
 use Rattle.curve.specs.Range.{in-bounds, in-range, dem-range}
 use Rattle.curve.specs.Answer.{Answer, demandAnswer}
 use Rattle.rules.specs.Ledger.{settingsOf, Ready}
@@ -24,7 +25,7 @@ demand-small : (ce d m1 m2 p : ℕ) → demandAnswer ce d m1 m2 p .value ≤ 100
 unfolding demandAnswer
 demand-small ce d m1 m2 p = go (inBounds ce d m1 m2 && inRange ce p) refl
   where
-    go : (b : Bool) → (inBounds ce d m1 m2 && inRange ce p) ≡ b → _≤_ (cond {A = Answer} b (record { number = 0; value = dem ce d m1 m2 p }) (record { number = 1; value = 0 }) .value) 100000000000
+    go : (b : Bool) → (inBounds ce d m1 m2 && inRange ce p) ≡ b → _≤_ (cond {A = Answer} b (record { number = 0; value = dem ce d m1 m2 p; remainder = remainder ce d m1 m2 p }) (record { number = 1; value = 0; remainder = 0 }) .value) 100000000000
     go true e =
         let t = and-true (inBounds ce d m1 m2) (inRange ce p) e in
         let s = in-bounds ce d m1 m2 (t .0) in

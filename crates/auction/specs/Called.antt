@@ -23,15 +23,15 @@ abbrev pub numberIn : Answer → Answered
 numberIn r = numberAlone (r .number)
 
 abbrev pub closingIn : Closing → Answered
-closingIn r = record { number = r .number; excess = r .excess }
+closingIn r = record { number = r .number; excess = r .excess; remainder = r .remainder }
 
 -- a call that answers with a number alone
 abbrev pub AnswersNumber : Call → Auction → Answer → Type 0
 AnswersNumber c a r = Called c a (r .auction) (numberIn r)
 
 -- a closing
-abbrev pub AnswersExcess : Auction → Closing → Type 0
-AnswersExcess a r = Called Close a (r .auction) (closingIn r)
+abbrev pub AnswersClosing : Auction → Closing → Type 0
+AnswersClosing a r = Called Close a (r .auction) (closingIn r)
 
 abbrev pub setsUp : ℕ → ℕ → ℕ → ℕ → ℕ → Call
 setsUp ce d m1 m2 a = SetUp (settingsOf ce d m1 m2 a)

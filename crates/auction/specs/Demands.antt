@@ -1,10 +1,16 @@
--- The demand call's value within the bounds is Dem.
+-- The demand call's answer within the bounds is Dem, and its remainder.
 use Prim.Native.Nat.{ℕ}
 use mathlib.Core.Path.{_≡_}
 use Rattle.curve.specs.Demand.{dem, InBounds, InRange}
+use Rattle.curve.specs.Remainder.{remainder}
 use Rattle.curve.specs.Range.{in-bounds-test, in-range-test}
 use Rattle.curve.specs.Answer.{demandAnswer}
 
-pub demand-is : (ce d m1 m2 p : ℕ) → InBounds ce d m1 m2 → InRange ce p → demandAnswer ce d m1 m2 p .value ≡ dem ce d m1 m2 p
-unfolding demandAnswer
-demand-is ce d m1 m2 p s r = rw (in-bounds-test ce d m1 m2 s, in-range-test ce p r)
+module _ (ce d m1 m2 p : ℕ) (s : InBounds ce d m1 m2) (r : InRange ce p) where
+  pub demand-is : demandAnswer ce d m1 m2 p .value ≡ dem ce d m1 m2 p
+  unfolding demandAnswer
+  demand-is = rw (in-bounds-test ce d m1 m2 s, in-range-test ce p r)
+
+  pub remainder-is : demandAnswer ce d m1 m2 p .remainder ≡ remainder ce d m1 m2 p
+  unfolding demandAnswer
+  remainder-is = rw (in-bounds-test ce d m1 m2 s, in-range-test ce p r)

@@ -21,6 +21,10 @@ openingBy a = cond (eqb (a .phase) 1) (a .settings .a) (a .closing)
 unfoldable pub demandBy : Settings → ℕ → ℕ
 demandBy s p = demandAnswer (s .ce) (s .d) (s .m1) (s .m2) p .value
 
+-- its remainder, 0 likewise
+unfoldable pub remainderBy : Settings → ℕ → ℕ
+remainderBy s p = demandAnswer (s .ce) (s .d) (s .m1) (s .m2) p .remainder
+
 -- at the first opening A is covered
 abbrev pub coveredBy : Auction → Bool
 coveredBy a = not (eqb (a .phase) 1) || leb (demandBy (a .settings) (a .settings .a)) (supplyOf (a .projects) (a .quantities))

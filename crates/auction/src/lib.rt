@@ -6,8 +6,8 @@ ghost use Prim.Native.Nat.{_≤_};
 ghost use Rattle.rules.specs.Ledger.{Open, By, Offer};
 ghost use Rattle.rules.specs.Rounds.{ledger};
 ghost use Rattle.auction.specs.Holds.{auctionOf};
-ghost use Rattle.auction.specs.Called.{AnswersNumber, AnswersExcess, setsUp, registers, refusedAnswer, OffersApplied};
-ghost use Rattle.auction.specs.Tests.{demandBy, mayOpenBy, openingBy, coveredBy, phaseNumberAfter};
+ghost use Rattle.auction.specs.Called.{AnswersNumber, AnswersClosing, setsUp, registers, refusedAnswer, OffersApplied};
+ghost use Rattle.auction.specs.Tests.{demandBy, remainderBy, mayOpenBy, openingBy, coveredBy, phaseNumberAfter};
 use demand::Demanded;
 use history::History;
 use levels::Levels;
@@ -42,10 +42,11 @@ pub struct Answer {
     pub auction: Auction,
 }
 
-// The same with the excess of a closing.
+// The same with the excess of a closing, and the remainder of Dem(C).
 pub struct Closing {
     pub number: u8,
     pub excess: i64,
+    pub remainder: u32,
     pub auction: Auction,
 }
 
@@ -203,7 +204,18 @@ impl Auction {
     {
         let s = self.settings;
         match demand::demand(s.ce as u64, s.d, s.m1, s.m2, p as u64) {
-            Demanded::Quantity(q) => q,
+            Demanded::Quantity(q, _) => q,
+            Demanded::OutOfBounds => 0,
+        }
+    }
+
+    // The remainder of Dem(p) (document 02, 4); 0 likewise.
+    pub fn remainder_at(self, p: u32) -> u32
+        ensures { λ r. ⌜ r ≡ remainderBy (self .settings) p ⌝ }
+    {
+        let s = self.settings;
+        match demand::demand(s.ce as u64, s.d, s.m1, s.m2, p as u64) {
+            Demanded::Quantity(_, r) => r,
             Demanded::OutOfBounds => 0,
         }
     }
@@ -306,14 +318,15 @@ impl Auction {
         next
     }
 
-    // Checks: 2. The answer is the excess at C.
+    // Checks: 2. The answer is the excess at C, and the remainder of Dem(C).
     pub fn close(self) -> Closing
-        ensures { λ r. ⌜ AnswersExcess self r ⌝ }
+        ensures { λ r. ⌜ AnswersClosing self r ⌝ }
     {
         if self.phase != Auction::ROUND {
             return Closing {
                 number: 2,
                 excess: 0,
+                remainder: 0,
                 auction: self,
             };
         }
@@ -323,12 +336,14 @@ impl Auction {
         let closing = self.closing;
         let supply = supply::supply(projects, quantities);
         let demand = self.demand_at(closing);
+        let remainder = self.remainder_at(closing);
         let excess = checks::excess_of(supply, demand);
         let cleared = checks::clears(supply, demand, closing, self.settings.ce / 2);
         next.phase = phase_after(cleared);
         Closing {
             number: 0,
             excess: excess,
+            remainder: remainder,
             auction: next,
         }
     }

@@ -1,22 +1,25 @@
--- The admissible choices and the award of a sound ledger: where the price is covered, some choice covers, and the award is the best one.
+-- The admissible choices and the award of a sound ledger: where the price is covered, some choice covers, and the award is the best one. How many
+-- choices the search for it keeps.
 use Prim.Native.Nat.{ℕ, _≤_, suc-le-suc, zero-le}
-use mathlib.Core.Path.{_≡_, refl}
+use mathlib.Core.Path.{_≡_, refl, sym, ap, subst, _∙_}
 use mathlib.Core.Bool.{true}
-use mathlib.Core.List.{List, [], _∷_, map, List·Memᴰ, List·Memᴰ·not-nil}
+use mathlib.Core.List.{List, [], _∷_, map, List·Memᴰ, List·Memᴰ·not-nil, map-map}
 use lib.Dec.{leb}
 use lib.ListN.{length}
 use Rattle.numbers.specs.Lists.{oneTo, total}
-use Rattle.numbers.specs.ListLaws.{in-keep}
+use Rattle.numbers.specs.ListLaws.{Each, in-keep, in-map, map-same}
 use Rattle.rules.specs.Ledger.{Ledger}
-use Rattle.rules.specs.Clearing.{high, greatestOf, supply, demandAt, covered, closingPrice}
+use Rattle.rules.specs.Clearing.{high, low, greatestOf, supply, demandAt, covered, closingPrice}
 use Rattle.choices.specs.Choices.{covering, IsBest}
-use Rattle.rules.specs.Award.{row, rows, admissible, coveringChoices, award}
+use Rattle.choices.specs.Search.{lowOf, lowest}
+use Rattle.rules.specs.Award.{row, rows, admissible, coveringChoices, keptChoices, award}
 use Rattle.sound.specs.Sound.{started, Sound}
 use Rattle.clearing.specs.ClosingPrice.{closing-price}
 use Rattle.choices.specs.Pairwise.{Distinct, rising-distinct}
 use Rattle.choices.specs.Count.{product, choices-count, covering-le, in-choices, one-of-each-map, choices-distinct}
 use Rattle.choices.specs.Best.{best-choice}
-use Rattle.awards.specs.OpenLevels.{rows-rise, high-in-row}
+use Rattle.choices.specs.Kept.{Levels, kept-some, kept-le, kept-one}
+use Rattle.awards.specs.OpenLevels.{rows-rise, high-in-row, low-in-row, row-not-empty, row-first}
 
 -- as many admissible choices as the product of the rows' lengths, each once
 pub choices-product : (l : Ledger) (p : ℕ) → length (admissible l p) ≡ product (map length (rows l p))
@@ -27,15 +30,39 @@ pub admissible-distinct : (l : Ledger) (p : ℕ) → Distinct (admissible l p)
 unfolding admissible
 admissible-distinct l p = choices-distinct (rows l p) (λ r m. rising-distinct r (rows-rise l p r m))
 
-some-length : (cs : List (List ℕ)) → (cs ≡ [] → ⊥) → 1 ≤ length cs
+some-length : {A : Type 0} (xs : List A) → (xs ≡ [] → ⊥) → 1 ≤ length xs
 some-length [] h = absurd (h refl)
-some-length (c ∷ cs) h = suc-le-suc zero-le
+some-length (x ∷ xs) h = suc-le-suc zero-le
 
 module _ (l : Ledger) (p : ℕ) (s : Sound l) where
   -- all projects at their highs; the total is the supply at p
   pub highs-admissible : List·Memᴰ (map (greatestOf (high p) l) (oneTo 32)) (admissible l p)
   unfolding admissible rows
   highs-admissible = in-choices (rows l p) _ .1 (one-of-each-map (row l p) (greatestOf (high p) l) (oneTo 32) (λ k m. high-in-row l p k s))
+
+  -- all projects at their lows; the total is the sum of the lows at p
+  pub lows-admissible : List·Memᴰ (map (greatestOf (low p) l) (oneTo 32)) (admissible l p)
+  unfolding admissible rows
+  lows-admissible = in-choices (rows l p) _ .1 (one-of-each-map (row l p) (greatestOf (low p) l) (oneTo 32) (λ k m. low-in-row l p k s))
+
+  lowest-is : lowest (rows l p) ≡ supply (low p) l
+  unfolding lowest rows supply
+  lowest-is = ap total (map-map lowOf (row l p) (oneTo 32) ∙ map-same _ _ (oneTo 32) (λ k m. row-first l p k s))
+
+  rows-levels : Each Levels (rows l p)
+  unfolding rows
+  rows-levels r m =
+      let k = in-map (row l p) r (oneTo 32) .0 m in
+      (some-length r (λ e. row-not-empty l p (k .0) s (sym (k .2) ∙ e)), rows-rise l p r m)
+
+  -- kept: at most the covering choices, 1 where all lows cover (document 02, 3) ..
+  pub kept-few : keptChoices l p ≤ length (coveringChoices l p)
+  unfolding keptChoices coveringChoices admissible
+  kept-few = kept-le (demandAt l p) (rows l p) rows-levels
+
+  pub kept-at-lows : demandAt l p ≤ supply (low p) l → keptChoices l p ≡ 1
+  unfolding keptChoices
+  kept-at-lows h = kept-one (demandAt l p) (rows l p) rows-levels (subst (λ n. demandAt l p ≤ n) (sym lowest-is) h)
 
   module _ (e : covered l p ≡ true) where
     -- and where p is covered, it covers
@@ -45,6 +72,11 @@ module _ (l : Ledger) (p : ℕ) (s : Sound l) where
 
     pub some-cover : coveringChoices l p ≡ [] → ⊥
     some-cover none = List·Memᴰ·not-nil (rw none at highs-cover)
+
+    -- .. and at least 1
+    pub kept-not-none : 1 ≤ keptChoices l p
+    unfolding keptChoices coveringChoices admissible
+    kept-not-none = kept-some (demandAt l p) (rows l p) rows-levels some-cover
 
     pub award-is : IsBest (demandAt l p) (admissible l p) (award l p)
     unfolding award coveringChoices admissible

@@ -7,6 +7,7 @@ pub mod Larger
 pub mod Best
 pub mod Order
 pub mod Search
+pub mod Books
 pub mod Falling
 pub mod Between
 pub mod Searched

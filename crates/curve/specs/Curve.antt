@@ -1,6 +1,7 @@
 -- The demand curve of numeral 3.8, as the resolution writes it (document 01, Demand): the price p(q) of a quantity q.
 -- Its two sloping parts divide by M1 - D and by 2 (D - M2), which are negative.
 use Prim.Native.Nat.{ℕ, _*_}
+use mathlib.Core.Path.{_≡_}
 use mathlib.Core.Bool.{Bool, cond}
 use lib.Dec.{leb, ltb}
 use lib.IntN.{ℤ, pos, _+ℤ_, _-ℤ_, _*ℤ_}
@@ -46,3 +47,11 @@ atMost f p = cond (ltZ (pos 0) (f .den)) (leZ (f .num) (p *ℤ f .den)) (leZ (p 
 -- p(q) <= p: the curve prices q at most p
 unfoldable pub priced : ℕ → ℕ → ℕ → ℕ → ℕ → ℕ → Bool
 priced ce d m1 m2 p q = atMost (curve ce d m1 m2 q) (pos p)
+
+-- num / den = p, where den is not 0
+abbrev pub Equals : Fraction → ℤ → Type 0
+Equals f p = f .num ≡ p *ℤ f .den
+
+-- p(q) = p: the curve prices q at p itself
+unfoldable pub PricedAt : ℕ → ℕ → ℕ → ℕ → ℕ → ℕ → Type 0
+PricedAt ce d m1 m2 p q = Equals (curve ce d m1 m2 q) (pos p)

@@ -1,19 +1,14 @@
--- Exact demand, times CE: a whole number. Dem is it over CE, rounded up, on both sides of CE.
+-- Exact demand times CE, by its two formulas; Dem is it over CE, rounded up, on both sides of CE.
 use Prim.Native.Nat.{ℕ, _+_, _-_, _*_, _/_, _≤_, _<_}
 use mathlib.Core.Path.{_≡_, sym, ap, _∙_, subst}
 use mathlib.Core.Logic.{⊎-elim, _↔_}
-use mathlib.Core.Bool.{cond}
 use native.Mathlib.Omega.{arith}
 use native.Mathlib.Nat.{mul-le-mul, mul-lt-mul-of-pos-right, le-div-iff-mul-le}
-use lib.Dec.{leb}
 use borrow.Author.Tests.{le-leb, lt-leb}
 use Rattle.numbers.specs.Cases.{le-or-lt}
 use Rattle.curve.specs.Demand.{dem, dividedUp}
+use Rattle.curve.specs.Remainder.{exactTimesCe}
 use Rattle.curve.specs.Range.{dem-from-ce, dem-below-ce, divided-up-le}
-
--- D CE - (D - M1)(p - CE) for p >= CE; D CE + 2 (M2 - D)(CE - p) below CE
-unfoldable pub exactTimesCe : ℕ → ℕ → ℕ → ℕ → ℕ → ℕ
-exactTimesCe ce d m1 m2 p = cond (leb ce p) (d * ce - (d - m1) * (p - ce)) (d * ce + 2 * (m2 - d) * (ce - p))
 
 -- numbers with the same upper bounds are equal
 same-bounds : (a b : ℕ) → ((y : ℕ) → (a ≤ y) ↔ (b ≤ y)) → a ≡ b

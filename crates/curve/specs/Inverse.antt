@@ -20,13 +20,13 @@ cross-upper ce a t r = ((λ g. omega arith), (λ g. omega arith))
 cross-lower : (p t r s : ℕ) → ((r + s) * t ≤ r * (p + t)) ↔ ((p + t) * s ≤ p * (r + s))
 cross-lower p t r s = ((λ g. omega arith), (λ g. omega arith))
 
-both : {X Y : Type 0} → X → Y → X ↔ Y
+pub both : {X Y : Type 0} → X → Y → X ↔ Y
 both x y = ((λ _. y), (λ _. x))
 
-neither : {X Y : Type 0} → (X → ⊥) → (Y → ⊥) → X ↔ Y
+pub neither : {X Y : Type 0} → (X → ⊥) → (Y → ⊥) → X ↔ Y
 neither x y = ((λ h. absurd (x h)), (λ h. absurd (y h)))
 
-through : {X Y Z : Type 0} → X ↔ Y → Z ↔ Y → X ↔ Z
+pub through : {X Y Z : Type 0} → X ↔ Y → Z ↔ Y → X ↔ Z
 through f g = ((λ x. g .1 (f .0 x)), (λ z. f .1 (g .0 z)))
 
 module _ (ce d m1 m2 p : ℕ) (s : InBounds ce d m1 m2) (a : InRange ce p) where

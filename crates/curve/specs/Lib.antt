@@ -1,5 +1,6 @@
 pub mod Curve
 pub mod Demand
+pub mod Remainder
 pub mod Answer
 pub mod Marked
 pub mod Signs
@@ -8,3 +9,5 @@ pub mod Inverse
 pub mod Order
 pub mod Words
 pub mod Exact
+pub mod ExactInverse
+pub mod RemainderLaws

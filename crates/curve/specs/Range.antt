@@ -1,7 +1,7 @@
 -- Where Dem lies: from M1 to D at CE and above, above D and up to M2 below CE. And the tests of the bounds decide the bounds.
-use Prim.Native.Nat.{ℕ, suc, _+_, _-_, _*_, _/_, _%_, _≤_, _<_}
-use mathlib.Core.Path.{_≡_}
-use mathlib.Core.Logic.{⊎-elim, _↔_}
+use Prim.Native.Nat.{ℕ, zero, suc, _+_, _-_, _*_, _/_, _%_, _≤_, _<_}
+use mathlib.Core.Path.{_≡_, refl}
+use mathlib.Core.Logic.{_⊎_, inl, inr, ⊎-elim, _↔_}
 use mathlib.Core.Bool.{true, false}
 use native.Mathlib.Omega.{arith}
 use native.Mathlib.Nat.{mul-comm, mul-assoc, mul-pos, suc-mul, mul-le-mul-left, le-trans, le-of-eq, div-lt-iff-lt-mul, div-le-of-le-mul}
@@ -24,6 +24,20 @@ divided-up-le n k x h = (
   (λ g. let l : n + (k - 1) < suc x * k = div-lt-iff-lt-mul h .0 (omega arith) in omega (arith, suc-mul x k)),
   (λ g. let l : (n + (k - 1)) / k < suc x = div-lt-iff-lt-mul h .1 (omega (arith, suc-mul x k)) in omega arith),
 )
+
+-- so that rounding up adds less than k, times k
+pub divided-up-between : (n k : ℕ) → 0 < k → (n ≤ dividedUp n k * k) × (dividedUp n k * k < n + k)
+divided-up-between n k h = (divided-up-le n k (dividedUp n k) h .0 (omega arith), ⊎-elim (λ z. rw z (omega arith)) (λ s. above (s .0) (s .1)) (zero-or-next (dividedUp n k)))
+  where
+    zero-or-next : (x : ℕ) → (x ≡ 0) ⊎ ((y : ℕ) × (x ≡ suc y))
+    zero-or-next zero = inl refl
+    zero-or-next (suc y) = inr (y, refl)
+
+    above : (y : ℕ) → dividedUp n k ≡ suc y → dividedUp n k * k < n + k
+    above y e = ⊎-elim
+        (λ l. absurd (let g : dividedUp n k ≤ y = divided-up-le n k y h .1 l in omega arith))
+        (λ g. rw e (omega (arith, g, suc-mul y k)))
+        (le-or-lt n (y * k))
 
 module _ (ce d m1 m2 p : ℕ) (s : InBounds ce d m1 m2) (a : InRange ce p) where
   pub fall-le : ce ≤ p → (d - m1) * (p - ce) / ce ≤ d - m1

@@ -1,14 +1,15 @@
-// The demand call: Dem(p) for CE, D, M1, M2 and p, by the formulas of document 01, Demand.
-// Its contract is an equation with the definitions of the crate `curve`, which holds the laws of Dem too.
+// The demand call: Dem(p) for CE, D, M1, M2 and p, by the formulas of document 01, Demand, and its remainder (document 02, 4).
+// Its contract is an equation with the definitions of the crate `curve`, which holds the laws of Dem and of the remainder too.
 ghost use mathlib.Core.Path.{_≡_};
-ghost use Prim.Native.Nat.{_*_, _≤_};
-ghost use Rattle.curve.specs.Demand.{dem, InBounds, InRange, inBounds, inRange};
-ghost use Rattle.curve.specs.Exact.{exactTimesCe};
+ghost use Prim.Native.Nat.{_+_, _-_, _*_, _≤_, _<_};
+ghost use Rattle.curve.specs.Demand.{InBounds, InRange, inBounds, inRange};
+ghost use Rattle.curve.specs.Remainder.{exactTimesCe};
 ghost use Rattle.curve.specs.Answer.{demandAnswer};
 ghost use Rattle.demand.specs.Answers.{answerOf};
 
 pub enum Demanded {
-    Quantity(u64),
+    // Dem(p) in kWh, and its remainder in CE-ths of a kWh.
+    Quantity(u64, u32),
     OutOfBounds,
 }
 
@@ -73,13 +74,23 @@ fn exact_times_ce(ce: u64, d: u64, m1: u64, m2: u64, p: u64) -> u64
     d * ce + 2 * (m2 - d) * (ce - p)
 }
 
-// Dem(p), within the bounds: exact demand, rounded up.
-fn quantity(ce: u64, d: u64, m1: u64, m2: u64, p: u64) -> u64
+// Rounded demand times CE less exact demand times CE.
+fn remainder_of(ce: u64, exact: u64, quantity: u64) -> u32
+    requires { ⌜ (ce ≤ 500000) × (exact ≤ 200000000000 * 500000) × (exact ≤ quantity * ce) × (quantity * ce < exact + ce) ⌝ }
+    ensures { λ r. ⌜ r ≡ quantity * ce - exact ⌝ }
+{
+    (quantity * ce - exact) as u32
+}
+
+// Dem(p), within the bounds: exact demand, rounded up; and its remainder.
+fn rounded(ce: u64, d: u64, m1: u64, m2: u64, p: u64) -> Demanded
     requires { ⌜ InBounds ce d m1 m2 ⌝ }
     requires { ⌜ InRange ce p ⌝ }
-    ensures { λ r. ⌜ r ≡ dem ce d m1 m2 p ⌝ }
+    ensures { λ r. ⌜ answerOf r ≡ demandAnswer ce d m1 m2 p ⌝ }
 {
-    (exact_times_ce(ce, d, m1, m2, p) + (ce - 1)) / ce
+    let exact = exact_times_ce(ce, d, m1, m2, p);
+    let quantity = (exact + (ce - 1)) / ce;
+    Demanded::Quantity(quantity, remainder_of(ce, exact, quantity))
 }
 
 // The demand call.
@@ -88,7 +99,7 @@ pub fn demand(ce: u64, d: u64, m1: u64, m2: u64, p: u64) -> Demanded
 {
     if settings_in_bounds(ce, d, m1, m2) {
         if price_in_range(ce, p) {
-            return Demanded::Quantity(quantity(ce, d, m1, m2, p));
+            return rounded(ce, d, m1, m2, p);
         }
     }
     Demanded::OutOfBounds

@@ -7,6 +7,7 @@ use Rattle.numbers.specs.Lists.{oneTo, keep, any}
 use Rattle.rules.specs.Ledger.{declaredOrZero, Developer, Ledger}
 use Rattle.rules.specs.Clearing.{high, low, developersOf, greatestOf, demandAt}
 use Rattle.choices.specs.Choices.{choices, covering, bestOf}
+use Rattle.choices.specs.Search.{kept}
 
 -- open to a developer: declared by it, or 0, and from its own low to its own high
 unfoldable pub openBetween : List ℕ → ℕ → ℕ → ℕ → Bool
@@ -57,6 +58,10 @@ admissible l p = choices (rows l p)
 -- those that cover, a term of document 01: a choice covers if its total is at least Dem(P)
 unfoldable pub coveringChoices : Ledger → ℕ → List (List ℕ)
 coveringChoices l p = covering (demandAt l p) (admissible l p)
+
+-- how many complete choices the search for the award does not set aside (document 02, 3)
+unfoldable pub keptChoices : Ledger → ℕ → ℕ
+keptChoices l p = kept (demandAt l p) (rows l p)
 
 -- the award, a term of document 01: the covering choice of least total; of equal totals the one with the larger level at the lowest
 -- project number where they differ

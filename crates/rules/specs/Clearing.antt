@@ -6,6 +6,7 @@ use lib.Dec.{leb, ltb, eqb}
 use Rattle.numbers.specs.Least.{leastFrom}
 use Rattle.numbers.specs.Lists.{oneTo, keep, total, greatest}
 use Rattle.curve.specs.Demand.{dem}
+use Rattle.curve.specs.Remainder.{remainder}
 use Rattle.rules.specs.Ledger.{highestDeclared, Step, Developer, Ledger}
 
 -- the highest level declared
@@ -40,6 +41,10 @@ supply f l = total (map (greatestOf f l) (oneTo 32))
 -- Dem(p) of the ledger's settings
 abbrev pub demandAt : Ledger → ℕ → ℕ
 demandAt l p = dem (l .settings .ce) (l .settings .d) (l .settings .m1) (l .settings .m2) p
+
+-- its remainder, in CE-ths of a kWh (document 02, 4)
+abbrev pub remainderAt : Ledger → ℕ → ℕ
+remainderAt l p = remainder (l .settings .ce) (l .settings .d) (l .settings .m1) (l .settings .m2) p
 
 -- covered, a term of document 01: the sum of the projects' highs at p is at least Dem(p)
 unfoldable pub covered : Ledger → ℕ → Bool

@@ -7,7 +7,7 @@ use lib.Dec.{leb, ltb, eqb}
 use lib.IntN.{ℤ, pos, negsuc, _-ℤ_}
 use Rattle.numbers.specs.Lists.{keep}
 use Rattle.rules.specs.Ledger.{Step, Move, Offer, Lodge, Call, SetUp, Register, Open, By, Close, Standing, none, made, Developer, Phase, Ready, Round, Between, Closed, Ledger, start, withPhase, withSettings, withPrices, withDevelopers, withDeveloper, withOffer, withLodged, newcomer}
-use Rattle.rules.specs.Clearing.{supply, demandAt}
+use Rattle.rules.specs.Clearing.{supply, demandAt, remainderAt}
 use Rattle.rules.specs.Refusals.{floor, openingPrice, number}
 
 -- ---- what an accepted call does (document 01, Rounds and Closing price and award)
@@ -103,26 +103,27 @@ ledger cs = stepAll start cs
 
 -- ---- the answers (document 01, Rounds)
 
--- a call's whole answer
+-- a call's whole answer: its number, and of a closing the excess and the remainder
 pub record Answered : Type 0 where
   pub number : ℕ
   pub excess : ℤ
+  pub remainder : ℕ
 
 -- a number, and 0 in every other place
 abbrev pub numberAlone : ℕ → Answered
-numberAlone n = record { number = n; excess = pos 0 }
+numberAlone n = record { number = n; excess = pos 0; remainder = 0 }
 
 -- the excess that a closing answers: supply after the withdrawals at C less Dem(C)
 unfoldable pub excess : Ledger → ℤ
 excess l = pos (supplyAfter l) -ℤ pos (demandAt l (l .closing))
 
--- what an accepted call answers
+-- what an accepted call answers; a closing the excess, and the remainder of Dem(C) (document 02, 4)
 unfoldable pub granted : Ledger → Call → Answered
 granted l (SetUp s) = numberAlone 0
 granted l (Register n x) = numberAlone 0
 granted l (Open c) = numberAlone 0
 granted l (By n m) = numberAlone 0
-granted l Close = record { number = 0; excess = excess l }
+granted l Close = record { number = 0; excess = excess l; remainder = remainderAt l (l .closing) }
 
 -- a refusal returns its number with every other number 0 (document 01, The twelve numbers)
 unfoldable pub answer : Ledger → Call → Answered

@@ -1,5 +1,5 @@
--- The sample record of document 01 (Frames) as a list of calls. Its settling and the ten marked cases of demand (Demand), shown jointly and
--- computed.
+-- The sample record of document 01 (Frames) as a list of calls. Its settling and the ten marked cases of demand (Demand), with their
+-- remainders (document 02, 4), shown jointly and computed.
 use mathlib.Core.Path.{_≡_, refl}
 use lib.IntN.{pos, _-ℤ_}
 use mathlib.Core.List.{List, [], _∷_, _++_, map}
@@ -7,13 +7,15 @@ use lib.ListN.{replicate}
 use Rattle.numbers.specs.Lists.{oneTo, keep, total, greatest, lastOr, any, all}
 use Rattle.numbers.specs.Least.{leastFrom}
 use Rattle.curve.specs.Demand.{dem, inBounds}
+use Rattle.curve.specs.Remainder.{exactTimesCe, remainder}
 use Rattle.curve.specs.Marked.{MarkedCases, marked-cases}
 use Rattle.rules.specs.Ledger.{Offer, Call, SetUp, Register, Open, By, Close, Closed}
 use Rattle.rules.specs.Clearing.{quantityAfter, high, low, developersOf, greatestOf, supply, covered, closingPrice}
 use Rattle.rules.specs.Refusals.{settingsOk, numbersOk, rising, levelsOk, mayJoin, declarationOk, openingPrice, closingOk, startCovered, isOfKind, falling, pricesOk, lowering, moveNumber, number}
 use Rattle.rules.specs.Rounds.{steps, withdrawsAll, reached, unreached, added, lastLevel, applied, supplyAfter, thousandths, clears, phaseAfter, moved, accepted, step, stepAll, ledger, excess, granted, answer, answersFrom, answers}
 use Rattle.choices.specs.Choices.{spread, choices, covering, larger, before, best, bestOf}
-use Rattle.rules.specs.Award.{openBetween, openToDeveloper, openTo, insert, insertAll, declaredBy, openLevels, row, rows, admissible, coveringChoices, award, preferred, mostPreferred, firstPreferred, winner}
+use Rattle.choices.specs.Search.{placed, byFalling, order, lowest, highest, aboveBest, setAside, inTurn, searched, given, found, kept}
+use Rattle.rules.specs.Award.{openBetween, openToDeveloper, openTo, insert, insertAll, declaredBy, openLevels, row, rows, admissible, coveringChoices, keptChoices, award, preferred, mostPreferred, firstPreferred, winner}
 use Rattle.rules.specs.Settling.{recordsFrom, records, settlingNumber, settlementAt, settlement}
 
 abbrev pub sample : List Call
@@ -30,9 +32,9 @@ sample =
     ∷ Close
     ∷ []
 
--- the ledger is closed, and settling with the record's limit 100 and the replay's 192 bytes is accepted; P is 26,000 and Dem(P) 970; the
--- open totals are 920, 1,020, 1,070 and 1,170, of which three cover; the award is 1,020: 820 to developer 1 of project 1 and 200 to
--- developer 3 of project 2
+-- the ledger is closed, and settling with the record's limit 100 and the replay's 192 bytes is accepted; P is 26,000 and Dem(P) 970, with no
+-- remainder (document 02, 4); the open totals are 920, 1,020, 1,070 and 1,170, of which three cover; the search keeps 1,070, then 1,020
+-- (document 02, 3); the award is 1,020: 820 to developer 1 of project 1 and 200 to developer 3 of project 2
 abbrev pub SampleSettled : Type 0
 SampleSettled =
     (ledger sample .phase ≡ Closed)
@@ -41,20 +43,24 @@ SampleSettled =
     × (settlement (ledger sample) ≡ record {
       price = 26000;
       demand = 970;
+      remainder = 0;
       total = 1020;
       choices = 4;
       covering = 3;
+      kept = 2;
       records = (1 ∷ 1 ∷ 0 ∷ 0 ∷ 3 ∷ 52 ∷ []) ∷ (2 ∷ 3 ∷ 0 ∷ 0 ∷ 0 ∷ 200 ∷ []) ∷ [];
     })
     × (map (λ r. r .number) (answers sample) ≡ replicate 10 0)
     × (map (λ r. r .excess) (answers sample) ≡ replicate 9 (pos 0) ++ ((pos 0 -ℤ pos 55) ∷ []))
+    × (map (λ r. r .remainder) (answers sample) ≡ replicate 10 0)
 
 pub shown-jointly : MarkedCases × SampleSettled
-unfolding oneTo keep total greatest lastOr any all leastFrom dem inBounds
+unfolding oneTo keep total greatest lastOr any all leastFrom dem exactTimesCe remainder inBounds
     quantityAfter high low developersOf greatestOf supply covered closingPrice
     settingsOk numbersOk rising levelsOk mayJoin declarationOk openingPrice closingOk startCovered isOfKind falling pricesOk lowering moveNumber number
     steps withdrawsAll reached unreached added lastLevel applied supplyAfter thousandths clears phaseAfter moved accepted step stepAll ledger excess granted answer answersFrom answers
     spread choices covering larger before best bestOf
-    openBetween openToDeveloper openTo insert insertAll declaredBy openLevels row rows admissible coveringChoices award preferred mostPreferred firstPreferred winner
+    placed byFalling order lowest highest aboveBest setAside inTurn searched given found kept
+    openBetween openToDeveloper openTo insert insertAll declaredBy openLevels row rows admissible coveringChoices keptChoices award preferred mostPreferred firstPreferred winner
     recordsFrom records settlingNumber settlementAt settlement
-shown-jointly = (marked-cases, (refl, refl, refl, refl, refl, refl))
+shown-jointly = (marked-cases, (refl, refl, refl, refl, refl, refl, refl))

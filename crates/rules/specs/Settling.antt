@@ -6,9 +6,9 @@ use lib.Dec.{leb, eqb}
 use lib.ListN.{length}
 use Rattle.numbers.specs.Lists.{total}
 use Rattle.rules.specs.Ledger.{Ledger}
-use Rattle.rules.specs.Clearing.{demandAt, closingPrice}
+use Rattle.rules.specs.Clearing.{demandAt, remainderAt, closingPrice}
 use Rattle.rules.specs.Refusals.{check, isClosed}
-use Rattle.rules.specs.Award.{admissible, coveringChoices, award, winner}
+use Rattle.rules.specs.Award.{admissible, coveringChoices, keptChoices, award, winner}
 
 -- an award record, 6 bytes: project, developer, quantity with the high byte first
 abbrev pub recordOf : ℕ → ℕ → ℕ → List ℕ
@@ -29,22 +29,27 @@ settlingNumber l limit room =
     (check (leb (length (admissible l (closingPrice l))) (min limit 65536)) 10
     (check (leb (6 * length (records l (closingPrice l))) room) 11 0))
 
--- P, Dem(P), the award's total, the numbers of admissible and of covering choices, and the award records
+-- P, Dem(P) with its remainder (document 02, 4), the award's total, the numbers of admissible, of covering and of kept choices, and the award
+-- records
 pub record Settlement : Type 0 where
   pub price : ℕ
   pub demand : ℕ
+  pub remainder : ℕ
   pub total : ℕ
   pub choices : ℕ
   pub covering : ℕ
+  pub kept : ℕ
   pub records : List (List ℕ)
 
 unfoldable pub settlementAt : Ledger → ℕ → Settlement
 settlementAt l p = record {
   price = p;
   demand = demandAt l p;
+  remainder = remainderAt l p;
   total = total (award l p);
   choices = length (admissible l p);
   covering = length (coveringChoices l p);
+  kept = keptChoices l p;
   records = records l p;
 }
 

@@ -14,7 +14,7 @@ use Rattle.rules.specs.Ledger.{Phase, Fresh, Ready, Round, Between, Closed, Led
 use Rattle.rules.specs.Clearing.{highest, high, low, covered, demandAt, closingPrice, ofEach}
 use Rattle.rules.specs.Refusals.{isClosed}
 use Rattle.rules.specs.Rounds.{ledger}
-use Rattle.rules.specs.Award.{rows, admissible, coveringChoices, award}
+use Rattle.rules.specs.Award.{rows, admissible, coveringChoices, keptChoices, award}
 use Rattle.rules.specs.Settling.{recordsFrom, records, settlingNumber, settlementAt, settlement}
 use Rattle.sound.specs.Sound.{Sound, started}
 use Rattle.sound.specs.Parts.{whole}
@@ -223,6 +223,7 @@ module _ (a : Auction) (limit p demand : ℕ) (lows highs : List ℕ) (s : Selec
       total = s .total;
       choices = s .choices;
       covering = s .covering;
+      kept = s .kept;
       records = n;
     }
 
@@ -249,7 +250,7 @@ module _ (a : Auction) (limit p demand : ℕ) (lows highs : List ℕ) (s : Selec
           ∙ ap (recordsFrom l p 1) (award-is l snd h)
 
       settled-is : (l : Ledger) → Sound l → a ≡ auctionOf l → accepted ≡ settledAs (settlementAt l p)
-      unfolding settlementAt award coveringChoices admissible
+      unfolding settlementAt award coveringChoices keptChoices admissible
       settled-is l snd h = λ i. record {
         number = 0;
         price = p;
@@ -257,6 +258,7 @@ module _ (a : Auction) (limit p demand : ℕ) (lows highs : List ℕ) (s : Selec
         total = w l snd h .0 i .total;
         choices = w l snd h .0 i .choices;
         covering = w l snd h .0 i .covering;
+        kept = w l snd h .0 i .kept;
         records = sym (records-are-n l snd h) i;
       }
 

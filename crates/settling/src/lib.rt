@@ -3,8 +3,8 @@ ghost use Rattle.settling.specs.Settles.{Settles, refusedWith};
 ghost use mathlib.Core.Path.{_≡_};
 use auction::Auction;
 
-// The answer: 0 or a refusal's number; P, Dem(P), the award's total, the numbers of admissible and of covering choices, and of award
-// records. A refusal has 0 in every other place.
+// The answer: 0 or a refusal's number; P, Dem(P), the award's total, the numbers of admissible choices, of covering ones and of those that the
+// search keeps (document 02, 3), and of award records. A refusal has 0 in every other place.
 pub struct Settled {
     pub number: u8,
     pub price: u32,
@@ -12,6 +12,7 @@ pub struct Settled {
     pub total: u64,
     pub choices: u64,
     pub covering: u64,
+    pub kept: u64,
     pub records: usize,
 }
 
@@ -25,6 +26,7 @@ fn refused(number: u8) -> Settled
         total: 0,
         choices: 0,
         covering: 0,
+        kept: 0,
         records: 0,
     }
 }
@@ -66,6 +68,7 @@ pub fn settle(auction: Auction, limit: u32, awards: &mut [u8]) -> Settled
         total: selected.total,
         choices: selected.choices,
         covering: selected.covering,
+        kept: selected.kept,
         records: records,
     }
 }

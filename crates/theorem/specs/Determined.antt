@@ -66,6 +66,7 @@ accepted-is l old new r z a =
       total = a .total-is i;
       choices = a .choices i;
       covering = a .covering i;
+      kept = a .kept i;
       records = a .count i;
     }
 

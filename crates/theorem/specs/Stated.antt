@@ -10,9 +10,9 @@ use Rattle.numbers.specs.Lists.{total}
 use Rattle.numbers.specs.Least.{Least}
 use Rattle.choices.specs.Choices.{IsBest}
 use Rattle.rules.specs.Ledger.{Ledger}
-use Rattle.rules.specs.Clearing.{covered, demandAt, closingPrice}
+use Rattle.rules.specs.Clearing.{low, supply, covered, demandAt, closingPrice}
 use Rattle.rules.specs.Refusals.{isClosed}
-use Rattle.rules.specs.Award.{admissible, coveringChoices, award, winner}
+use Rattle.rules.specs.Award.{admissible, coveringChoices, keptChoices, award, winner}
 use Rattle.rules.specs.Settling.{records}
 use Rattle.settling.specs.Settles.{refusedWith}
 use Rattle.settling.specs.declared.Settled.{Settled}
@@ -36,6 +36,11 @@ pub record Accepted (l : Ledger) (old new : List ℕ) (r : Settled) : Type 0 whe
   pub total-is : r .total ≡ total (award l (r .price))
   pub choices : r .choices ≡ length (admissible l (r .price))
   pub covering : r .covering ≡ length (coveringChoices l (r .price))
+  -- as many as the search does not set aside: at least 1, at most the covering ones, and 1 where the choice of all lows covers
+  pub kept : r .kept ≡ keptChoices l (r .price)
+  pub kept-some : 1 ≤ r .kept
+  pub kept-few : r .kept ≤ r .covering
+  pub kept-one : demandAt l (r .price) ≤ supply (low (r .price)) l → r .kept ≡ 1
   -- each level above 0 goes to the preferred developer, and has one record
   pub goes : (k : ℕ) → 1 ≤ k → k ≤ 32 → let v = awardedLevel l (r .price) k in 0 < v → Goes l (r .price) k v (winner l (r .price) k v)
   pub count : r .records ≡ length (records l (r .price))

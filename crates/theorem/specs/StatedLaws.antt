@@ -17,7 +17,7 @@ use Rattle.rules.specs.Settling.{records, settlingNumber, settlementAt, settlem
 use Rattle.sound.specs.Sound.{Sound, started}
 use Rattle.reachable.specs.Reachable.{sound}
 use Rattle.clearing.specs.ClosingPrice.{closed-started, closing-price}
-use Rattle.awards.specs.AwardLaws.{award-at-closing}
+use Rattle.awards.specs.AwardLaws.{kept-few, kept-at-lows, kept-not-none, award-at-closing}
 use Rattle.awards.specs.Winners.{winner-open, winner-preferred, awarded-open}
 use Rattle.auction.specs.Holds.{auctionOf}
 use Rattle.auction.specs.declared.Auction.{Auction}
@@ -47,6 +47,10 @@ module _ (l : Ledger) (s : Sound l) (c : isClosed (l .phase) ≡ true) (old new 
     total-is = refl;
     choices = refl;
     covering = refl;
+    kept = refl;
+    kept-some = kept-not-none l (closingPrice l) s covers;
+    kept-few = kept-few l (closingPrice l) s;
+    kept-one = kept-at-lows l (closingPrice l) s;
     goes = λ k low high v.
         let o = awarded-open l (closingPrice l) k s covers low high v in
         let n = winner-open l (closingPrice l) k _ o in

@@ -42,8 +42,9 @@ items s =
     item (bytesOf "price ") (s .price) ++ item (bytesOf "demand ") (s .demand) ++ item (bytesOf "total ") (s .total)
     ++ item (bytesOf "choices ") (s .choices) ++ item (bytesOf "covering ") (s .covering)
 
+-- the items, the awards, and what no reply says (document 02, 3): how many choices the search keeps
 unfoldable pub settledLines : Settled → List ℕ → List ℕ
-settledLines s awards = items s ++ awardLines awards (min (s .records) 32)
+settledLines s awards = items s ++ awardLines awards (min (s .records) 32) ++ item (bytesOf "kept ") (s .kept)
 
 -- below a reply, by the excess of a closing and what a settling answered: nothing if it is refused or of another kind
 unfoldable pub wordsOf : Reply → ℕ → Settled → List ℕ

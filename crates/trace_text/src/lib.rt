@@ -148,7 +148,8 @@ fn put_settled(out: &mut [u8], at: usize, s: Settled, awards: [u8; 192]) -> usiz
     ensures { λ r. ⌜ Puts (settledLines s awards) 3000 (now (out .entry)) (now (out .exit)) at r ⌝ }
 {
     let next = put_items(out, at, s);
-    put_awards(out, next, awards, count(s))
+    let behind = put_awards(out, next, awards, count(s));
+    put_item(out, behind, b"kept ", s.kept)
 }
 
 // Writes the reply's line and what stands below it at the start of a buffer, and gives their number of bytes.

@@ -2,7 +2,7 @@
 use mathlib.Core.Path.{sym, _∙_}
 use Rattle.curve.specs.Demand.{InBounds, InRange}
 use Rattle.curve.specs.Range.{in-bounds, in-range}
-use Rattle.demand.proofs.Fits.{accepted, refused-settings, refused-price}
+use Rattle.demand.proofs.Fits.{refused-settings, refused-price}
 use borrow.Author.Needs.{needs}
 use Rattle.demand.proofs.demand.Statement.{statement}
 use Rattle.demand.proofs.demand.Tie as tie
@@ -19,11 +19,11 @@ settings-in-bounds-requires c κs = search needs
 price-in-range-requires : tie.Need-price-in-range-requires
 price-in-range-requires c κs = bounded c .ce-high
 
-quantity-requires : tie.Need-quantity-requires
-quantity-requires c κs = (bounded (c .before .before), asked c)
+rounded-requires : tie.Need-rounded-requires
+rounded-requires c κs = (bounded (c .before .before), asked c)
 
 returns : tie.Need-returns
-returns c = accepted _ _ _ _ _ (bounded (c .before .before .before)) (asked (c .before)) _ (c .quantity .ensures)
+returns c = c .rounded .ensures
 
 returns-2 : tie.Need-returns-2
 returns-2 c = refused-price _ _ _ _ _ (bounded (c .before .before)) (sym (c .before .price-in-range .ensures) ∙ c .if2 .left)
@@ -34,4 +34,4 @@ returns-3 c = refused-settings _ _ _ _ _ (sym (c .before .settings-in-bounds .en
 pub demand-spec : {M : Type 1} → statement M
 demand-spec =
     tie.close
-    (tie.spec settings-in-bounds-requires price-in-range-requires quantity-requires returns returns-2 returns-3)
+    (tie.spec settings-in-bounds-requires price-in-range-requires rounded-requires returns returns-2 returns-3)

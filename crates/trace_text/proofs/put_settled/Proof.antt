@@ -1,4 +1,4 @@
--- The items, and the awards behind them.
+-- The items, the awards behind them, then the number of kept choices.
 use mathlib.Core.Path.{refl}
 use native.Mathlib.Omega.{arith}
 use borrow.Author.Needs.{needs}
@@ -16,17 +16,24 @@ count-requires c κs = search needs
 put-awards-requires : tie.Need-put-awards-requires
 put-awards-requires c κs = (c .count .ensures .1, omega arith)
 
+slice-aggregate-put-item : tie.Need-slice-aggregate-put-item
+slice-aggregate-put-item c = refl
+
+put-item-requires : tie.Need-put-item-requires
+put-item-requires c κs = omega arith
+
 same-length : tie.Need-same-length
 same-length c = search needs
 
 returns : tie.Need-returns
 unfolding settledLines
 returns c =
-    let awards = c .before .before in
+    let kept = c .before .before in
+    let awards = kept .before .before .before .before .before in
     let items = awards .before .before .before .before .before in
     let n = awards .before .count in
-    puts-as (puts-then (items .put-items .ensures) (rw (n .ensures .0) at (awards .put-awards .ensures))) _ _ refl
-    (omega (arith, n .ensures .0, n .ensures .1))
+    let behind = puts-then (items .put-items .ensures) (rw (n .ensures .0) at (awards .put-awards .ensures)) in
+    puts-as (puts-then behind (kept .put-item .ensures)) _ _ refl (omega (arith, n .ensures .0, n .ensures .1))
 
 pub put-settled-spec : {M : Type 1} → statement M
-put-settled-spec = tie.close (tie.spec put-items-requires count-requires put-awards-requires same-length returns)
+put-settled-spec = tie.close (tie.spec put-items-requires count-requires put-awards-requires slice-aggregate-put-item put-item-requires same-length returns)

@@ -1,4 +1,4 @@
--- Refused unless a round is open; else the offers are applied, and supply, demand at C, excess and phase are the ledger's.
+-- Refused unless a round is open; else the offers are applied, and supply, demand at C with its remainder, excess and phase are the ledger's.
 use mathlib.Core.Path.{ap, _∙_}
 use native.Mathlib.Omega.{arith}
 use borrow.Author.Needs.{needs}
@@ -20,6 +20,9 @@ supply-requires c κs = search needs
 demand-at-requires : tie.Need-demand-at-requires
 demand-at-requires c κs = search needs
 
+remainder-at-requires : tie.Need-remainder-at-requires
+remainder-at-requires c κs = search needs
+
 excess-of-requires : tie.Need-excess-of-requires
 excess-of-requires c κs = search needs
 
@@ -33,14 +36,16 @@ returns-2 : tie.Need-returns-2
 returns-2 c =
     let tested = c .before .clears in
     let excess = c .before .before .before .excess-of in
-    let demand = c .before .before .before .before .demand-at in
-    let supply = c .before .before .before .before .before .supply in
-    let offers = c .before .before .before .before .before .before .before .before in
-    close-taken _ _ _ _ _ _ (record {
+    let demands = c .before .before .before .before .before in
+    let demand = demands .demand-at in
+    let supply = demands .before .supply in
+    let offers = demands .before .before .before .before in
+    close-taken _ _ _ _ _ _ _ (record {
       round = offers .before .if1 .left;
       applied = offers .with-offers-applied .ensures;
       supply-is = supply .ensures .0;
       demand-is = demand .ensures .0;
+      remainder-is = c .before .before .before .before .remainder-at .ensures;
       phase-is = c .phase-after .ensures ∙ ap phaseNumberAfter (tested .ensures);
       excess-is = difference-back (supply .result) (demand .result) (omega arith) (omega arith) (excess .result) (excess .ensures);
     })
@@ -53,6 +58,7 @@ close-spec =
     with-offers-applied-requires
     supply-requires
     demand-at-requires
+    remainder-at-requires
     excess-of-requires
     clears-requires
     phase-after-requires
