@@ -2,6 +2,7 @@
 -- remainders (document 02, 4), shown jointly and computed.
 use mathlib.Core.Path.{_≡_, refl}
 use lib.IntN.{pos, _-ℤ_}
+use mathlib.Core.Bool.{false}
 use mathlib.Core.List.{List, [], _∷_, _++_, map}
 use lib.ListN.{replicate}
 use Rattle.numbers.specs.Lists.{oneTo, keep, total, greatest, lastOr, any, all}
@@ -16,6 +17,7 @@ use Rattle.rules.specs.Rounds.{steps, withdrawsAll, reached, unreached, 
 use Rattle.choices.specs.Choices.{spread, choices, covering, larger, before, best, bestOf}
 use Rattle.choices.specs.Search.{placed, byFalling, order, lowest, highest, aboveBest, setAside, inTurn, searched, given, found, kept}
 use Rattle.rules.specs.Award.{openBetween, openToDeveloper, openTo, insert, insertAll, declaredBy, openLevels, row, rows, admissible, coveringChoices, keptChoices, award, preferred, mostPreferred, firstPreferred, winner}
+use Rattle.rules.specs.Second.{lodgedApplied, takenOut, remaining, short, secondPrice}
 use Rattle.rules.specs.Settling.{recordsFrom, records, settlingNumber, settlementAt, settlement}
 
 abbrev pub sample : List Call
@@ -48,6 +50,8 @@ SampleSettled =
       choices = 4;
       covering = 3;
       kept = 2;
+      second = 26000;
+      short = false;
       records = (1 ∷ 1 ∷ 0 ∷ 0 ∷ 3 ∷ 52 ∷ []) ∷ (2 ∷ 3 ∷ 0 ∷ 0 ∷ 0 ∷ 200 ∷ []) ∷ [];
     })
     × (map (λ r. r .number) (answers sample) ≡ replicate 10 0)
@@ -62,5 +66,6 @@ unfolding oneTo keep total greatest lastOr any all leastFrom dem exactTimesCe re
     spread choices covering larger before best bestOf
     placed byFalling order lowest highest aboveBest setAside inTurn searched given found kept
     openBetween openToDeveloper openTo insert insertAll declaredBy openLevels row rows admissible coveringChoices keptChoices award preferred mostPreferred firstPreferred winner
+    lodgedApplied takenOut remaining short secondPrice
     recordsFrom records settlingNumber settlementAt settlement
 shown-jointly = (marked-cases, (refl, refl, refl, refl, refl, refl, refl))
