@@ -1,4 +1,4 @@
--- The replies to a record (document 01, Frames): over its bytes, the ledger and nothing of the engine.
+-- The replies to a record (document 01, Frames; document 02, 4): over its bytes, the ledger and nothing of the engine.
 use Prim.Native.Nat.{ℕ, suc, _-_, _^_}
 use mathlib.Core.Bool.{cond}
 use mathlib.Core.List.{List, [], _∷_, _++_, map, flatten}
@@ -44,9 +44,9 @@ valuesOf fs x = map (λ f. f .value x) fs
 abbrev pub fieldsText : {A : Type 0} → List (Field A) → A → List ℕ
 fieldsText fs x = textAt (widthsOf fs) (valuesOf fs x)
 
--- 05 adds the excess, in two's complement
+-- 05 adds the excess, in two's complement, and the remainder
 abbrev pub closingFields : List (Field Answered)
-closingFields = field 16 (λ r. twosComplement (r .excess)) ∷ []
+closingFields = field 16 (λ r. twosComplement (r .excess)) ∷ field 8 (λ r. r .remainder) ∷ []
 
 -- 06 adds P, Dem, total, choices, covering, awards, ..
 abbrev pub settlingHead : List (Field Settlement)
@@ -63,9 +63,9 @@ settlingHead =
 abbrev pub recordDigits : List ℕ → List ℕ
 recordDigits bytes = flatten (map (digits 2) bytes)
 
--- .. and behind the records nothing
+-- .. and behind the records the remainder
 abbrev pub settlingTail : List (Field Settlement)
-settlingTail = []
+settlingTail = field 8 (λ s. s .remainder) ∷ []
 
 unfoldable pub closingText : Answered → List ℕ
 closingText r = fieldsText closingFields r

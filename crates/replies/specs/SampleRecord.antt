@@ -1,5 +1,5 @@
 -- The sample record of document 01 (Frames) as bytes: it asks the calls of `rules` (Sample) and a settling with limit 100, and its replies are
--- document 01's, byte for byte. Computed over the definitions.
+-- document 01's with the remainders of document 02, 4, byte for byte. Computed over the definitions.
 use Prim.Native.Nat.{ℕ}
 use Prim.Native.String.{String, len}
 use mathlib.Core.Path.{_≡_, refl}
@@ -7,6 +7,7 @@ use mathlib.Core.List.{List, [], _∷_, _++_, map, flatten}
 use Rattle.numbers.specs.Lists.{oneTo, keep, total, greatest, lastOr, any, all}
 use Rattle.numbers.specs.Least.{leastFrom}
 use Rattle.curve.specs.Demand.{dem, inBounds}
+use Rattle.curve.specs.Remainder.{exactTimesCe, remainder}
 use Rattle.choices.specs.Choices.{spread, choices, covering, larger, before, best, bestOf}
 use Rattle.rules.specs.Clearing.{quantityAfter, high, low, developersOf, greatestOf, supply, covered, closingPrice}
 use Rattle.rules.specs.Refusals.{settingsOk, numbersOk, rising, levelsOk, mayJoin, declarationOk, openingPrice, closingOk, startCovered, isOfKind, falling, pricesOk, lowering, moveNumber, number}
@@ -56,8 +57,8 @@ sampleReply = text (
     ∷ "0400"
     ∷ "0400"
     ∷ "0400"
-    ∷ "0500FFFFFFFFFFFFFFC9"
-    ∷ "06000000659000000003CA00000003FC0000000400000003020101000003340203000000C8"
+    ∷ "0500FFFFFFFFFFFFFFC900000000"
+    ∷ "06000000659000000003CA00000003FC0000000400000003020101000003340203000000C800000000"
     ∷ [])
 
 sample-asks : map orderIn (lines sampleRecord) ≡ map Asks sample ++ (Settle 100 ∷ [])
@@ -67,7 +68,7 @@ unfolding codes line text all any total
 sample-asks = refl
 
 sample-replied : replies sampleRecord ≡ sampleReply
-unfolding codes line text flatten oneTo keep total greatest lastOr any all leastFrom dem inBounds
+unfolding codes line text flatten oneTo keep total greatest lastOr any all leastFrom dem exactTimesCe remainder inBounds
     quantityAfter high low developersOf greatestOf supply covered closingPrice
     settingsOk numbersOk rising levelsOk mayJoin declarationOk openingPrice closingOk startCovered isOfKind falling pricesOk lowering moveNumber number
     steps withdrawsAll added lastLevel applied supplyAfter thousandths clears phaseAfter moved accepted step excess granted answer
@@ -78,6 +79,6 @@ unfolding codes line text flatten oneTo keep total greatest lastOr any all least
     firsts seconds orderOf ordered orderIn closingText settlingText answerLine replyTo after repliesFrom replies
 sample-replied = refl
 
--- the ten marked cases, the sample's settling, and the sample as bytes, jointly
+-- the ten marked cases with their remainders, the sample's settling, and the sample as bytes, jointly
 pub shown-as-bytes : MarkedCases × SampleSettled × (map orderIn (lines sampleRecord) ≡ map Asks sample ++ (Settle 100 ∷ [])) × (replies sampleRecord ≡ sampleReply)
 shown-as-bytes = (shown-jointly .0, shown-jointly .1, sample-asks, sample-replied)

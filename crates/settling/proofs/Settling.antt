@@ -8,10 +8,11 @@ use lib.Dec.{eqb, leb}
 use lib.ListN.{length, replicate, drop}
 use borrow.Author.Tests.{eq-eqb, ne-eqb, le-leb, lt-leb}
 use Rattle.numbers.specs.Lists.{total}
+use Rattle.curve.specs.Demand.{InRange}
 use Rattle.choices.specs.Choices.{choices, covering, bestOf}
 use Rattle.choices.specs.Search.{kept}
 use Rattle.rules.specs.Ledger.{Phase, Fresh, Ready, Round, Between, Closed, Ledger}
-use Rattle.rules.specs.Clearing.{highest, high, low, covered, demandAt, closingPrice, ofEach}
+use Rattle.rules.specs.Clearing.{highest, high, low, covered, demandAt, remainderAt, closingPrice, ofEach}
 use Rattle.rules.specs.Refusals.{isClosed}
 use Rattle.rules.specs.Rounds.{ledger}
 use Rattle.rules.specs.Award.{rows, admissible, coveringChoices, keptChoices, award}
@@ -22,8 +23,8 @@ use Rattle.clearing.specs.ClosingPrice.{closed-started, settings-facts, passed-
 use Rattle.reachable.specs.Reachable.{sound}
 use Rattle.awards.specs.AwardLaws.{some-cover}
 use Rattle.auction.specs.Holds.{phaseNumber, auctionOf, Holding}
-use Rattle.auction.specs.Tests.{demandBy}
-use Rattle.auction.specs.Demands.{demand-is}
+use Rattle.auction.specs.Tests.{demandBy, remainderBy}
+use Rattle.auction.specs.Demands.{demand-is, remainder-is}
 use Rattle.auction.specs.declared.Auction.{Auction}
 use Rattle.price.specs.Prices.{Highests, Lows, ClosingPrice, nextPrice}
 use Rattle.price.specs.PriceLaws.{next-price}
@@ -65,8 +66,8 @@ module _ (a : Auction) (limit : ℕ) (old : List ℕ) where
   unfolding settlingNumber
   settle-phase z = refusal 2 (omega arith) (λ l s h. simp (closed-is l h ∙ ne-eqb _ 4 z))
 
--- what the parts computed: P, demand there, and the selection from the table of open levels
-pub record Computed (a : Auction) (limit p demand : ℕ) (lows highs : List ℕ) (s : Selected) : Type 0 where
+-- what the parts computed: P, demand there with its remainder, and the selection from the table of open levels
+pub record Computed (a : Auction) (limit p demand remainder : ℕ) (lows highs : List ℕ) (s : Selected) : Type 0 where
   pub phase : a .phase ≡ 4
   pub highest : List ℕ
   pub next : ℕ
@@ -78,25 +79,28 @@ pub record Computed (a : Auction) (limit p demand : ℕ) (lows highs : List ℕ)
   pub highs-at : Lows (a .histories) highest next highs
   pub tabled : Tabled (a .projects) (a .declared) lows highs table
   pub demand-at : demand ≡ demandBy (a .settings) p
+  pub remainder-at : remainder ≡ remainderBy (a .settings) p
   pub selects : Selects table demand (min limit 65536) s
 
 -- what that is of the ledger
-pub record Known (l : Ledger) (limit p demand : ℕ) (lows highs : List ℕ) (s : Selected) : Type 0 where
+pub record Known (l : Ledger) (limit p demand remainder : ℕ) (lows highs : List ℕ) (s : Selected) : Type 0 where
   pub closed : isClosed (l .phase) ≡ true
   pub price : p ≡ closingPrice l
   pub lows-are : lows ≡ ofEach (low p) l
   pub highs-are : highs ≡ ofEach (high p) l
   pub demand-is : demand ≡ demandAt l p
+  pub remainder-is : remainder ≡ remainderAt l p
   pub selected : s ≡ selectedOf (min limit 65536) (demandAt l p) (rows l p)
 
-pub known : (a : Auction) (limit p demand : ℕ) (lows highs : List ℕ) (s : Selected) → Computed a limit p demand lows highs s → Holding a (λ l. Known l limit p demand lows highs s)
-unfolding auctionOf demandBy high low coveringChoices admissible
-known a limit p demand lows highs s c l snd h = record {
+pub known : (a : Auction) (limit p demand remainder : ℕ) (lows highs : List ℕ) (s : Selected) → Computed a limit p demand remainder lows highs s → Holding a (λ l. Known l limit p demand remainder lows highs s)
+unfolding auctionOf demandBy remainderBy high low coveringChoices admissible
+known a limit p demand remainder lows highs s c l snd h = record {
   closed = closed;
   price = price;
   lows-are = lows-are;
   highs-are = highs-are;
   demand-is = demand-at;
+  remainder-is = c .remainder-at ∙ ap (λ (x : Auction). remainderBy (x .settings) p) h ∙ remainder-is _ _ _ _ _ (settings-facts l snd began .bounds) in-range;
   selected = subst (λ (d : ℕ). s ≡ selectedOf (min limit 65536) d (rows l p)) demand-at (c .selects .right (rows l p) lays (subst (λ (d : ℕ). covering d (choices (rows l p)) ≡ [] → ⊥) (sym demand-at) some));
 }
   where
@@ -134,8 +138,11 @@ known a limit p demand lows highs s c l snd h = record {
     highs-are : highs ≡ ofEach (high p) l
     highs-are = subst (λ (q : ℕ). highs ≡ ofEach (low q) l) next-is (c .highs-at .right l snd (ap (λ (x : Auction). x .histories) h) firsts)
 
+    in-range : InRange (l .settings .ce) p
+    in-range = passed-in-range l snd began p least-low least-high
+
     demand-at : demand ≡ demandAt l p
-    demand-at = c .demand-at ∙ ap (λ (x : Auction). demandBy (x .settings) p) h ∙ demand-is _ _ _ _ _ (settings-facts l snd began .bounds) (passed-in-range l snd began p least-low least-high)
+    demand-at = c .demand-at ∙ ap (λ (x : Auction). demandBy (x .settings) p) h ∙ demand-is _ _ _ _ _ (settings-facts l snd began .bounds) in-range
 
     lays : Lays (c .table) (rows l p)
     lays = c .tabled .right l p snd (ap (λ (x : Auction). x .projects) h) (ap (λ (x : Auction). x .declared) h) lows-are highs-are
@@ -177,11 +184,11 @@ within-limit limit d rs s e z = go (leb (length (choices rs)) (min limit 65536))
 
 -- ---- the returns
 
-module _ (a : Auction) (limit p demand : ℕ) (lows highs : List ℕ) (s : Selected) (c : Computed a limit p demand lows highs s) (old : List ℕ) where
+module _ (a : Auction) (limit p demand remainder : ℕ) (lows highs : List ℕ) (s : Selected) (c : Computed a limit p demand remainder lows highs s) (old : List ℕ) where
   pub settle-over : (s .number ≡ 0 → ⊥) → Settles a limit old old (refusedWith (s .number))
   unfolding settlingNumber admissible
   settle-over z = refusal a limit old (s .number) z (λ l snd h.
-      let k = known a limit p demand lows highs s c l snd h in
+      let k = known a limit p demand remainder lows highs s c l snd h in
       let o = over-limit limit (demandAt l p) (rows l p) s (k .selected) z in
       let e : leb (length (choices (rows l (closingPrice l)))) (min limit 65536) ≡ false = subst (λ (q : ℕ). leb (length (choices (rows l q))) (min limit 65536) ≡ false) (k .price) (o .1) in
       o .0 ∙ sym (simp (k .closed, e)))
@@ -189,8 +196,8 @@ module _ (a : Auction) (limit p demand : ℕ) (lows highs : List ℕ) (s : Selec
   module _ (z : s .number ≡ 0) (n : ℕ) (counted : n ≡ awardCount (s .award)) where
     -- accepted so far: the award, its total and the counts are the ledger's at p
     module _ (l : Ledger) (snd : Sound l) (h : a ≡ auctionOf l) where
-      k : Known l limit p demand lows highs s
-      k = known a limit p demand lows highs s c l snd h
+      k : Known l limit p demand remainder lows highs s
+      k = known a limit p demand remainder lows highs s c l snd h
 
       w : (s ≡ chosen (demandAt l p) (rows l p)) × (leb (length (choices (rows l p))) (min limit 65536) ≡ true)
       w = within-limit limit (demandAt l p) (rows l p) s (k .selected) z
@@ -220,6 +227,7 @@ module _ (a : Auction) (limit p demand : ℕ) (lows highs : List ℕ) (s : Selec
       number = 0;
       price = p;
       demand = demand;
+      remainder = remainder;
       total = s .total;
       choices = s .choices;
       covering = s .covering;
@@ -255,6 +263,7 @@ module _ (a : Auction) (limit p demand : ℕ) (lows highs : List ℕ) (s : Selec
         number = 0;
         price = p;
         demand = k l snd h .demand-is i;
+        remainder = k l snd h .remainder-is i;
         total = w l snd h .0 i .total;
         choices = w l snd h .0 i .choices;
         covering = w l snd h .0 i .covering;

@@ -13,7 +13,7 @@ use Rattle.settling.specs.declared.Settled.{Settled}
 
 -- a refusal: its number, every other number 0
 abbrev pub refusedWith : ℕ → Settled
-refusedWith n = record { number = n; price = 0; demand = 0; total = 0; choices = 0; covering = 0; kept = 0; records = 0 }
+refusedWith n = record { number = n; price = 0; demand = 0; remainder = 0; total = 0; choices = 0; covering = 0; kept = 0; records = 0 }
 
 -- an acceptance, in the numbers of the settlement
 abbrev pub settledAs : Settlement → Settled
@@ -21,6 +21,7 @@ settledAs s = record {
   number = 0;
   price = s .price;
   demand = s .demand;
+  remainder = s .remainder;
   total = s .total;
   choices = s .choices;
   covering = s .covering;

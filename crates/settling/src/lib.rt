@@ -3,12 +3,13 @@ ghost use Rattle.settling.specs.Settles.{Settles, refusedWith};
 ghost use mathlib.Core.Path.{_≡_};
 use auction::Auction;
 
-// The answer: 0 or a refusal's number; P, Dem(P), the award's total, the numbers of admissible choices, of covering ones and of those that the
+// The answer: 0 or a refusal's number; P, Dem(P) with its remainder (document 02, 4), the award's total, the numbers of admissible choices, of covering ones and of those that the
 // search keeps (document 02, 3), and of award records. A refusal has 0 in every other place.
 pub struct Settled {
     pub number: u8,
     pub price: u32,
     pub demand: u64,
+    pub remainder: u32,
     pub total: u64,
     pub choices: u64,
     pub covering: u64,
@@ -23,6 +24,7 @@ fn refused(number: u8) -> Settled
         number: number,
         price: 0,
         demand: 0,
+        remainder: 0,
         total: 0,
         choices: 0,
         covering: 0,
@@ -47,6 +49,7 @@ pub fn settle(auction: Auction, limit: u32, awards: &mut [u8]) -> Settled
     let highs = price::lows_at(histories, highest, price::above(p));
     let table = open_levels::table_of(projects, declared, lows, highs);
     let demand = auction.demand_at(p);
+    let remainder = auction.remainder_at(p);
     let capped = checks::capped_limit(limit);
     let selected = selection::select(table, demand, capped);
     if selected.number != 0 {
@@ -65,6 +68,7 @@ pub fn settle(auction: Auction, limit: u32, awards: &mut [u8]) -> Settled
         number: 0,
         price: p,
         demand: demand,
+        remainder: remainder,
         total: selected.total,
         choices: selected.choices,
         covering: selected.covering,

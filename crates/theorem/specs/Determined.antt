@@ -63,6 +63,7 @@ accepted-is l old new r z a =
       number = z i;
       price = r .price;
       demand = a .demand i;
+      remainder = a .remainder i;
       total = a .total-is i;
       choices = a .choices i;
       covering = a .covering i;

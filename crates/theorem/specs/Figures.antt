@@ -1,4 +1,5 @@
--- How large the figures of a reply are, of a sound ledger: a closing's excess, and a settling's price, demand, total, counts and award records.
+-- How large the figures of a reply are, of a sound ledger: a closing's excess, a settling's price, demand, total, counts and award records, and
+-- the remainder of either.
 use Prim.Native.Nat.{ℕ, suc, min, _+_, _-_, _*_, _^_, _≤_, _<_}
 use mathlib.Core.Path.{_≡_, refl, sym, ap, subst, _∙_}
 use mathlib.Core.Logic.{⊎-elim}
@@ -13,10 +14,11 @@ use Rattle.numbers.specs.Lists.{oneTo, total}
 use Rattle.numbers.specs.Least.{Least}
 use Rattle.numbers.specs.ListLaws.{Each, in-keep, in-one-to, length-one-to, total-map-bound}
 use Rattle.curve.specs.Range.{dem-range}
+use Rattle.curve.specs.RemainderLaws.{remainder-below-ce}
 use Rattle.curve.specs.Signs.{minus}
 use Rattle.choices.specs.Count.{choice-length}
 use Rattle.rules.specs.Ledger.{Developer, Close, Ledger}
-use Rattle.rules.specs.Clearing.{high, developersOf, greatestOf, supply, demandAt, covered, closingPrice}
+use Rattle.rules.specs.Clearing.{high, developersOf, greatestOf, supply, demandAt, remainderAt, covered, closingPrice}
 use Rattle.rules.specs.Refusals.{check, isClosed, number}
 use Rattle.rules.specs.Rounds.{accepted, supplyAfter, excess}
 use Rattle.rules.specs.RoundLaws.{supply-after-closing}
@@ -76,7 +78,16 @@ demand-at-most l s e p h g =
     let r = dem-range (l .settings .ce) (l .settings .d) (l .settings .m1) (l .settings .m2) p f (passed-in-range l s e p h g) in
     omega arith
 
+-- the remainder at any price: below CE
+remainder-at-most : (l : Ledger) → Sound l → started (l .phase) ≡ true → (p : ℕ) → remainderAt l p < 500000
+remainder-at-most l s e p =
+    let f = settings-facts l s e .bounds in
+    omega (arith, remainder-below-ce (l .settings .ce) (l .settings .d) (l .settings .m1) (l .settings .m2) p (omega arith))
+
 module _ (l : Ledger) (s : Sound l) (e : number l Close ≡ 0) where
+  in-a-round : started (l .phase) ≡ true
+  in-a-round = ap started (in-round (l .phase) (close-passed l e .phase))
+
   supply-after-small : supplyAfter l ≤ 32000000000
   supply-after-small =
       let next : Ledger = accepted l Close in
@@ -85,9 +96,8 @@ module _ (l : Ledger) (s : Sound l) (e : number l Close ≡ 0) where
 
   closing-demand-small : demandAt l (l .closing) ≤ 100000000000
   closing-demand-small =
-      let begun : started (l .phase) ≡ true = ap started (in-round (l .phase) (close-passed l e .phase)) in
-      let p = s .prices begun in
-      demand-at-most l s begun (l .closing) (omega arith) (omega arith)
+      let p = s .prices in-a-round in
+      demand-at-most l s in-a-round (l .closing) (omega arith) (omega arith)
 
   pub excess-small : twosComplement (excess l) < 2 ^ 64
   unfolding excess
@@ -96,6 +106,9 @@ module _ (l : Ledger) (s : Sound l) (e : number l Close ≡ 0) where
   pub excess-back : signed (twosComplement (excess l)) ≡ excess l
   unfolding excess
   excess-back = twos-back (supplyAfter l) (demandAt l (l .closing)) supply-after-small closing-demand-small
+
+  pub closing-remainder-small : remainderAt l (l .closing) < 500000
+  closing-remainder-small = remainder-at-most l s in-a-round (l .closing)
 
 -- ---- an accepted settling
 
@@ -154,6 +167,9 @@ module _ (l : Ledger) (s : Sound l) (c : Passed l) where
 
   pub demand-small : demandAt l at ≤ 100000000000
   demand-small = let g = lowest in demand-at-most l s begun at (omega arith) (omega arith)
+
+  pub remainder-small : remainderAt l at < 500000
+  remainder-small = remainder-at-most l s begun at
 
   -- that of all projects at their highs, which cover, at most
   pub total-small : total (award l at) ≤ 32000000000

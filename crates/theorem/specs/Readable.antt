@@ -14,7 +14,7 @@ use Rattle.rules.specs.Refusals.{number}
 use Rattle.rules.specs.Rounds.{answer}
 use Rattle.rules.specs.Settling.{recordOf, settlement, settlingNumber}
 use Rattle.replies.specs.Orders.{Asks, Settle}
-use Rattle.replies.specs.Replies.{twosComplement, widthsOf, valuesOf, closingFields, settlingHead, recordDigits, awardRoom, replyTo}
+use Rattle.replies.specs.Replies.{twosComplement, widthsOf, valuesOf, closingFields, settlingHead, settlingTail, recordDigits, awardRoom, replyTo}
 
 -- the signed number that 64 bits stand for
 abbrev pub signed : ℕ → ℤ
@@ -41,13 +41,13 @@ pub record Awarded (r : List ℕ) : Type 0 where
 
 -- of the ledger of a list of calls: the replies to an accepted closing and to an accepted settling, each read behind its kind and the answer 0
 pub record Readable (l : Ledger) : Type 0 where
-  -- 05: the excess, in two's complement ..
+  -- 05: the excess, in two's complement, and the remainder ..
   pub closing : number l Close ≡ 0 →
       fieldsAt (2 ∷ 2 ∷ widthsOf closingFields) (replyTo l (Asks Close)) ≡ 5 ∷ 0 ∷ valuesOf closingFields (answer l Close)
-  -- .. which stands for the excess alone
+  -- .. of which the first stands for the excess alone
   pub excess : number l Close ≡ 0 → signed (twosComplement (answer l Close .excess)) ≡ answer l Close .excess
-  -- 06: the figures, and behind them the bytes of the award records, 6 for each
+  -- 06: the figures, behind them the bytes of the award records, 6 for each, and the remainder
   pub settling : (limit : ℕ) → settlingNumber l limit awardRoom ≡ 0 →
-      fieldsAt (2 ∷ 2 ∷ widthsOf settlingHead ++ twos (6 * length (settlement l .records))) (replyTo l (Settle limit))
-      ≡ 6 ∷ 0 ∷ valuesOf settlingHead (settlement l) ++ flatten (settlement l .records)
+      fieldsAt (2 ∷ 2 ∷ widthsOf settlingHead ++ twos (6 * length (settlement l .records)) ++ widthsOf settlingTail) (replyTo l (Settle limit))
+      ≡ 6 ∷ 0 ∷ valuesOf settlingHead (settlement l) ++ flatten (settlement l .records) ++ valuesOf settlingTail (settlement l)
   pub records : (limit : ℕ) → settlingNumber l limit awardRoom ≡ 0 → Each Awarded (settlement l .records)

@@ -1,7 +1,7 @@
 -- The replies to every list of calls can be read: each figure of an accepted closing or settling fits its field.
 use Prim.Native.Nat.{ℕ, _*_, _≤_, _<_}
 use mathlib.Core.Path.{_≡_, refl, sym, ap, ap₂, _∙_, subst}
-use mathlib.Core.List.{List, [], _∷_, _++_, flatten, append-nil, List·Memᴰ·head, List·Memᴰ·tail, List·Memᴰ·not-nil}
+use mathlib.Core.List.{List, [], _∷_, _++_, flatten, List·Memᴰ·head, List·Memᴰ·tail, List·Memᴰ·not-nil}
 use native.Mathlib.Omega.{arith}
 use lib.ListN.{length}
 use Rattle.numbers.specs.ListLaws.{Each}
@@ -13,11 +13,11 @@ use Rattle.rules.specs.Settling.{settlement, settlementAt, settlingNumber}
 use Rattle.sound.specs.Sound.{Sound}
 use Rattle.reachable.specs.Reachable.{sound}
 use Rattle.replies.specs.Orders.{Asks, Settle}
-use Rattle.replies.specs.Replies.{twosComplement, widthsOf, valuesOf, closingFields, settlingHead, closingText, settlingText, answerLine, awardRoom, replyTo}
+use Rattle.replies.specs.Replies.{twosComplement, widthsOf, valuesOf, closingFields, settlingHead, settlingTail, recordDigits, closingText, settlingText, answerLine, awardRoom, replyTo}
 use Rattle.replies.specs.Lengths.{flat-length, flat-digits, six, few}
 use Rattle.theorem.specs.Readable.{signed, twos, Awarded, Readable}
 use Rattle.theorem.specs.Reading.{Fit, fit-append, text-append, line-reads, Bytes, fit-bytes, text-bytes, bytes-cons, bytes-join}
-use Rattle.theorem.specs.Figures.{Passed, passed, excess-small, excess-back, price-small, demand-small, total-small, covering-small, awarded}
+use Rattle.theorem.specs.Figures.{Passed, passed, excess-small, excess-back, closing-remainder-small, price-small, demand-small, remainder-small, total-small, covering-small, awarded}
 
 -- ---- award records
 
@@ -43,7 +43,7 @@ accepted-number l e = rw e
 module _ (l : Ledger) (s : Sound l) where
   closing-fit : number l Close ≡ 0 → Fit (widthsOf closingFields) (valuesOf closingFields (answer l Close))
   unfolding Fit answer granted
-  closing-fit e = rw e (excess-small l s e, tt)
+  closing-fit e = let r = closing-remainder-small l s e in rw e (excess-small l s e, (omega arith, tt))
 
   closing-reads : number l Close ≡ 0 →
       fieldsAt (2 ∷ 2 ∷ widthsOf closingFields) (replyTo l (Asks Close)) ≡ 5 ∷ 0 ∷ valuesOf closingFields (answer l Close)
@@ -75,26 +75,47 @@ module _ (l : Ledger) (s : Sound l) where
         let n = few l limit e in
         (omega arith, (omega arith, (omega arith, (omega arith, (omega arith, (omega arith, tt))))))
 
+    tail-fit : Fit (widthsOf settlingTail) (valuesOf settlingTail (settlement l))
+    unfolding Fit settlement settlementAt
+    tail-fit = let r = remainder-small l s went in (omega arith, tt)
+
     abbrev bytes : List ℕ
     bytes = flatten (settlement l .records)
 
-    text-is : settlingText (settlement l) ≡ textAt (widthsOf settlingHead ++ twos (length bytes)) (valuesOf settlingHead (settlement l) ++ bytes)
-    unfolding settlingText textAt
+    -- the figures before the records, and the records' bytes
+    abbrev frontWidths : List ℕ
+    frontWidths = widthsOf settlingHead ++ twos (length bytes)
+
+    abbrev front : List ℕ
+    front = valuesOf settlingHead (settlement l) ++ bytes
+
+    front-fit : Fit frontWidths front
+    front-fit =
+        fit-append (widthsOf settlingHead) (valuesOf settlingHead (settlement l)) (twos (length bytes)) bytes head-fit
+        (fit-bytes bytes (records-bytes (settlement l .records) awards))
+
+    text-is : settlingText (settlement l) ≡ textAt (frontWidths ++ widthsOf settlingTail) (front ++ valuesOf settlingTail (settlement l))
+    unfolding settlingText
     text-is =
         let head : List ℕ = textAt (widthsOf settlingHead) (valuesOf settlingHead (settlement l)) in
-        append-nil _ ∙ ap (λ (t : List ℕ). head ++ t) (sym (flat-digits (settlement l .records)) ∙ sym (text-bytes bytes))
-        ∙ sym (text-append (widthsOf settlingHead) (valuesOf settlingHead (settlement l)) (twos (length bytes)) bytes head-fit)
+        let tail : List ℕ = textAt (widthsOf settlingTail) (valuesOf settlingTail (settlement l)) in
+        let front-text : head ++ recordDigits bytes ≡ textAt frontWidths front =
+        ap (λ (t : List ℕ). head ++ t) (sym (text-bytes bytes))
+        ∙ sym (text-append (widthsOf settlingHead) (valuesOf settlingHead (settlement l)) (twos (length bytes)) bytes head-fit) in
+        ap (λ (t : List ℕ). head ++ t ++ tail) (sym (flat-digits (settlement l .records)))
+        ∙ ap (λ (t : List ℕ). t ++ tail) front-text
+        ∙ sym (text-append frontWidths front (widthsOf settlingTail) (valuesOf settlingTail (settlement l)) front-fit)
 
     settling-reads :
-        fieldsAt (2 ∷ 2 ∷ widthsOf settlingHead ++ twos (6 * length (settlement l .records))) (replyTo l (Settle limit))
-        ≡ 6 ∷ 0 ∷ valuesOf settlingHead (settlement l) ++ bytes
+        fieldsAt (2 ∷ 2 ∷ widthsOf settlingHead ++ twos (6 * length (settlement l .records)) ++ widthsOf settlingTail) (replyTo l (Settle limit))
+        ≡ 6 ∷ 0 ∷ front ++ valuesOf settlingTail (settlement l)
     unfolding replyTo
     settling-reads =
-        let ws : List ℕ = widthsOf settlingHead ++ twos (length bytes) in
-        let ns : List ℕ = valuesOf settlingHead (settlement l) ++ bytes in
-        let behind : Fit (twos (length bytes)) bytes = fit-bytes bytes (records-bytes (settlement l .records) awards) in
-        let fit : Fit ws ns = fit-append (widthsOf settlingHead) (valuesOf settlingHead (settlement l)) (twos (length bytes)) bytes head-fit behind in
-        ap (λ (n : ℕ). fieldsAt (2 ∷ 2 ∷ widthsOf settlingHead ++ twos n) (replyTo l (Settle limit))) (sym (flat-length (settlement l .records) (six l)))
+        let ws : List ℕ = frontWidths ++ widthsOf settlingTail in
+        let ns : List ℕ = front ++ valuesOf settlingTail (settlement l) in
+        let fit : Fit ws ns = fit-append frontWidths front (widthsOf settlingTail) (valuesOf settlingTail (settlement l)) front-fit tail-fit in
+        ap (λ (n : ℕ). fieldsAt (2 ∷ 2 ∷ widthsOf settlingHead ++ twos n ++ widthsOf settlingTail) (replyTo l (Settle limit)))
+        (sym (flat-length (settlement l .records) (six l)))
         ∙ ap₂ (λ (n : ℕ) (t : List ℕ). fieldsAt (2 ∷ 2 ∷ ws) (answerLine 6 n t)) e text-is
         ∙ line-reads 6 ws ns (omega arith) fit
 

@@ -91,7 +91,7 @@ made cs (By n (Offer ps qs)) = by-number cs _ refl (λ p. offers
     (record { number = _; auction = _ }) p)
 made cs Close =
     let r = answer (ledger cs) Close in
-    closes (record { number = r .number; excess = r .excess; auction = _ }) (called cs Close)
+    closes (record { number = r .number; excess = r .excess; remainder = r .remainder; auction = _ }) (called cs Close)
 
 -- ---- every list
 
@@ -109,13 +109,15 @@ runs cs = onwards [] cs (fresh refl)
         let longer : LedgersRun (ds ++ (c ∷ [])) = rw (answers-snoc ds c) (followed w (made ds c)) in
         subst LedgersRun (append-assoc ds (c ∷ []) cs) (onwards (ds ++ (c ∷ [])) cs longer)
 
--- the sample record of document 01 runs: every call is accepted, the excess at its closing is -55, and the auction that it reaches is closed
+-- the sample record of document 01 runs: every call is accepted, the excess at its closing is -55 and the remainder 0, and the auction that it
+-- reaches is closed
 pub record SampleRun : Type 0 where
   pub answered : List Answered
   pub reached : Auction
   pub run : Run sample answered reached
   pub numbers : map (λ r. r .number) answered ≡ replicate 10 0
   pub excesses : map (λ r. r .excess) answered ≡ replicate 9 (pos 0) ++ ((pos 0 -ℤ pos 55) ∷ [])
+  pub remainders : map (λ r. r .remainder) answered ≡ replicate 10 0
   pub closed : reached .phase ≡ 4
 
 pub sample-runs : SampleRun
@@ -126,5 +128,6 @@ sample-runs = let s = shown-jointly .1 in record {
   run = runs sample;
   numbers = s .4;
   excesses = s .5;
+  remainders = s .6;
   closed = ap phaseNumber (s .0);
 }

@@ -10,7 +10,7 @@ use Rattle.numbers.specs.Lists.{total}
 use Rattle.numbers.specs.Least.{Least}
 use Rattle.choices.specs.Choices.{IsBest}
 use Rattle.rules.specs.Ledger.{Ledger}
-use Rattle.rules.specs.Clearing.{low, supply, covered, demandAt, closingPrice}
+use Rattle.rules.specs.Clearing.{low, supply, covered, demandAt, remainderAt, closingPrice}
 use Rattle.rules.specs.Refusals.{isClosed}
 use Rattle.rules.specs.Award.{admissible, coveringChoices, keptChoices, award, winner}
 use Rattle.rules.specs.Settling.{records}
@@ -30,7 +30,10 @@ Fit l old = 6 * length (records l (closingPrice l)) ≤ length old
 pub record Accepted (l : Ledger) (old new : List ℕ) (r : Settled) : Type 0 where
   -- the price is the lowest covered price that the clock passed
   pub price : Least (covered l) (l .closing) (l .settings .a) (r .price)
+  -- demand there, and its remainder, which is below CE (document 02, 4)
   pub demand : r .demand ≡ demandAt l (r .price)
+  pub remainder : r .remainder ≡ remainderAt l (r .price)
+  pub remainder-small : r .remainder < l .settings .ce
   -- the award is admissible and covers, every other admissible choice that covers has at least its total, ties as document 01 says
   pub best : IsBest (demandAt l (r .price)) (admissible l (r .price)) (award l (r .price))
   pub total-is : r .total ≡ total (award l (r .price))

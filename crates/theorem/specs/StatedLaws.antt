@@ -8,6 +8,7 @@ use lib.Dec.{leb}
 use lib.ListN.{length}
 use borrow.Author.Tests.{le-leb, leb-true}
 use Rattle.numbers.specs.Cases.{clash, not-true}
+use Rattle.curve.specs.RemainderLaws.{remainder-below-ce}
 use Rattle.rules.specs.Ledger.{Call, Ledger}
 use Rattle.rules.specs.Clearing.{covered, closingPrice}
 use Rattle.rules.specs.Refusals.{isClosed}
@@ -16,7 +17,7 @@ use Rattle.rules.specs.Award.{admissible}
 use Rattle.rules.specs.Settling.{records, settlingNumber, settlementAt, settlement}
 use Rattle.sound.specs.Sound.{Sound, started}
 use Rattle.reachable.specs.Reachable.{sound}
-use Rattle.clearing.specs.ClosingPrice.{closed-started, closing-price}
+use Rattle.clearing.specs.ClosingPrice.{closed-started, settings-facts, closing-price}
 use Rattle.awards.specs.AwardLaws.{kept-few, kept-at-lows, kept-not-none, award-at-closing}
 use Rattle.awards.specs.Winners.{winner-open, winner-preferred, awarded-open}
 use Rattle.auction.specs.Holds.{auctionOf}
@@ -43,6 +44,8 @@ module _ (l : Ledger) (s : Sound l) (c : isClosed (l .phase) ≡ true) (old new 
   at-closing r e w = subst (λ (x : Settled). Accepted l old new x) (sym e) (record {
     price = closing-price l s began;
     demand = refl;
+    remainder = refl;
+    remainder-small = remainder-below-ce _ _ _ _ _ (let b = settings-facts l s began .bounds in omega arith);
     best = award-at-closing l s began;
     total-is = refl;
     choices = refl;
