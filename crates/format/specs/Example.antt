@@ -1,42 +1,82 @@
--- A line of each kind of document 01's sample record (Frames), as bytes, and the call that it reads as. Computed over the definitions, so
--- that the table of field widths is held to the paper here.
+-- A line of each kind of document 01's sample record (Frames), as bytes, the call that it reads as, and the line that is written for that
+-- call. Computed over the definitions, so that the table of field widths is held to the paper here.
 use Prim.Native.Nat.{ℕ, zero, suc}
 use Prim.Native.Char.{code}
 use Prim.Native.String.{String, len, charAt}
 use mathlib.Core.Path.{_≡_, refl}
+use mathlib.Core.Bool.{true, false}
 use mathlib.Core.List.{List, [], _∷_, map}
-use mathlib.Core.Option.{Option, some}
+use mathlib.Core.Option.{some}
+use lib.ListN.{replicate}
 use Rattle.numbers.specs.Lists.{total, any, all}
-use Rattle.format.specs.Hex.{isHex, valueOf, numberFrom}
-use Rattle.format.specs.Fields.{known, fixed, each, count, layout, RawCall, fieldsAt, kindOf, asked, wellFormed, callOf, read}
+use Rattle.numbers.specs.Tails.{laid}
+use Rattle.format.specs.Hex.{isHex, valueOf, charOf, digits, numberFrom}
+use Rattle.format.specs.Fields.{known, fixed, each, count, layout, RawCall, fieldsAt, textAt, kindOf, asked, wellFormed, callOf, read}
+use Rattle.format.specs.Written.{widthsOf, lineOf, fit, writable, refusal, lodged}
 
 -- n characters of a text from place i on, as bytes
 unfoldable pub codes : String → ℕ → ℕ → List ℕ
 codes s i zero = []
 codes s i (suc n) = code (charAt s i) ∷ codes s (suc i) n
 
--- what a text reads as
-abbrev readsAs : String → Option RawCall
-readsAs s = read (codes s 0 (len s))
+abbrev bytes : String → List ℕ
+bytes s = codes s 0 (len s)
 
-abbrev call : ℕ → List ℕ → Option RawCall
-call k ns = some (record { kind = k; fields = ns })
+abbrev call : ℕ → List ℕ → RawCall
+call k ns = record { kind = k; fields = ns }
 
-sample-lines :
-    map readsAs (
+abbrev sampleLines : List String
+sampleLines =
     "0100004E2000000003E8000000038400000004B000009C40"
     ∷ "02020202000001900000000A0200000064000000C8"
     ∷ "03000061A8"
     ∷ "0402010000659000000064"
     ∷ "05"
     ∷ "0600000064"
-    ∷ [])
-    ≡ call 1 (20000 ∷ 1000 ∷ 900 ∷ 1200 ∷ 40000 ∷ [])
+    ∷ []
+
+abbrev sampleCalls : List RawCall
+sampleCalls =
+    call 1 (20000 ∷ 1000 ∷ 900 ∷ 1200 ∷ 40000 ∷ [])
     ∷ call 2 (2 ∷ 2 ∷ 2 ∷ 400 ∷ 10 ∷ 2 ∷ 100 ∷ 200 ∷ [])
     ∷ call 3 (25000 ∷ [])
     ∷ call 4 (2 ∷ 1 ∷ 26000 ∷ 100 ∷ [])
     ∷ call 5 []
     ∷ call 6 (100 ∷ [])
     ∷ []
+
+sample-lines : map (λ s. read (bytes s)) sampleLines ≡ map some sampleCalls
 unfolding codes any all total isHex valueOf numberFrom known fixed each count layout fieldsAt kindOf asked wellFormed callOf read
 sample-lines = refl
+
+sample-lines-written : map lineOf sampleCalls ≡ map bytes sampleLines
+unfolding codes charOf digits fixed each count layout textAt widthsOf lineOf
+sample-lines-written = refl
+
+-- ---- what is just writable, and what is not (document 02, 2)
+
+-- a registration of so many levels
+abbrev levels : ℕ → RawCall
+levels n = call 2 (1 ∷ 1 ∷ 2 ∷ 0 ∷ 0 ∷ n ∷ replicate n 5)
+
+edges :
+    map writable (
+    call 3 (4294967295 ∷ [])
+    ∷ call 3 (4294967296 ∷ [])  -- over 8 digits
+    ∷ levels 16  -- 154 characters
+    ∷ levels 17  -- 162 characters
+    ∷ call 4 (1 ∷ 2 ∷ 9 ∷ 8 ∷ [])  -- a count of 2 with one step
+    ∷ call 3 []  -- a field that is not there
+    ∷ call 10 []  -- a kind that the table lacks
+    ∷ [])
+    ≡ true ∷ false ∷ true ∷ false ∷ false ∷ false ∷ false ∷ []
+unfolding any charOf digits known fixed each count layout textAt widthsOf lineOf fit writable
+edges = refl
+
+-- 14 comes before 13; a buffer of exactly the frame's length is enough, and what stands behind the frame stays
+answers :
+    (map (λ b. refusal b (48 ∷ 10 ∷ []) 1) (false ∷ true ∷ []) ≡ 14 ∷ 13 ∷ [])
+    × (lodged true (48 ∷ 10 ∷ []) (7 ∷ 8 ∷ []) ≡ 48 ∷ 10 ∷ [])
+    × (lodged true (48 ∷ 10 ∷ []) (7 ∷ 8 ∷ 9 ∷ []) ≡ 48 ∷ 10 ∷ 9 ∷ [])
+unfolding refusal lodged laid
+answers = (refl, refl, refl)

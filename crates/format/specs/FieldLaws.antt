@@ -115,7 +115,7 @@ module _ (c : RawCall) (f : Formed c) where
   pub repeated-below : (k j : ℕ) → c .kind ≡ k → length (fixed k) ≤ j → getD (c .fields) j 0 < 2 ^ 32
   repeated-below k j e h = field-below k j (2 ^ 32) e (ap (λ (w : ℕ). 16 ^ w) (List·getD-eq-default (fixed k) listed h))
 
-  as-many-at : (k : ℕ) → c .kind ≡ k → length (c .fields) ≡ length (fixed k) + repeats k (c .fields)
+  pub as-many-at : (k : ℕ) → c .kind ≡ k → length (c .fields) ≡ length (fixed k) + repeats k (c .fields)
   as-many-at k e = subst (λ (j : ℕ). length (c .fields) ≡ length (fixed j) + repeats j (c .fields)) e (f .as-many)
 
   short-at : (k : ℕ) → c .kind ≡ k → 2 + (total (fixed k) + listed * repeats k (c .fields)) ≤ longest

@@ -1,18 +1,19 @@
 -- Laws of digits: one byte more of a number, how large a number of so many digits can be, how long digits are, and what they read as.
 use Prim.Native.Nat.{ℕ, zero, suc, _+_, _-_, _*_, _/_, _%_, _^_, _≤_, _<_}
-use mathlib.Core.Path.{_≡_, refl, ap, _∙_}
+use mathlib.Core.Path.{_≡_, refl, sym, ap, ap₂, _∙_}
+use mathlib.Core.Logic.{⊎-elim}
 use mathlib.Core.Bool.{Bool, true, false, cond, _&&_}
 use mathlib.Core.List.{List, [], _∷_, _++_}
 use native.Mathlib.Numerals.{add-one}
 use native.Mathlib.Nat.{add-assoc, add-mul, add-zero, div-div-eq-div-mul, div-lt-iff-lt-mul, div-one, lt-of-lt-of-le, mod-eq-of-lt, mod-lt, mod-one}
 use native.Mathlib.Nat.{mul-assoc, mul-comm, mul-one, one-le-pow, one-mul, pow-le-pow-right, pow-suc, pow-zero, zero-add, zero-lt-suc, zero-mul}
 use native.Mathlib.Omega.{arith}
-use borrow.Author.Tests.{leb-true, le-leb, lt-leb, ltb-true, ltb-false}
+use borrow.Author.Tests.{leb-true, le-leb, lt-leb, ltb-true, ltb-false, lt-ltb, le-ltb}
 use lib.Arith.{digits-div, mod-mul}
 use lib.Dec.{leb, ltb}
 use lib.ListN.{length, take, drop, getD, length-take}
 use lib.Seq.{drop-cons}
-use Rattle.numbers.specs.Cases.{and-true}
+use Rattle.numbers.specs.Cases.{and-true, or-true}
 use Rattle.numbers.specs.Lists.{all}
 use Rattle.format.specs.Hex.{isHex, allHex, valueOf, charOf, digits, numberFrom, number}
 
@@ -96,6 +97,12 @@ unfolding all
 hex-append [] ds e g = g
 hex-append (c ∷ cs) ds e g = let b = and-true (isHex c) (allHex cs) e in rw (b .0) (hex-append cs ds (b .1) g)
 
+pub hex-parts : (n : ℕ) (cs : List ℕ) → allHex cs ≡ true → (allHex (take n cs) ≡ true) × (allHex (drop n cs) ≡ true)
+unfolding all
+hex-parts zero cs e = (refl, e)
+hex-parts (suc n) [] e = (refl, refl)
+hex-parts (suc n) (c ∷ cs) e = let b = and-true (isHex c) (allHex cs) e in let r = hex-parts n cs (b .1) in (rw (b .0) (r .0), r .1)
+
 one-more : (k n before : ℕ) → (before * 16 + n / 16 ^ k % 16) * 16 ^ k + n % 16 ^ k ≡ before * 16 ^ suc k + n % 16 ^ suc k
 one-more k n before =
     rw (pow-suc 16 k, mul-comm (16 ^ k) 16, mod-mul n (zero-lt-suc 15) (power-pos k)) (simp (add-mul, mul-assoc, add-assoc))
@@ -110,3 +117,27 @@ number-digits-from (suc k) n before =
 
 pub number-digits : (w n : ℕ) → n < 16 ^ w → number (digits w n) ≡ n
 number-digits w n h = number-digits-from w n 0 ∙ rw (zero-mul, zero-add) (mod-eq-of-lt h)
+
+-- ---- bytes that are digits are what is written for the number that they read as
+
+within : (a b c : ℕ) → leb a c && leb c b ≡ true → (a ≤ c) × (c ≤ b)
+within a b c e = let t = and-true (leb a c) (leb c b) e in (leb-true a c (t .0), leb-true c b (t .1))
+
+char-value : (c : ℕ) → isHex c ≡ true → charOf (valueOf c) ≡ c
+unfolding isHex valueOf charOf
+char-value c h = ⊎-elim
+    (λ d. let b = within 48 57 c d in rw (le-leb c 57 (b .1), lt-ltb (c - 48) 10 (omega (arith, b))) (omega (arith, b)))
+    (λ d. let b = within 65 70 c d in rw (lt-leb c 57 (omega (arith, b)), le-ltb ((c - 55) % 16) 10 (omega (arith, b))) (omega (arith, b)))
+    (or-true (leb 48 c && leb c 57) (leb 65 c && leb c 70) h)
+
+digits-number-from : (cs : List ℕ) (before : ℕ) → allHex cs ≡ true → digits (length cs) (numberFrom before cs) ≡ cs
+unfolding digits numberFrom all
+digits-number-from [] before e = refl
+digits-number-from (c ∷ cs) before e =
+    let b = and-true (isHex c) (allHex cs) e in
+    let m : ℕ = before * 16 + valueOf c in
+    let v : numberFrom m cs / 16 ^ length cs % 16 ≡ valueOf c = rw (number-above cs m) (omega (arith, value-lt c)) in
+    ap₂ _∷_ (ap charOf v ∙ char-value c (b .0)) (digits-number-from cs m (b .1))
+
+pub digits-number : (w : ℕ) (cs : List ℕ) → allHex cs ≡ true → length cs ≡ w → digits w (number cs) ≡ cs
+digits-number w cs e l = ap (λ (n : ℕ). digits n (number cs)) (sym l) ∙ digits-number-from cs 0 e

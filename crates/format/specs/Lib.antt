@@ -1,9 +1,11 @@
 pub mod Hex
 pub mod Lines
 pub mod Fields
+pub mod Written
 pub mod HexLaws
 pub mod LineLaws
 pub mod WidthLaws
 pub mod TableLaws
 pub mod FieldLaws
+pub mod WrittenLaws
 pub mod Example

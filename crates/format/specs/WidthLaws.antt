@@ -4,13 +4,13 @@ use mathlib.Core.Path.{_≡_, refl, ap}
 use mathlib.Core.Bool.{true}
 use mathlib.Core.List.{List, [], _∷_, _++_, append-assoc}
 use native.Mathlib.Omega.{arith}
-use lib.ListN.{length, take, drop, getD, replicate, length-append}
-use lib.Seq.{take-at, drop-at}
+use lib.ListN.{length, take, drop, getD, replicate, length-append, length-drop, take-append-drop}
+use lib.Seq.{take-at, drop-at, length-take-le}
 use Rattle.numbers.specs.Lists.{total, all, padded}
 use Rattle.numbers.specs.ListLaws.{total-append}
 use Rattle.format.specs.Hex.{allHex, digits, number}
 use Rattle.format.specs.Fields.{listed, fieldsAt, textAt}
-use Rattle.format.specs.HexLaws.{field-fits, power-pos, length-digits, hex-digits, hex-append, number-digits}
+use Rattle.format.specs.HexLaws.{field-fits, power-pos, length-digits, hex-digits, hex-append, hex-parts, number-digits, digits-number}
 
 -- behind a list stands what is taken for those past its end
 pub behind : (d : ℕ) (ws : List ℕ) (n j : ℕ) → getD (ws ++ replicate n d) j d ≡ getD ws j d
@@ -67,6 +67,16 @@ fields-text (w ∷ ws) (n ∷ ns) rest l h =
     let t : (digits w n ++ textAt ws ns) ++ rest ≡ digits w n ++ more = append-assoc (digits w n) (textAt ws ns) rest in
     let d : length (digits w n) ≡ w = length-digits w n in
     rw (t, take-at (digits w n) more w d, drop-at (digits w n) more w d, number-digits w n (h 0), fields-text ws ns rest (omega arith) (λ j. h (suc j)))
+
+-- bytes that are digits, as many as the widths say, are the text of the numbers that stand there
+pub text-fields : (ws cs : List ℕ) → allHex cs ≡ true → length cs ≡ total ws → textAt ws (fieldsAt ws cs) ≡ cs
+unfolding fieldsAt textAt total
+text-fields [] [] e l = refl
+text-fields [] (c ∷ cs) e l = absurd (omega arith)
+text-fields (w ∷ ws) cs e l =
+    let h = hex-parts w cs e in
+    let n : length (drop w cs) ≡ total ws = omega (arith, length-drop w cs) in
+    rw (digits-number w (take w cs) (h .0) (length-take-le w cs (omega arith)), text-fields ws (drop w cs) (h .1) n) (take-append-drop w cs)
 
 -- a place of width 0 has nothing, and 0 stands for a number that is not there
 pub text-padded : (n : ℕ) (ws ns : List ℕ) → textAt (padded n ws) ns ≡ textAt ws ns

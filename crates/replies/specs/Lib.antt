@@ -1,4 +1,6 @@
 pub mod Orders
+pub mod WrittenOrders
 pub mod Replies
+pub mod WrittenOrderLaws
 pub mod Lengths
 pub mod SampleRecord

@@ -11,16 +11,19 @@ use Rattle.curve.specs.Remainder.{exactTimesCe, remainder}
 use Rattle.choices.specs.Choices.{spread, choices, covering, larger, before, best, bestOf}
 use Rattle.rules.specs.Clearing.{quantityAfter, high, low, developersOf, greatestOf, supply, covered, closingPrice}
 use Rattle.rules.specs.Refusals.{settingsOk, numbersOk, rising, levelsOk, mayJoin, declarationOk, openingPrice, closingOk, startCovered, isOfKind, falling, pricesOk, lowering, moveNumber, number}
-use Rattle.rules.specs.Rounds.{steps, withdrawsAll, added, lastLevel, applied, supplyAfter, thousandths, clears, phaseAfter, moved, accepted, step, excess, granted, answer}
+use Rattle.rules.specs.Rounds.{steps, withdrawsAll, reached, unreached, added, lastLevel, applied, supplyAfter, thousandths, clears, phaseAfter, moved, accepted, step, excess, granted, answer}
 use Rattle.rules.specs.Award.{openBetween, openToDeveloper, openTo, insert, insertAll, declaredBy, openLevels, row, rows, admissible, coveringChoices, award, preferred, mostPreferred, firstPreferred, winner}
+use Rattle.rules.specs.Second.{lodgedApplied, takenOut, remaining, short, secondPrice}
 use Rattle.rules.specs.Settling.{recordsFrom, records, settlingNumber, settlementAt, settlement}
 use Rattle.curve.specs.Marked.{MarkedCases}
 use Rattle.rules.specs.Sample.{sample, SampleSettled, shown-jointly}
 use Rattle.format.specs.Hex.{isHex, valueOf, charOf, digits, numberFrom}
 use Rattle.format.specs.Fields.{known, fixed, each, count, layout, fieldsAt, textAt, kindOf, asked, wellFormed, callOf, read}
 use Rattle.format.specs.Lines.{onFirst, lines}
+use Rattle.format.specs.Written.{widthsOf, lineOf, frameOf}
 use Rattle.format.specs.Example.{codes}
 use Rattle.replies.specs.Orders.{Order, Asks, Settle, firsts, seconds, orderOf, ordered, orderIn}
+use Rattle.replies.specs.WrittenOrders.{paired, rawOf, frameOfOrder}
 use Rattle.replies.specs.Replies.{closingText, settlingText, answerLine, replyTo, after, repliesFrom, replies}
 
 -- a line, ended by 0A
@@ -58,7 +61,7 @@ sampleReply = text (
     ∷ "0400"
     ∷ "0400"
     ∷ "0500FFFFFFFFFFFFFFC900000000"
-    ∷ "06000000659000000003CA00000003FC0000000400000003020101000003340203000000C800000000"
+    ∷ "06000000659000000003CA00000003FC0000000400000003020101000003340203000000C8000000000000659000"
     ∷ [])
 
 sample-asks : map orderIn (lines sampleRecord) ≡ map Asks sample ++ (Settle 100 ∷ [])
@@ -67,13 +70,19 @@ unfolding codes line text all any total
     firsts seconds orderOf ordered orderIn
 sample-asks = refl
 
+-- the writer's frames of these calls are the record (document 02, 2)
+pub sample-written : flatten (map frameOfOrder (map Asks sample ++ (Settle 100 ∷ []))) ≡ sampleRecord
+unfolding codes line text flatten charOf digits fixed each count layout textAt widthsOf lineOf frameOf paired rawOf frameOfOrder
+sample-written = refl
+
 sample-replied : replies sampleRecord ≡ sampleReply
 unfolding codes line text flatten oneTo keep total greatest lastOr any all leastFrom dem exactTimesCe remainder inBounds
     quantityAfter high low developersOf greatestOf supply covered closingPrice
     settingsOk numbersOk rising levelsOk mayJoin declarationOk openingPrice closingOk startCovered isOfKind falling pricesOk lowering moveNumber number
-    steps withdrawsAll added lastLevel applied supplyAfter thousandths clears phaseAfter moved accepted step excess granted answer
+    steps withdrawsAll reached unreached added lastLevel applied supplyAfter thousandths clears phaseAfter moved accepted step excess granted answer
     spread choices covering larger before best bestOf
     openBetween openToDeveloper openTo insert insertAll declaredBy openLevels row rows admissible coveringChoices award preferred mostPreferred firstPreferred winner
+    lodgedApplied takenOut remaining short secondPrice
     recordsFrom records settlingNumber settlementAt settlement
     isHex valueOf charOf digits numberFrom known fixed each count layout fieldsAt textAt kindOf asked wellFormed callOf read onFirst lines
     firsts seconds orderOf ordered orderIn closingText settlingText answerLine replyTo after repliesFrom replies

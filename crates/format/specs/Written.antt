@@ -1,0 +1,50 @@
+-- The frame of a call, which calls are writable, and what writing a frame into a lent buffer answers (document 02, 2).
+use Prim.Native.Nat.{ℕ, _^_}
+use mathlib.Core.Bool.{Bool, true, false, cond, _&&_}
+use mathlib.Core.List.{List, [], _∷_, _++_}
+use lib.Dec.{leb, ltb, eqb}
+use lib.ListN.{length}
+use Rattle.numbers.specs.Tails.{laid}
+use Rattle.format.specs.Hex.{digits}
+use Rattle.format.specs.Fields.{RawCall, known, repeats, layout, textAt, longest}
+
+-- ---- the frame
+
+-- the widths that a call's own kind and count ask
+unfoldable pub widthsOf : RawCall → List ℕ
+widthsOf c = layout (c .kind) (repeats (c .kind) (c .fields))
+
+-- the kind in 2 digits, then the fields at their widths, by the table that the reader uses
+unfoldable pub lineOf : RawCall → List ℕ
+lineOf c = digits 2 (c .kind) ++ textAt (widthsOf c) (c .fields)
+
+-- the line with its 0A
+unfoldable pub frameOf : RawCall → List ℕ
+frameOf c = lineOf c ++ (10 ∷ [])
+
+-- ---- what is writable
+
+-- a field for each width, and each fits its own
+unfoldable pub fit : List ℕ → List ℕ → Bool
+fit [] [] = true
+fit [] (n ∷ ns) = false
+fit (w ∷ ws) [] = false
+fit (w ∷ ws) (n ∷ ns) = ltb n (16 ^ w) && fit ws ns
+
+-- a kind of the table, fields that fit, and at most 160 characters
+unfoldable pub writable : RawCall → Bool
+writable c = known (c .kind) && fit (widthsOf c) (c .fields) && leb (length (lineOf c)) longest
+
+-- ---- what writing answers
+
+-- 14 where the call is not writable, tested first; 13 where the buffer is too short for the frame, tested last; else 0
+unfoldable pub refusal : Bool → List ℕ → ℕ → ℕ
+refusal ok frame room = cond ok (cond (leb (length frame) room) 0 13) 14
+
+-- the number of bytes written, 0 in a refusal
+unfoldable pub written : Bool → List ℕ → ℕ → ℕ
+written ok frame room = cond (eqb (refusal ok frame room) 0) (length frame) 0
+
+-- the buffer afterwards: the frame, then its old bytes; a refusal leaves every byte
+unfoldable pub lodged : Bool → List ℕ → List ℕ → List ℕ
+lodged ok frame old = cond (eqb (refusal ok frame (length old)) 0) (laid frame old) old

@@ -1,0 +1,47 @@
+-- The frame of what a line can ask, and which orders are writable (document 02, 2).
+use Prim.Native.Nat.{ℕ}
+use mathlib.Core.Bool.{Bool, true, _&&_}
+use mathlib.Core.List.{List, [], _∷_}
+use lib.Dec.{eqb}
+use lib.ListN.{length}
+use Rattle.format.specs.Fields.{RawCall}
+use Rattle.format.specs.Written.{frameOf, writable}
+use Rattle.rules.specs.Ledger.{Offer, Lodge, SetUp, Register, Open, By, Close}
+use Rattle.replies.specs.Orders.{Order, Malformed, Asks, Settle}
+
+abbrev pub raw : ℕ → List ℕ → RawCall
+raw k ns = record { kind = k; fields = ns }
+
+-- steps of price and level, as many as both lists have
+unfoldable pub paired : List ℕ → List ℕ → List ℕ
+paired [] qs = []
+paired (p ∷ ps) [] = []
+paired (p ∷ ps) (q ∷ qs) = p ∷ q ∷ paired ps qs
+
+-- an order's kind and fields, in the table's order; nothing that can be read has kind 0, which the table lacks
+unfoldable pub rawOf : Order → RawCall
+rawOf Malformed = raw 0 []
+rawOf (Asks (SetUp s)) = raw 1 (s .ce ∷ s .d ∷ s .m1 ∷ s .m2 ∷ s .a ∷ [])
+rawOf (Asks (Register n x)) = raw 2 (x .project ∷ n ∷ x .kind ∷ x .study ∷ x .day ∷ length (x .levels) ∷ x .levels)
+rawOf (Asks (Open c)) = raw 3 (c ∷ [])
+rawOf (Asks (By n (Offer ps qs))) = raw 4 (n ∷ length ps ∷ paired ps qs)
+rawOf (Asks (By n (Lodge ps qs))) = raw 7 (n ∷ length ps ∷ paired ps qs)
+rawOf (Asks Close) = raw 5 []
+rawOf (Settle limit) = raw 6 (limit ∷ [])
+
+-- price and level lists are equally long
+unfoldable pub listsMatch : Order → Bool
+listsMatch Malformed = true
+listsMatch (Asks (SetUp s)) = true
+listsMatch (Asks (Register n x)) = true
+listsMatch (Asks (Open c)) = true
+listsMatch (Asks (By n (Offer ps qs))) = eqb (length ps) (length qs)
+listsMatch (Asks (By n (Lodge ps qs))) = eqb (length ps) (length qs)
+listsMatch (Asks Close) = true
+listsMatch (Settle limit) = true
+
+unfoldable pub writableOrder : Order → Bool
+writableOrder o = listsMatch o && writable (rawOf o)
+
+unfoldable pub frameOfOrder : Order → List ℕ
+frameOfOrder o = frameOf (rawOf o)
