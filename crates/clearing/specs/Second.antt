@@ -63,6 +63,12 @@ module _ (l m : Ledger) (t : Part l m) where
       le-leb (demandAt l p) (supply (high p) l)
       (omega (arith, leb-true (demandAt m p) (supply (high p) m) c, part-supply (high p), part-demand l m t p))
 
+-- ---- the mark says that A is not covered
+
+pub short-uncovered : (l : Ledger) → short l ≡ true → covered (remaining l) (l .settings .a) ≡ false
+unfolding short
+short-uncovered l h = not-true (covered (remaining l) (l .settings .a)) (λ c. clash h (ap not c))
+
 -- ---- of a sound ledger with a round opened
 
 module _ (l : Ledger) (s : Sound l) (e : started (l .phase) ≡ true) where
@@ -81,6 +87,9 @@ module _ (l : Ledger) (s : Sound l) (e : started (l .phase) ≡ true) where
           (λ h. absurd (clash (covered-rises l s e (remaining l) (remaining-part l) _ _ (sought .low) (omega arith) (omega arith) (sought .stops h)) c))
           (λ h. let k = sought .high in omega arith)
           (le-or-lt (suc (closingPrice (remaining l))) (l .settings .a))
+
+  pub second-high : secondPrice l ≤ l .settings .a
+  second-high = omega (arith, second-price, sought .high)
 
   -- not short: the lowest covered price passed, with these projects taken out
   pub second-least : short l ≡ false → Least (covered (remaining l)) (l .closing) (l .settings .a) (secondPrice l)
