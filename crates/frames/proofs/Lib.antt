@@ -1,5 +1,1 @@
-mod Tables
-mod Shaping
 mod Reading
-mod Writing
-mod Putting

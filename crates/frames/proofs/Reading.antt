@@ -1,22 +1,21 @@
 -- Reading a line by the table: its fields one by one, and what the tests of `decode` say of the line.
-use Prim.Native.Nat.{ℕ, _+_, _-_, _*_, _^_, _≤_, _<_}
-use mathlib.Core.Path.{_≡_, refl, sym, ap, ap₂, _∙_}
+use Prim.Native.Nat.{ℕ, _+_, _-_, _*_, _≤_, _<_}
+use mathlib.Core.Path.{_≡_, refl, sym, ap, _∙_}
 use mathlib.Core.Bool.{true}
 use mathlib.Core.List.{List, [], _∷_, _++_, append-assoc, append-nil}
 use mathlib.Core.Option.{some}
 use native.Mathlib.Numerals.{add-one}
-use native.Mathlib.Nat.{zero-mul, mul-le-mul, pow-le-pow-right, zero-lt-suc}
 use native.Mathlib.Omega.{arith}
 use lib.ListN.{length, take, drop, getD, set, replicate, length-set, length-replicate, drop-of-length-le}
-use lib.Seq.{drop-cons, drop-drop, getD-take, take-suc-set}
+use lib.Seq.{drop-cons, drop-drop, take-suc-set}
 use Rattle.numbers.specs.Lists.{total}
 use Rattle.format.specs.Hex.{allHex, number}
 use Rattle.format.specs.Fields.{listed, known, longest, RawCall, fixed, each, count, repeats, layout, fieldsAt, kindOf, asked, callOf, read}
 use Rattle.format.specs.WidthLaws.{take-fields, fields-fit}
 use Rattle.format.specs.FieldLaws.{WellFormed, reads, reads-none, total-layout}
+use Rattle.field_table.specs.Fitting.{repeats-few}
 use Rattle.frames.specs.declared.Frame.{Frame}
 use Rattle.frames.specs.Decoded.{callIn, Zero, call-none, call-some}
-use Rattle.frames.proofs.Shaping.{fitting-kind}
 
 -- ---- field by field: what was read, and what is left of the widths and of the line
 
@@ -61,32 +60,19 @@ module _ (ws s out : List ℕ) where
       ∙ ap (λ (a : List ℕ). take j out ++ fieldsAt a (drop at s)) (sym (drop-of-length-le ws {i = j} (omega arith)))
       ∙ r .right
 
--- ---- the count: the last of the fixed fields, where fields follow
+-- ---- the count: the last of the fixed fields, which first holds
 
-pub repeats-none : (k e : ℕ) (ns : List ℕ) → e ≡ each k → e ≡ 0 → 0 ≡ repeats k ns
-repeats-none k e ns p z = let q : each k ≡ 0 = sym p ∙ z in rw (q, zero-mul)
-
--- first holds the fixed fields that stand in cs
-module _ (k e m : ℕ) (first cs : List ℕ) (p : e ≡ each k) (q : m ≡ length (fixed k)) (r : take m first ≡ fieldsAt (fixed k) cs) (z : e ≡ 0 → ⊥) where
-  pub some-fixed : 1 ≤ m
-  some-fixed = omega (arith, fitting-kind k .counts (λ y. z (p ∙ y)) .0)
-
-  last-is : getD first (m - 1) 0 ≡ getD (fieldsAt (fixed k) cs) (length (fixed k) - 1) 0
-  last-is =
-      let h : m - 1 < m = omega (arith, some-fixed) in
-      sym (getD-take m first (m - 1) 0 h) ∙ ap₂ (λ (l : List ℕ) (i : ℕ). getD l (i - 1) 0) r q
-
-  pub repeats-are : e * getD first (m - 1) 0 ≡ repeats k (fieldsAt (fixed k) cs)
+module _ (k m : ℕ) (first cs : List ℕ) (q : m ≡ length (fixed k)) (r : take m first ≡ fieldsAt (fixed k) cs) where
+  count-is : count k first ≡ count k (fieldsAt (fixed k) cs)
   unfolding count
-  repeats-are = rw (take-fields (fixed k) cs, p) (ap (λ (n : ℕ). each k * n) last-is)
+  count-is = rw (sym q, r, q, take-fields (fixed k) cs)
 
-  pub repeats-few : e * getD first (m - 1) 0 ≤ 512
-  repeats-few =
-      let ws : List ℕ = fixed k in
-      let f = fitting-kind k in
-      let w : getD ws (length ws - 1) listed ≤ 2 = f .counts (λ y. z (p ∙ y)) .1 in
-      let b : 16 ^ getD ws (length ws - 1) listed ≤ 256 = pow-le-pow-right (zero-lt-suc 15) w in
-      mul-le-mul {n₂ = 2} {m₂ = 256} (omega (arith, f .follow)) (omega (arith, last-is, fields-fit ws cs (length ws - 1)))
+  pub counts-same : repeats k first ≡ repeats k (fieldsAt (fixed k) cs)
+  counts-same = ap (λ (n : ℕ). each k * n) count-is
+
+  pub counts-few : repeats k first ≤ 512
+  unfolding count
+  counts-few = repeats-few k first (rw (sym q, r, q) (fields-fit (fixed k) cs (length (fixed k) - 1)))
 
 -- ---- what the tests of `decode` say of a line
 

@@ -1,10 +1,15 @@
-// The calls that a C host links: plain numbers and byte slices, no preconditions.
+// The calls that a C host links: plain numbers and slices of them, no preconditions.
 ghost use mathlib.Core.Path.{_≡_};
 ghost use Rattle.curve.specs.Answer.{demandAnswer};
+ghost use Rattle.rules.specs.Ledger.{settingsOf, Offer, SetUp, Open, By, Close};
+ghost use Rattle.replies.specs.Orders.{Asks, Settle};
 ghost use Rattle.replies.specs.Replies.{replies};
 ghost use Rattle.record_replay.specs.Replayed.{hosted, over};
+ghost use Rattle.writing.specs.Writes.{registration};
 ghost use Rattle.host.specs.Host.{hostNumber};
+ghost use Rattle.host.specs.Lodging.{answer, HostWrites};
 use demand::Demanded;
+use frame_writing::Written;
 
 // What C gets for refusal 1.
 const REFUSAL_1: u64 = 0xffff_ffff_ffff_ffff;
@@ -27,4 +32,77 @@ pub extern "C" fn replay(src: &[u8], out: &mut [u8]) -> u64
     ensures { λ _. ⌜ now (out .exit) ≡ over (replies (now (src .entry))) (now (out .entry)) ⌝ }
 {
     record_replay::replay(src, out)
+}
+
+// ---- frames written (document 02, 2)
+
+// What C gets of a writing: the bytes written, or 2^64 less the refusal's number.
+fn host_bytes(written: Written) -> u64
+    ensures { λ r. ⌜ r ≡ hostNumber (answer written) ⌝ }
+{
+    if written.number == 0 {
+        return written.bytes as u64;
+    }
+    REFUSAL_1 - (written.number as u64 - 1)
+}
+
+// 01 set-up.
+#[no_mangle]
+pub extern "C" fn write_set_up(ce: u64, d: u64, m1: u64, m2: u64, a: u64, frame: &mut [u8]) -> u64
+    ensures { λ r. ⌜ HostWrites (Asks (SetUp (settingsOf ce d m1 m2 a))) (now (frame .entry)) (now (frame .exit)) r ⌝ }
+{
+    host_bytes(writing::write_set_up(ce, d, m1, m2, a, frame))
+}
+
+// 02 registration.
+#[no_mangle]
+pub extern "C" fn write_registration(
+    project: u64,
+    developer: u64,
+    kind: u64,
+    study: u64,
+    day: u64,
+    levels: &[u64],
+    frame: &mut [u8],
+) -> u64
+    ensures { λ r. ⌜ HostWrites (registration project developer kind study day (now (levels .entry))) (now (frame .entry)) (now (frame .exit)) r ⌝ }
+{
+    host_bytes(writing::write_registration(project, developer, kind, study, day, levels, frame))
+}
+
+// 03 open.
+#[no_mangle]
+pub extern "C" fn write_opening(c: u64, frame: &mut [u8]) -> u64
+    ensures { λ r. ⌜ HostWrites (Asks (Open c)) (now (frame .entry)) (now (frame .exit)) r ⌝ }
+{
+    host_bytes(writing::write_opening(c, frame))
+}
+
+// 04 offer.
+#[no_mangle]
+pub extern "C" fn write_offer(
+    developer: u64,
+    prices: &[u64],
+    levels: &[u64],
+    frame: &mut [u8],
+) -> u64
+    ensures { λ r. ⌜ HostWrites (Asks (By developer (Offer (now (prices .entry)) (now (levels .entry))))) (now (frame .entry)) (now (frame .exit)) r ⌝ }
+{
+    host_bytes(writing::write_offer(developer, prices, levels, frame))
+}
+
+// 05 close.
+#[no_mangle]
+pub extern "C" fn write_closing(frame: &mut [u8]) -> u64
+    ensures { λ r. ⌜ HostWrites (Asks Close) (now (frame .entry)) (now (frame .exit)) r ⌝ }
+{
+    host_bytes(writing::write_closing(frame))
+}
+
+// 06 settle.
+#[no_mangle]
+pub extern "C" fn write_settling(limit: u64, frame: &mut [u8]) -> u64
+    ensures { λ r. ⌜ HostWrites (Settle limit) (now (frame .entry)) (now (frame .exit)) r ⌝ }
+{
+    host_bytes(writing::write_settling(limit, frame))
 }

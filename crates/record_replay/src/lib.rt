@@ -95,8 +95,8 @@ fn put_refusal(out: &mut [u8]) -> usize
     requires { ⌜ 5 ≤ length (now out) ⌝ }
     ensures { λ r. ⌜ (r ≡ length (answerLine 255 11 [])) × (now (out .exit) ≡ laid (answerLine 255 11 []) (now (out .entry))) ⌝ }
 {
-    frames::put_hex(out, 0xFF0B, 4);
-    frames::put_byte(&mut out[4..], 10);
+    field_writing::put_hex(out, 0xFF0B, 4);
+    field_writing::put_byte(&mut out[4..], 10);
     5
 }
 

@@ -131,7 +131,7 @@ fn size_of(kind: u8, filled: usize) -> usize
     let form = form_of(kind);
     let head = form.head;
     let tail = form.tail;
-    5 + frames::span_of(&head) + 2 * least(filled, form.room) + frames::span_of(&tail)
+    5 + field_writing::span_of(&head) + 2 * least(filled, form.room) + field_writing::span_of(&tail)
 }
 
 // The most bytes of a reply of this kind.
@@ -160,7 +160,7 @@ fn put_bytes(out: &mut [u8], bytes: [u8; 192], n: usize)
 {
     let mut i: usize = 0;
     while i < n {
-        frames::put_hex(&mut out[2 * i..], bytes[i] as u64, 2);
+        field_writing::put_hex(&mut out[2 * i..], bytes[i] as u64, 2);
         i += 1;
     }
 }
@@ -171,7 +171,7 @@ fn put_values(out: &mut [u8], widths: [usize; 8], values: [u64; 8]) -> usize
     ensures { λ r. ⌜ r ≡ total widths ⌝ }
     ensures { λ _. ⌜ now (out .exit) ≡ laid (textAt widths values) (now (out .entry)) ⌝ }
 {
-    frames::put_fields(out, &widths, &values)
+    field_writing::put_fields(out, &widths, &values)
 }
 
 // Writes what the reply adds between its answer and its 0A at the start of `out`, and gives how many bytes that are.
@@ -203,9 +203,9 @@ pub fn put(out: &mut [u8], reply: Reply) -> usize
     ensures { λ r. ⌜ r ≡ length (textOf reply) ⌝ }
     ensures { λ _. ⌜ now (out .exit) ≡ laid (textOf reply) (now (out .entry)) ⌝ }
 {
-    frames::put_hex(out, reply.kind as u64, 2);
-    frames::put_hex(&mut out[2..], reply.number as u64, 2);
+    field_writing::put_hex(out, reply.kind as u64, 2);
+    field_writing::put_hex(&mut out[2..], reply.number as u64, 2);
     let end = 4 + put_added(&mut out[4..], reply);
-    frames::put_byte(&mut out[end..], 10);
+    field_writing::put_byte(&mut out[end..], 10);
     end + 1
 }

@@ -11,9 +11,10 @@ use Rattle.numbers.specs.Cases.{clash}
 use Rattle.numbers.specs.Lists.{total}
 use Rattle.format.specs.Fields.{listed, known, fixed, layout, kindOf}
 use Rattle.format.specs.FieldLaws.{total-layout}
-use Rattle.frames.specs.declared.Shape.{Shape}
-use Rattle.frames.specs.Shapes.{Shaped}
-use Rattle.frames.proofs.Shaping.{fitting-kind, shape-small, shape-layout, shape-kind, shape-unknown}
+use Rattle.field_table.specs.declared.Shape.{Shape}
+use Rattle.field_table.specs.Shapes.{Shaped}
+use Rattle.field_table.specs.Fitting.{fitting-kind}
+use Rattle.field_table.specs.ShapeLaws.{shape-small, shape-layout, shape-kind, shape-unknown}
 use Rattle.frames.proofs.Reading.{asked-length, refused, accepted}
 use Rattle.frames.proofs.decode.Statement.{statement}
 use Rattle.frames.proofs.decode.Tie as tie

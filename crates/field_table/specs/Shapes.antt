@@ -1,0 +1,24 @@
+-- The table of field widths as the code holds it.
+use Prim.Native.Nat.{ℕ, _-_}
+use mathlib.Core.Path.{_≡_}
+use mathlib.Core.Bool.{cond}
+use mathlib.Core.List.{_++_}
+use lib.ListN.{length, replicate}
+use Rattle.numbers.specs.Lists.{total, padded}
+use Rattle.format.specs.Fields.{listed, known, fixed, each}
+use Rattle.field_table.specs.declared.Row.{Row}
+use Rattle.field_table.specs.declared.Shape.{Shape}
+
+-- the row of a kind, whose own kind is 0 where the table has none
+pub record Tabled (k : ℕ) (r : Row) : Type 0 where
+  pub kind : r .0 ≡ cond (known k) k 0
+  pub widths : r .1 ≡ padded 9 (fixed k)
+  pub follow : r .2 ≡ each k
+
+-- its shape
+pub record Shaped (k : ℕ) (s : Shape) : Type 0 where
+  pub kind : s .kind ≡ cond (known k) k 0
+  pub many : s .fixed ≡ length (fixed k)
+  pub span : s .span ≡ total (fixed k)
+  pub follow : s .each ≡ each k
+  pub widths : s .widths ≡ fixed k ++ replicate (32 - length (fixed k)) listed

@@ -1,0 +1,98 @@
+-- The shape's first widths are those of the call, as a writable call has at most 27 fields.
+use Prim.Native.Nat.{_≤_}
+use mathlib.Core.Path.{_≡_, refl, sym}
+use native.Mathlib.Omega.{arith}
+use borrow.Author.Needs.{needs}
+use lib.ListN.{length, take, length-take}
+use lib.Seq.{length-take-le}
+use Rattle.format.specs.Written.{widthsOf}
+use Rattle.format.specs.WrittenLaws.{is-writable}
+use Rattle.frame_writing.specs.Lodged.{call}
+use Rattle.frame_writing.specs.LodgedLaws.{as-many, few-fields, widths-are}
+use Rattle.frame_writing.proofs.Lines.{kind-room, kind-same, fields-room, line-there}
+use Rattle.frame_writing.proofs.put_line.Statement.{statement}
+use Rattle.frame_writing.proofs.put_line.Tie as tie
+
+-- a writable call has few fields, and its widths are the shape's first
+few : (c : tie.After-shape-of) → length (c .before .before .before .args .fields .now) ≤ 27
+few c = let start = c .before .before .before in few-fields _ _ (is-writable _ (start .pre .0))
+
+widths :
+    (c : tie.After-shape-of) →
+    let a = c .before .before .before .args in
+    take (length (a .fields .now)) (c .shape-of .result .widths) ≡ widthsOf (call (a .kind) (a .fields .now))
+widths c =
+    let start = c .before .before .before in
+    widths-are _ _ _ (c .shape-of .ensures) _ refl (omega (arith, few c)) (as-many _ _ (is-writable _ (start .pre .0)))
+
+-- from behind the kind's digits
+abbrev shaped : tie.After-put-hex → tie.After-shape-of
+shaped c = c .before .before .before
+
+abbrev start : tie.After-put-hex → tie.Start
+start c = shaped c .before .before .before
+
+same : (c : tie.After-put-hex) → length (c .put-hex .last .0) ≡ length (start c .args .out .now)
+same c = kind-same _ _ _ (start c .pre .1) _ (c .put-hex .ensures)
+
+room : (c : tie.After-put-hex) → 2 ≤ length (c .put-hex .last .0)
+room c = omega (arith, same c, kind-room _ _ (start c .args .out .now) (start c .pre .1))
+
+shape-of-requires : tie.Need-shape-of-requires
+shape-of-requires c κs = search needs
+
+put-hex-requires : tie.Need-put-hex-requires
+put-hex-requires c κs = let s = c .before .before .before .before .before in kind-room _ _ (s .args .out .now) (s .pre .1)
+
+sub-put-fields : tie.Need-sub-put-fields
+sub-put-fields c = room (c .before .before)
+
+part-put-fields-start : tie.Need-part-put-fields-start
+part-put-fields-start c = omega (arith, room (c .before .before))
+
+part-put-fields-end : tie.Need-part-put-fields-end
+part-put-fields-end c = search needs
+
+array-share-prefix-widths : tie.Need-array-share-prefix-widths
+array-share-prefix-widths c =
+    let s = shaped (c .before .before .before) in
+    let l : length (s .shape-of .result .widths) ≡ 32 = search needs in
+    omega (arith, few s)
+
+slice-aggregate-put-fields : tie.Need-slice-aggregate-put-fields
+slice-aggregate-put-fields c =
+    let s = shaped (c .before .before .before .before) in
+    let l : length (s .shape-of .result .widths) ≡ 32 = search needs in
+    sym (length-take-le _ (s .shape-of .result .widths) (omega (arith, few s)))
+
+put-fields-requires : tie.Need-put-fields-requires
+put-fields-requires c κs =
+    let h = c .before .before .before .before in
+    let s = shaped h in (
+      omega (arith, length-take (length (start h .args .fields .now)) (s .shape-of .result .widths)),
+      fields-room _ _ _ (start h .pre .1) _ (h .put-hex .ensures) _ (widths s),
+    )
+
+same-length : tie.Need-same-length
+same-length c = search needs
+
+returns : tie.Need-returns
+returns c =
+    let f = c .before .before in
+    let h = f .before .before .before .before .before in
+    line-there _ _ _ (start h .pre .1) _ (h .put-hex .ensures) _ (widths (shaped h)) _ (f .put-fields .ensures .1)
+
+pub put-line-spec : {M : Type 1} → statement M
+put-line-spec =
+    tie.close
+    (tie.spec
+    shape-of-requires
+    put-hex-requires
+    sub-put-fields
+    part-put-fields-start
+    part-put-fields-end
+    array-share-prefix-widths
+    slice-aggregate-put-fields
+    put-fields-requires
+    same-length
+    returns)

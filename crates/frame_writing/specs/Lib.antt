@@ -1,0 +1,2 @@
+pub mod Lodged
+pub mod LodgedLaws

@@ -1,0 +1,27 @@
+-- The two cases of `hostNumber`.
+use native.Mathlib.Omega.{arith}
+use borrow.Author.Needs.{needs}
+use borrow.Author.Tests.{eq-eqb, ne-eqb}
+use Rattle.host.specs.Host.{hostNumber}
+use Rattle.host.proofs.host_bytes.Statement.{statement}
+use Rattle.host.proofs.host_bytes.Tie as tie
+
+returns : tie.Need-returns
+unfolding hostNumber
+returns c = simp (eq-eqb _ _ (c .if1 .taken))
+
+cast-result : tie.Need-cast-result
+cast-result c = search needs
+
+sub-result : tie.Need-sub-result
+sub-result c = search needs
+
+sub-result-2 : tie.Need-sub-result-2
+sub-result-2 c = search needs
+
+returns-2 : tie.Need-returns-2
+unfolding hostNumber
+returns-2 c = simp (ne-eqb _ _ (c .before .if1 .left)) (omega arith)
+
+pub host-bytes-spec : {M : Type 1} → statement M
+host-bytes-spec = tie.close (tie.spec returns cast-result sub-result sub-result-2 returns-2)

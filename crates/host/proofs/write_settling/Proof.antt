@@ -1,0 +1,20 @@
+-- The library's answer, as the host's number.
+use borrow.Author.Needs.{needs}
+use Rattle.host.specs.Lodging.{host-writes}
+use Rattle.host.proofs.write_settling.Statement.{statement}
+use Rattle.host.proofs.write_settling.Tie as tie
+
+write-settling-requires : tie.Need-write-settling-requires
+write-settling-requires c κs = search needs
+
+host-bytes-requires : tie.Need-host-bytes-requires
+host-bytes-requires c κs = search needs
+
+same-length : tie.Need-same-length
+same-length c = search needs
+
+returns : tie.Need-returns
+returns c = host-writes _ _ _ _ _ (c .before .before .before .write-settling .ensures) (c .host-bytes .ensures)
+
+pub write-settling-spec : {M : Type 1} → statement M
+write-settling-spec = tie.close (tie.spec write-settling-requires host-bytes-requires same-length returns)

@@ -1,0 +1,35 @@
+-- What a C host gets of a writing: the bytes written, or 2^64 less the refusal's number (document 02, 2).
+use Prim.Native.Nat.{ℕ}
+use mathlib.Core.Path.{_≡_, ap₂, _∙_}
+use mathlib.Core.List.{List}
+use lib.ListN.{length}
+use Rattle.curve.specs.Answer.{Answer}
+use Rattle.format.specs.Written.{refusal, written, lodged}
+use Rattle.replies.specs.Orders.{Order}
+use Rattle.replies.specs.WrittenOrders.{writableOrder, frameOfOrder}
+use Rattle.frame_writing.specs.declared.Written.{Written}
+use Rattle.writing.specs.Writes.{Writes}
+use Rattle.host.specs.Host.{hostNumber}
+
+abbrev answerOf : ℕ → ℕ → Answer
+answerOf n v = record { number = n; value = v }
+
+-- the number for an order and a buffer
+unfoldable pub hostBytes : Order → List ℕ → ℕ
+hostBytes o old =
+    let n = length old in
+    hostNumber (answerOf (refusal (writableOrder o) (frameOfOrder o) n) (written (writableOrder o) (frameOfOrder o) n))
+
+-- and what the buffer then holds
+pub record HostWrites (o : Order) (old new : List ℕ) (r : ℕ) : Type 0 where
+  pub bytes : r ≡ hostBytes o old
+  pub buffer : new ≡ lodged (writableOrder o) (frameOfOrder o) old
+
+-- ---- from the answer of the library
+
+abbrev pub answer : Written → Answer
+answer w = answerOf (w .number) (w .bytes)
+
+pub host-writes : (o : Order) (old new : List ℕ) (w : Written) (r : ℕ) → Writes o old new w → r ≡ hostNumber (answer w) → HostWrites o old new r
+unfolding hostBytes
+host-writes o old new w r l e = record { bytes = e ∙ ap₂ (λ (n : ℕ) (v : ℕ). hostNumber (answerOf n v)) (l .number) (l .bytes); buffer = l .buffer }

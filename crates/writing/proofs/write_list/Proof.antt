@@ -1,0 +1,76 @@
+-- The fields gathered are the few, then the list; where they do not fit the array, the line would be too long.
+use Prim.Native.Nat.{ℕ, _+_}
+use mathlib.Core.Path.{_≡_, refl, sym, ap, _∙_}
+use mathlib.Core.List.{List, _++_}
+use native.Mathlib.Omega.{arith}
+use borrow.Author.Needs.{needs}
+use lib.ListN.{length, take, length-append}
+use Rattle.frame_writing.specs.LodgedLaws.{not-writable, too-many}
+use Rattle.writing.proofs.Gathering.{same-fields}
+use Rattle.writing.proofs.write_list.Statement.{statement}
+use Rattle.writing.proofs.write_list.Tie as tie
+
+gathered :
+    (c : tie.After-with-list2) →
+    let a = c .before .before .before .before .before .before .args in
+    take (length (a .head .now) + length (a .list .now)) (c .with-list2 .result) ≡ a .head .now ++ a .list .now
+gathered c =
+    let a = c .before .before .before .before .before .before .args in
+    let z : length (a .head .now) ≡ 0 + length (a .head .now) = omega arith in
+    let h : take (length (a .head .now)) (c .before .with-list .result) ≡ a .head .now =
+    ap (λ (n : ℕ). take n (c .before .with-list .result)) z ∙ c .before .with-list .ensures in
+    c .with-list2 .ensures ∙ ap (λ (l : List ℕ). l ++ a .list .now) h
+
+sub-if1 : tie.Need-sub-if1
+sub-if1 c = search needs
+
+refused-requires : tie.Need-refused-requires
+refused-requires c κs = search needs
+
+returns : tie.Need-returns
+returns c =
+    let a = c .before .before .before .before .before .args in
+    let n = length-append (a .head .now) (a .list .now) in
+    not-writable _ _ _ _ _ (c .refused .ensures) (too-many _ (a .head .now ++ a .list .now) (omega (arith, n, c .before .if1 .taken))) refl
+
+with-list-requires : tie.Need-with-list-requires
+with-list-requires c κs = search needs
+
+with-list-requires-2 : tie.Need-with-list-requires-2
+with-list-requires-2 c κs = search needs
+
+add-fields : tie.Need-add-fields
+add-fields c = search needs
+
+array-share-prefix-fields : tie.Need-array-share-prefix-fields
+array-share-prefix-fields c = search needs
+
+slice-aggregate-encode : tie.Need-slice-aggregate-encode
+slice-aggregate-encode c =
+    let a = c .before .before .before .before .before .before .before .args in
+    sym (ap length (gathered (c .before)) ∙ length-append (a .head .now) (a .list .now))
+
+encode-requires : tie.Need-encode-requires
+encode-requires c κs = search needs
+
+same-length : tie.Need-same-length
+same-length c = search needs
+
+returns-2 : tie.Need-returns-2
+returns-2 c = let e = c .before .before in same-fields _ _ _ _ _ _ (gathered (e .before .before .before)) (e .encode .ensures)
+
+pub write-list-spec : {M : Type 1} → statement M
+write-list-spec =
+    tie.close
+    (tie.spec
+    sub-if1
+    refused-requires
+    returns
+    with-list-requires
+    with-list-requires-2
+    add-fields
+    array-share-prefix-fields
+    slice-aggregate-encode
+    encode-requires
+    same-length
+    returns-2)

@@ -1,0 +1,27 @@
+-- What the writing of an order answers and leaves in the buffer that it was lent (document 02, 2).
+use Prim.Native.Nat.{ℕ}
+use mathlib.Core.Bool.{_&&_}
+use mathlib.Core.List.{List, _∷_}
+use lib.Dec.{eqb}
+use lib.ListN.{length}
+use Rattle.format.specs.Written.{frameOf, writable}
+use Rattle.rules.specs.Ledger.{Register}
+use Rattle.replies.specs.Orders.{Order, Asks}
+use Rattle.replies.specs.WrittenOrders.{raw, paired, writableOrder, frameOfOrder}
+use Rattle.frame_writing.specs.declared.Written.{Written}
+use Rattle.frame_writing.specs.Lodged.{Lodges}
+
+-- of an order: the buffer before and afterwards, and the answer
+abbrev pub Writes : Order → List ℕ → List ℕ → Written → Type 0
+Writes o old new r = Lodges (writableOrder o) (frameOfOrder o) old new r
+
+-- of a developer's steps, in a frame of a kind
+abbrev pub WritesSteps : ℕ → ℕ → List ℕ → List ℕ → List ℕ → List ℕ → Written → Type 0
+WritesSteps k n ps qs old new r =
+    let c = raw k (n ∷ length ps ∷ paired ps qs) in
+    Lodges (eqb (length ps) (length qs) && writable c) (frameOf c) old new r
+
+-- a registration by its numbers
+abbrev pub registration : ℕ → ℕ → ℕ → ℕ → ℕ → List ℕ → Order
+registration project n kind study day levels =
+    Asks (Register n (record { project = project; kind = kind; study = study; day = day; levels = levels }))
