@@ -15,11 +15,12 @@ use reply_writing::Values;
 use settling::Settled;
 
 // What a frame leads to: the next auction and the reply, and for those who want to see more than the reply says the answer itself: the excess of
-// a closing in two's complement, and what a settling answered.
+// a closing in two's complement with its remainder, and what a settling answered.
 pub struct Turn {
     pub auction: Auction,
     pub reply: Reply,
     pub excess: u64,
+    pub remainder: u32,
     pub settled: Settled,
 }
 
@@ -28,6 +29,7 @@ const UNSETTLED: Settled = Settled {
     number: 0,
     price: 0,
     demand: 0,
+    remainder: 0,
     total: 0,
     choices: 0,
     covering: 0,
@@ -109,6 +111,7 @@ fn answered(kind: u8, answer: Answer) -> Turn
         auction: next,
         reply: blank(kind, answer.number),
         excess: 0,
+        remainder: 0,
         settled: UNSETTLED,
     }
 }
@@ -133,6 +136,7 @@ fn malformed(auction: Auction) -> Turn
         auction: auction,
         reply: blank(255, 12),
         excess: 0,
+        remainder: 0,
         settled: UNSETTLED,
     }
 }
@@ -190,13 +194,15 @@ fn close_turn(auction: Auction) -> Turn
     let closing = auction.close();
     let mut reply = blank(5, closing.number);
     let excess = bits_of(closing.excess);
-    let values = reply_writing::closing_values(excess);
+    let remainder = closing.remainder;
+    let values = reply_writing::closing_values(excess, remainder);
     reply.values = values;
     let next = closing.auction;
     Turn {
         auction: next,
         reply: reply,
         excess: excess,
+        remainder: remainder,
         settled: UNSETTLED,
     }
 }
@@ -217,6 +223,7 @@ fn settle_turn(auction: Auction, frame: Frame) -> Turn
         auction: auction,
         reply: reply,
         excess: 0,
+        remainder: 0,
         settled: settled,
     }
 }

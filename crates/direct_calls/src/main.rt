@@ -1,6 +1,6 @@
-// Makes the calls on standard input on the library directly, a line each, and prints each one's kind and number and, for a settling, all of its
-// answer and the lent buffer. They are what no frame can say: wider settings, longer lists, lists of unequal length, buffers of chosen
-// lengths. The independent implementation (tests/independent/src/bin/direct_calls.rs) makes the same calls and has to print the same.
+// Makes the calls on standard input on the library directly, a line each, and prints each one's kind and number and, for a settling, price,
+// demand, total, counts and the lent buffer. They are what no frame can say: wider settings, longer lists, lists of unequal length, buffers of
+// chosen lengths. The independent implementation (tests/independent/src/bin/direct_calls.rs) makes the same calls and has to print the same.
 use auction::Answer;
 use auction::Auction;
 use libc::STDIN_FILENO;

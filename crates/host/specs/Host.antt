@@ -4,6 +4,13 @@ use mathlib.Core.Bool.{cond}
 use lib.Dec.{eqb}
 use Rattle.curve.specs.Answer.{Answer}
 
--- the value, or for a refusal 2^64 less its number
+-- a value, or for a refusal 2^64 less its number
+abbrev valueOr : Answer → ℕ → ℕ
+valueOr a value = cond (eqb (a .number) 0) value (2 ^ 64 - a .number)
+
 unfoldable pub hostNumber : Answer → ℕ
-hostNumber a = cond (eqb (a .number) 0) (a .value) (2 ^ 64 - a .number)
+hostNumber a = valueOr a (a .value)
+
+-- the same of the remainder (document 02, 4)
+unfoldable pub hostRemainder : Answer → ℕ
+hostRemainder a = valueOr a (a .remainder)

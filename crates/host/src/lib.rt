@@ -6,7 +6,7 @@ ghost use Rattle.replies.specs.Orders.{Asks, Settle};
 ghost use Rattle.replies.specs.Replies.{replies};
 ghost use Rattle.record_replay.specs.Replayed.{hosted, over};
 ghost use Rattle.writing.specs.Writes.{registration};
-ghost use Rattle.host.specs.Host.{hostNumber};
+ghost use Rattle.host.specs.Host.{hostNumber, hostRemainder};
 ghost use Rattle.host.specs.Lodging.{answer, HostWrites};
 use demand::Demanded;
 use frame_writing::Written;
@@ -20,7 +20,18 @@ pub extern "C" fn demand(ce: u64, d: u64, m1: u64, m2: u64, p: u64) -> u64
     ensures { λ r. ⌜ r ≡ hostNumber (demandAnswer ce d m1 m2 p) ⌝ }
 {
     match demand::demand(ce, d, m1, m2, p) {
-        Demanded::Quantity(q) => q,
+        Demanded::Quantity(q, _) => q,
+        Demanded::OutOfBounds => REFUSAL_1,
+    }
+}
+
+// The remainder of Dem(p) (document 02, 4), or 2^64 - 1 likewise.
+#[no_mangle]
+pub extern "C" fn demand_remainder(ce: u64, d: u64, m1: u64, m2: u64, p: u64) -> u64
+    ensures { λ r. ⌜ r ≡ hostRemainder (demandAnswer ce d m1 m2 p) ⌝ }
+{
+    match demand::demand(ce, d, m1, m2, p) {
+        Demanded::Quantity(_, r) => r as u64,
         Demanded::OutOfBounds => REFUSAL_1,
     }
 }

@@ -38,18 +38,18 @@ struct Form {
     tail: [usize; 8],
 }
 
-// 05: the excess.
+// 05: the excess, the remainder.
 const CLOSING: Form = Form {
-    head: [16, 0, 0, 0, 0, 0, 0, 0],
+    head: [16, 8, 0, 0, 0, 0, 0, 0],
     room: 0,
     tail: [0, 0, 0, 0, 0, 0, 0, 0],
 };
 
-// 06: P, Dem, total, choices, covering, awards.
+// 06: P, Dem, total, choices, covering, awards; behind the awards the remainder.
 const SETTLING: Form = Form {
     head: [8, 10, 10, 8, 8, 2, 0, 0],
     room: 192,
-    tail: [0, 0, 0, 0, 0, 0, 0, 0],
+    tail: [8, 0, 0, 0, 0, 0, 0, 0],
 };
 
 // The others add nothing.
@@ -73,12 +73,12 @@ fn form_of(kind: u8) -> Form
 
 // ---- the values of a reply's fields
 
-// Of a closing, by the excess in two's complement.
-pub fn closing_values(bits: u64) -> Values
-    ensures { λ r. ⌜ ((x : Answered) → bits ≡ twosComplement (x .excess) → r .head ≡ padded 8 (valuesOf closingFields x)) ⌝ }
+// Of a closing, by the excess in two's complement and the remainder.
+pub fn closing_values(bits: u64, remainder: u32) -> Values
+    ensures { λ r. ⌜ ((x : Answered) → bits ≡ twosComplement (x .excess) → remainder ≡ x .remainder → r .head ≡ padded 8 (valuesOf closingFields x)) ⌝ }
 {
     Values {
-        head: [bits, 0, 0, 0, 0, 0, 0, 0],
+        head: [bits, remainder as u64, 0, 0, 0, 0, 0, 0],
         tail: [0, 0, 0, 0, 0, 0, 0, 0],
     }
 }
@@ -98,7 +98,7 @@ pub fn settling_values(settled: Settled) -> Values
             0,
             0,
         ],
-        tail: [0, 0, 0, 0, 0, 0, 0, 0],
+        tail: [settled.remainder as u64, 0, 0, 0, 0, 0, 0, 0],
     }
 }
 

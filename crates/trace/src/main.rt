@@ -25,7 +25,7 @@ fn show(turn: Turn) {
     let reply = turn.reply;
     let settled = turn.settled;
     let mut text = io::buffer();
-    let n = trace_text::put(&mut text, reply, turn.excess, settled);
+    let n = trace_text::put(&mut text, reply, turn.excess, turn.remainder, settled);
     io::write_all(libc::STDOUT_FILENO, &text[..n]);
 }
 

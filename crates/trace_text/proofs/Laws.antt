@@ -19,7 +19,7 @@ use Rattle.reply_writing.specs.Texts.{addedText, shownText, textOf}
 use Rattle.reply_writing.specs.TextLaws.{small, text-length}
 use Rattle.trace_text.specs.Decimal.{bytesOf}
 use Rattle.trace_text.specs.Puts.{Puts}
-use Rattle.trace_text.specs.Words.{signedItem, settledLines, wordsOf, traceOf}
+use Rattle.trace_text.specs.Words.{closedLines, settledLines, wordsOf, traceOf}
 
 -- nothing written
 pub puts-none : (o : List ℕ) (most a : ℕ) → a ≤ length o → Puts [] most o o a a
@@ -104,20 +104,20 @@ line-short r = omega (arith, text-length r, shown-short r)
 
 -- ---- what stands below a reply, by its answer and its kind
 
-module _ (r : Reply) (excess : ℕ) (s : Settled) where
-  pub words-refused : (r .number ≡ 0 → ⊥) → wordsOf r excess s ≡ []
+module _ (r : Reply) (excess remainder : ℕ) (s : Settled) where
+  pub words-refused : (r .number ≡ 0 → ⊥) → wordsOf r excess remainder s ≡ []
   unfolding wordsOf
   words-refused h = rw (ne-eqb (r .number) 0 h)
 
-  pub words-closing : r .number ≡ 0 → r .kind ≡ 5 → wordsOf r excess s ≡ signedItem (bytesOf "excess ") excess
+  pub words-closing : r .number ≡ 0 → r .kind ≡ 5 → wordsOf r excess remainder s ≡ closedLines excess remainder
   unfolding wordsOf
   words-closing h k = rw (eq-eqb (r .number) 0 h, eq-eqb (r .kind) 5 k)
 
-  pub words-settling : r .number ≡ 0 → r .kind ≡ 6 → wordsOf r excess s ≡ settledLines s (r .awards)
+  pub words-settling : r .number ≡ 0 → r .kind ≡ 6 → wordsOf r excess remainder s ≡ settledLines s (r .awards)
   unfolding wordsOf
   words-settling h k = rw (eq-eqb (r .number) 0 h, ne-eqb (r .kind) 5 (λ e. omega arith), eq-eqb (r .kind) 6 k)
 
-  pub words-other : (r .kind ≡ 5 → ⊥) → (r .kind ≡ 6 → ⊥) → wordsOf r excess s ≡ []
+  pub words-other : (r .kind ≡ 5 → ⊥) → (r .kind ≡ 6 → ⊥) → wordsOf r excess remainder s ≡ []
   unfolding wordsOf
   words-other h k = rw (ne-eqb (r .kind) 5 h, ne-eqb (r .kind) 6 k) (go (eqb (r .number) 0))
     where
@@ -126,8 +126,8 @@ module _ (r : Reply) (excess : ℕ) (s : Settled) where
       go false = refl
 
   -- the reply's line at the buffer's start, and what stands below it
-  pub whole : {t o xs ys : List ℕ} {m n b : ℕ} → Puts (textOf r) 645 o xs 0 n → Puts t m xs ys n b → wordsOf r excess s ≡ t → m ≤ 3000 →
-      (b ≡ length (traceOf r excess s)) × (b ≤ 4096) × (ys ≡ laid (traceOf r excess s) o)
+  pub whole : {t o xs ys : List ℕ} {m n b : ℕ} → Puts (textOf r) 645 o xs 0 n → Puts t m xs ys n b → wordsOf r excess remainder s ≡ t → m ≤ 3000 →
+      ((b ≡ length (traceOf r excess remainder s)) × (b ≤ 4096)) × (ys ≡ laid (traceOf r excess remainder s) o)
   unfolding traceOf
   whole {t} p w e h =
-      let q = puts-then p w in rw e (omega (arith, q .next), omega (arith, q .next, q .short), puts-laid q)
+      let q = puts-then p w in rw e ((omega (arith, q .next), omega (arith, q .next, q .short)), puts-laid q)

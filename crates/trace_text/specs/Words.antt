@@ -42,17 +42,22 @@ items s =
     item (bytesOf "price ") (s .price) ++ item (bytesOf "demand ") (s .demand) ++ item (bytesOf "total ") (s .total)
     ++ item (bytesOf "choices ") (s .choices) ++ item (bytesOf "covering ") (s .covering)
 
--- the items, the awards, and what no reply says (document 02, 3): how many choices the search keeps
+-- the items, the awards, what no reply says (document 02, 3): how many choices the search keeps, and the remainder
 unfoldable pub settledLines : Settled → List ℕ → List ℕ
-settledLines s awards = items s ++ awardLines awards (min (s .records) 32) ++ item (bytesOf "kept ") (s .kept)
+settledLines s awards =
+    items s ++ awardLines awards (min (s .records) 32) ++ item (bytesOf "kept ") (s .kept) ++ item (bytesOf "remainder ") (s .remainder)
 
--- below a reply, by the excess of a closing and what a settling answered: nothing if it is refused or of another kind
-unfoldable pub wordsOf : Reply → ℕ → Settled → List ℕ
-wordsOf r excess s =
+-- below an accepted closing
+unfoldable pub closedLines : ℕ → ℕ → List ℕ
+closedLines excess remainder = signedItem (bytesOf "excess ") excess ++ item (bytesOf "remainder ") remainder
+
+-- below a reply, by the excess and the remainder of a closing and what a settling answered: nothing if it is refused or of another kind
+unfoldable pub wordsOf : Reply → ℕ → ℕ → Settled → List ℕ
+wordsOf r excess remainder s =
     cond (eqb (r .number) 0)
-    (cond (eqb (r .kind) 5) (signedItem (bytesOf "excess ") excess) (cond (eqb (r .kind) 6) (settledLines s (r .awards)) []))
+    (cond (eqb (r .kind) 5) (closedLines excess remainder) (cond (eqb (r .kind) 6) (settledLines s (r .awards)) []))
     []
 
 -- a reply's line and what stands below it
-unfoldable pub traceOf : Reply → ℕ → Settled → List ℕ
-traceOf r excess s = textOf r ++ wordsOf r excess s
+unfoldable pub traceOf : Reply → ℕ → ℕ → Settled → List ℕ
+traceOf r excess remainder s = textOf r ++ wordsOf r excess remainder s

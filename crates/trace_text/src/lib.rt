@@ -5,7 +5,7 @@ ghost use Prim.Native.Nat.{_+_, _*_, _≤_, _<_, min};
 ghost use lib.ListN.{length, getD};
 ghost use Rattle.numbers.specs.Tails.{laid};
 ghost use Rattle.trace_text.specs.Decimal.{decimal};
-ghost use Rattle.trace_text.specs.Words.{number, signed, item, signedItem, quantityAt, awardLine, awardLines, items, settledLines, traceOf};
+ghost use Rattle.trace_text.specs.Words.{number, signed, item, signedItem, quantityAt, awardLine, awardLines, items, closedLines, settledLines, traceOf};
 ghost use Rattle.trace_text.specs.Puts.{Puts};
 use reply_writing::Reply;
 use settling::Settled;
@@ -149,20 +149,31 @@ fn put_settled(out: &mut [u8], at: usize, s: Settled, awards: [u8; 192]) -> usiz
 {
     let next = put_items(out, at, s);
     let behind = put_awards(out, next, awards, count(s));
-    put_item(out, behind, b"kept ", s.kept)
+    let kept = put_item(out, behind, b"kept ", s.kept);
+    put_item(out, kept, b"remainder ", s.remainder as u64)
+}
+
+// What an accepted closing says.
+fn put_closed(out: &mut [u8], at: usize, excess: u64, remainder: u32) -> usize
+    requires { ⌜ at + 100 ≤ length (now out) ⌝ }
+    ensures { λ r. ⌜ Puts (closedLines excess remainder) 100 (now (out .entry)) (now (out .exit)) at r ⌝ }
+{
+    let next = put_signed_item(out, at, b"excess ", excess);
+    put_item(out, next, b"remainder ", remainder as u64)
 }
 
 // Writes the reply's line and what stands below it at the start of a buffer, and gives their number of bytes.
-pub fn put(out: &mut [u8], reply: Reply, excess: u64, settled: Settled) -> usize
+pub fn put(out: &mut [u8], reply: Reply, excess: u64, remainder: u32, settled: Settled) -> usize
     requires { ⌜ 4096 ≤ length (now out) ⌝ }
-    ensures { λ r. ⌜ (r ≡ length (traceOf reply excess settled)) × (r ≤ 4096) × (now (out .exit) ≡ laid (traceOf reply excess settled) (now (out .entry))) ⌝ }
+    ensures { λ r. ⌜ (r ≡ length (traceOf reply excess remainder settled)) × (r ≤ 4096) ⌝ }
+    ensures { λ _. ⌜ now (out .exit) ≡ laid (traceOf reply excess remainder settled) (now (out .entry)) ⌝ }
 {
     let line = reply_writing::put(out, reply);
     if reply.number != 0 {
         return line;
     }
     if reply.kind == 5 {
-        return put_signed_item(out, line, b"excess ", excess);
+        return put_closed(out, line, excess, remainder);
     }
     if reply.kind == 6 {
         let awards = reply.awards;

@@ -7,8 +7,11 @@ use Rattle.reply_writing.proofs.settling_values.Tie as tie
 cast-t2 : tie.Need-cast-t2
 cast-t2 c = search needs
 
+cast-t5 : tie.Need-cast-t5
+cast-t5 c = search needs
+
 returns : tie.Need-returns
 returns c = λ s e. rw e record { head = refl; tail = refl }
 
 pub settling-values-spec : {M : Type 1} → statement M
-settling-values-spec = tie.close (tie.spec cast-t2 returns)
+settling-values-spec = tie.close (tie.spec cast-t2 cast-t5 returns)

@@ -20,7 +20,7 @@ array-share-prefix-text c = search needs
 
 slice-aggregate-write-all : tie.Need-slice-aggregate-write-all
 slice-aggregate-write-all c =
-    let p = c .before .before .put in sym (length-take-le (p .result) (p .last .0) (omega (arith, p .ensures .1, p .kept .0)))
+    let p = c .before .before .put in sym (length-take-le (p .result) (p .last .0) (omega (arith, p .ensures .0 .1, p .kept .0)))
 
 write-all-requires : tie.Need-write-all-requires
 write-all-requires c κs = search needs

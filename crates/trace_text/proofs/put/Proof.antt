@@ -1,4 +1,4 @@
--- The reply's line at the buffer's start, and behind it, by the answer and the kind, nothing, the excess, or what a settling says.
+-- The reply's line at the buffer's start, and behind it, by the answer and the kind, nothing, what a closing says, or what a settling says.
 use Prim.Native.Nat.{_≤_}
 use mathlib.Core.Path.{refl}
 use native.Mathlib.Omega.{arith}
@@ -31,13 +31,10 @@ same-length : tie.Need-same-length
 same-length c = search needs
 
 returns : tie.Need-returns
-returns c = whole _ _ _ (line (c .before .before)) (puts-none _ 0 _ (omega (arith, line-fits (c .before .before)))) (words-refused _ _ _ (c .if1 .taken)) (omega arith)
+returns c = whole _ _ _ _ (line (c .before .before)) (puts-none _ 0 _ (omega (arith, line-fits (c .before .before)))) (words-refused _ _ _ _ (c .if1 .taken)) (omega arith)
 
-slice-aggregate-put-signed-item : tie.Need-slice-aggregate-put-signed-item
-slice-aggregate-put-signed-item c = refl
-
-put-signed-item-requires : tie.Need-put-signed-item-requires
-put-signed-item-requires c κs = omega (arith, line-fits (c .before .before .before .before .before .before))
+put-closed-requires : tie.Need-put-closed-requires
+put-closed-requires c κs = omega (arith, line-fits (c .before .before .before .before .before))
 
 same-length-2 : tie.Need-same-length-2
 same-length-2 c = search needs
@@ -45,9 +42,9 @@ same-length-2 c = search needs
 returns-2 : tie.Need-returns-2
 returns-2 c =
     let closing = c .before .before in
-    let kind = closing .before .before .before in
+    let kind = closing .before .before in
     let accepted = kind .before .before in
-    whole _ _ _ (line (accepted .before .before)) (closing .put-signed-item .ensures) (words-closing _ _ _ (accepted .if1 .left) (kind .if2 .taken)) (omega arith)
+    whole _ _ _ _ (line (accepted .before .before)) (closing .put-closed .ensures) (words-closing _ _ _ _ (accepted .if1 .left) (kind .if2 .taken)) (omega arith)
 
 put-settled-requires : tie.Need-put-settled-requires
 put-settled-requires c κs = omega (arith, line-fits (c .before .before .before .before .before .before .before .before))
@@ -60,7 +57,7 @@ returns-3 c =
     let settled = c .before .before in
     let kind = settled .before .before .before in
     let accepted = kind .before .before .before .before in
-    whole _ _ _ (line (accepted .before .before)) (settled .put-settled .ensures) (words-settling _ _ _ (accepted .if1 .left) (kind .if3 .taken)) (omega arith)
+    whole _ _ _ _ (line (accepted .before .before)) (settled .put-settled .ensures) (words-settling _ _ _ _ (accepted .if1 .left) (kind .if3 .taken)) (omega arith)
 
 same-length-4 : tie.Need-same-length-4
 same-length-4 c = search needs
@@ -68,7 +65,7 @@ same-length-4 c = search needs
 returns-4 : tie.Need-returns-4
 returns-4 c =
     let kind = c .before .before in
-    whole _ _ _ (line (kind .before .before .before .before)) (puts-none _ 0 _ (omega (arith, line-fits (kind .before .before .before .before)))) (words-other _ _ _ (kind .if2 .left) (c .if3 .left)) (omega arith)
+    whole _ _ _ _ (line (kind .before .before .before .before)) (puts-none _ 0 _ (omega (arith, line-fits (kind .before .before .before .before)))) (words-other _ _ _ _ (kind .if2 .left) (c .if3 .left)) (omega arith)
 
 pub put-spec : {M : Type 1} → statement M
 put-spec =
@@ -77,8 +74,7 @@ put-spec =
     put-requires
     same-length
     returns
-    slice-aggregate-put-signed-item
-    put-signed-item-requires
+    put-closed-requires
     same-length-2
     returns-2
     put-settled-requires

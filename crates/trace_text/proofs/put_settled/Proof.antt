@@ -1,4 +1,4 @@
--- The items, the awards behind them, then the number of kept choices.
+-- The items, the awards behind them, then the number of kept choices and the remainder.
 use mathlib.Core.Path.{refl}
 use native.Mathlib.Omega.{arith}
 use borrow.Author.Needs.{needs}
@@ -22,18 +22,28 @@ slice-aggregate-put-item c = refl
 put-item-requires : tie.Need-put-item-requires
 put-item-requires c κs = omega arith
 
+slice-aggregate-put-item-2 : tie.Need-slice-aggregate-put-item-2
+slice-aggregate-put-item-2 c = refl
+
+cast-put-item : tie.Need-cast-put-item
+cast-put-item c = search needs
+
+put-item-requires-2 : tie.Need-put-item-requires-2
+put-item-requires-2 c κs = omega arith
+
 same-length : tie.Need-same-length
 same-length c = search needs
 
 returns : tie.Need-returns
 unfolding settledLines
 returns c =
-    let kept = c .before .before in
+    let remainder = c .before .before in
+    let kept = remainder .before .before .before .before .before .before in
     let awards = kept .before .before .before .before .before in
     let items = awards .before .before .before .before .before in
     let n = awards .before .count in
     let behind = puts-then (items .put-items .ensures) (rw (n .ensures .0) at (awards .put-awards .ensures)) in
-    puts-as (puts-then behind (kept .put-item .ensures)) _ _ refl (omega (arith, n .ensures .0, n .ensures .1))
+    puts-as (puts-then (puts-then behind (kept .put-item .ensures)) (remainder .put-item2 .ensures)) _ _ refl (omega (arith, n .ensures .0, n .ensures .1))
 
 pub put-settled-spec : {M : Type 1} → statement M
-put-settled-spec = tie.close (tie.spec put-items-requires count-requires put-awards-requires slice-aggregate-put-item put-item-requires same-length returns)
+put-settled-spec = tie.close (tie.spec put-items-requires count-requires put-awards-requires slice-aggregate-put-item put-item-requires slice-aggregate-put-item-2 cast-put-item put-item-requires-2 same-length returns)
