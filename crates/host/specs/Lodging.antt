@@ -12,7 +12,7 @@ use Rattle.writing.specs.Writes.{Writes}
 use Rattle.host.specs.Host.{hostNumber}
 
 abbrev answerOf : ℕ → ℕ → Answer
-answerOf n v = record { number = n; value = v }
+answerOf n v = record { number = n; value = v; remainder = 0 }
 
 -- the number for an order and a buffer
 unfoldable pub hostBytes : Order → List ℕ → ℕ
