@@ -1,3 +1,4 @@
 pub mod Columns
 pub mod Minus
 pub mod Taking
+mod Stepping

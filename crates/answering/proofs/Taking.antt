@@ -8,10 +8,10 @@ use lib.Dec.{eqb}
 use lib.ListN.{length, drop, getD}
 use borrow.Author.Tests.{ne-eqb, eqb-true, eqb-false}
 use Rattle.numbers.specs.Lists.{padded}
-use Rattle.rules.specs.Ledger.{Settings, Declaration, Offer, Call, SetUp, Register, Open, By, Close, Ledger}
+use Rattle.rules.specs.Ledger.{Settings, Declaration, Move, Call, SetUp, Register, Open, By, Close, Ledger}
 use Rattle.rules.specs.Rounds.{ledger, Answered, numberAlone}
 use Rattle.rules.specs.Settling.{Settlement, settlingNumber, settlement}
-use Rattle.replies.specs.Orders.{Malformed, Asks, Settle, firsts, seconds, setUpOf, registrationOf, offerOf, orderOf, ordered}
+use Rattle.replies.specs.Orders.{Malformed, Asks, Settle, firsts, seconds, setUpOf, registrationOf, moveOf, orderOf, ordered}
 use Rattle.replies.specs.Lengths.{six, few}
 use Rattle.replies.specs.Replies.{kindOf, twosComplement, valuesOf, closingFields, closingText, settlingText}
 use Rattle.replies.specs.Replies.{answerLine, awardRoom, replyTo}
@@ -91,8 +91,8 @@ pub registration-is : (ns ls : List ℕ) (k n kind study day : ℕ) → k ≡ ge
     → day ≡ getD ns 4 0 → ls ≡ drop 6 ns → registers k n kind study day ls ≡ registrationOf ns
 registration-is ns ls k n kind study day e0 e1 e2 e3 e4 e = rw (e0, e1, e2, e3, e4, e)
 
-pub offer-is : (ns ps qs : List ℕ) (n : ℕ) → n ≡ getD ns 0 0 → ps ≡ firsts (drop 2 ns) → qs ≡ seconds (drop 2 ns) → By n (Offer ps qs) ≡ offerOf ns
-offer-is ns ps qs n e f g = rw (e, f, g)
+pub move-is : (move : List ℕ → List ℕ → Move) (ns ps qs : List ℕ) (n : ℕ) → n ≡ getD ns 0 0 → ps ≡ firsts (drop 2 ns) → qs ≡ seconds (drop 2 ns) → By n (move ps qs) ≡ moveOf move ns
+move-is move ns ps qs n e f g = rw (e, f, g)
 
 -- ---- settling
 

@@ -2,11 +2,11 @@
 ghost use mathlib.Core.Path.{_≡_};
 ghost use Prim.Native.Nat.{ℕ, _+_, _*_, _^_, _≤_, _<_};
 ghost use lib.ListN.{length, take, getD, replicate};
-ghost use Rattle.replies.specs.Orders.{Malformed, Asks, Settle, setUpOf, registrationOf, offerOf, ordered};
+ghost use Rattle.replies.specs.Orders.{Malformed, Asks, Settle, setUpOf, registrationOf, moveOf, ordered};
 ghost use Rattle.replies.specs.Replies.{twosComplement};
-ghost use Rattle.rules.specs.Ledger.{Open, Close};
+ghost use Rattle.rules.specs.Ledger.{Offer, Lodge, Open, Close};
 ghost use Rattle.frames.specs.Decoded.{callIn};
-ghost use Rattle.answering.specs.Turns.{fieldsOf, every, Framed, Answers, Takes, Reads};
+ghost use Rattle.answering.specs.Turns.{fieldsOf, every, Framed, Stepped, StepsIn, Answers, Takes, Reads};
 use auction::Answer;
 use auction::Auction;
 use frames::Frame;
@@ -34,6 +34,8 @@ const UNSETTLED: Settled = Settled {
     choices: 0,
     covering: 0,
     kept: 0,
+    second: 0,
+    short: false,
     records: 0,
 };
 
@@ -80,6 +82,27 @@ fn column(frame: Frame, from: usize, apart: usize, n: usize) -> [u32; 16]
         i += 1;
     }
     values
+}
+
+// The developer and the steps of a move, in two columns.
+struct Steps {
+    developer: u8,
+    count: usize,
+    prices: [u32; 16],
+    levels: [u32; 16],
+}
+
+fn steps_in(frame: Frame) -> Steps
+    requires { ⌜ Stepped frame ⌝ }
+    ensures { λ r. ⌜ StepsIn frame r ⌝ }
+{
+    let n = byte(frame, 1) as usize;
+    Steps {
+        developer: byte(frame, 0),
+        count: n,
+        prices: column(frame, 2, 2, n),
+        levels: column(frame, 3, 2, n),
+    }
 }
 
 // ---- replies
@@ -179,13 +202,30 @@ fn open_turn(auction: Auction, frame: Frame) -> Turn
 
 fn offer_turn(auction: Auction, frame: Frame) -> Turn
     requires { ⌜ Framed 4 frame ⌝ }
-    ensures { λ r. ⌜ Takes auction (Asks (offerOf (fieldsOf frame))) r ⌝ }
+    ensures { λ r. ⌜ Takes auction (Asks (moveOf Offer (fieldsOf frame))) r ⌝ }
 {
-    let developer = byte(frame, 0);
-    let n = byte(frame, 1) as usize;
-    let prices = column(frame, 2, 2, n);
-    let levels = column(frame, 3, 2, n);
-    answered(4, auction.offer(developer, &prices[..n], &levels[..n]))
+    let steps = steps_in(frame);
+    let n = steps.count;
+    let prices = steps.prices;
+    let levels = steps.levels;
+    answered(
+        4,
+        auction.offer(steps.developer, &prices[..n], &levels[..n]),
+    )
+}
+
+fn lodge_turn(auction: Auction, frame: Frame) -> Turn
+    requires { ⌜ Framed 7 frame ⌝ }
+    ensures { λ r. ⌜ Takes auction (Asks (moveOf Lodge (fieldsOf frame))) r ⌝ }
+{
+    let steps = steps_in(frame);
+    let n = steps.count;
+    let prices = steps.prices;
+    let levels = steps.levels;
+    answered(
+        7,
+        auction.lodge(steps.developer, &prices[..n], &levels[..n]),
+    )
 }
 
 fn close_turn(auction: Auction) -> Turn
@@ -251,6 +291,9 @@ pub fn respond(auction: Auction, frame: Frame) -> Turn
     }
     if kind == 6 {
         return settle_turn(auction, frame);
+    }
+    if kind == 7 {
+        return lodge_turn(auction, frame);
     }
     malformed(auction)
 }

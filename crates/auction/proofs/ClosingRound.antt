@@ -60,7 +60,7 @@ module _ (a b : Auction) (q d r n : ℕ) (e : ℤ) (k : Computed a b q d r n e) 
 
     supply-held : q ≡ supplyAfter l
     unfolding auctionOf applied supplyAfter
-    supply-held = k .supply-is ∙ ap (λ (x : Auction). supplyOf (x .projects) (x .quantities)) (k .applied .right l s h) ∙ supply-of (λ x. applied (l .opening) x .quantity) l
+    supply-held = k .supply-is ∙ ap (λ (x : Auction). supplyOf (x .projects) (x .quantities)) (k .applied .right l s round h) ∙ supply-of (λ x. applied (l .closing) (l .opening) x .quantity) l
 
     demand-held : d ≡ demandAt l (l .closing)
     unfolding auctionOf demandBy
@@ -84,10 +84,10 @@ module _ (a b : Auction) (q d r n : ℕ) (e : ℤ) (k : Computed a b q d r n e) 
 
     held-closed : Taken Close closed (record { number = 0; excess = e; remainder = r }) l
     unfolding number granted accepted auctionOf
-    held-closed = let g = k .applied .right l s h in record {
+    held-closed = let g = k .applied .right l s round h in record {
       number = simp open-round;
       answer = λ i. record { number = 0; excess = excess-held i; remainder = remainder-held i };
-      next = clock-held b (withDevelopers l (λ m. applied (l .opening) (l .developers m))) (phaseAfter l) (l .settings) g phase-held (λ i. g i .settings) (λ i. g i .opening) (λ i. g i .closing);
+      next = clock-held b (withDevelopers l (λ m. applied (l .closing) (l .opening) (l .developers m))) (phaseAfter l) (l .settings) g phase-held (λ i. g i .settings) (λ i. g i .opening) (λ i. g i .closing);
     }
 
   pub close-taken : Called Close a closed (record { number = 0; excess = e; remainder = r })

@@ -3,6 +3,8 @@ mod Phases
 mod SettingUp
 mod Registering
 mod Opening
+mod DeveloperHeld
 mod Offering
+mod Lodging
 mod ApplyingOffers
 mod ClosingRound

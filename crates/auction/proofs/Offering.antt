@@ -1,90 +1,59 @@
 -- Offers: each check in its order, and the steps held behind the withdrawals.
 use Prim.Native.Nat.{ℕ, _+_, _-_, _≤_, _<_}
-use mathlib.Core.Path.{_≡_, refl, sym, ap, _∙_, subst}
+use mathlib.Core.Path.{_≡_, refl, sym, ap, ap₂, _∙_, subst}
 use mathlib.Core.Bool.{Bool, true, false, cond, _&&_}
-use mathlib.Core.List.{List}
+use mathlib.Core.List.{List, []}
 use mathlib.Core.Logic.{⊎-elim}
 use native.Mathlib.Omega.{arith}
-use lib.Dec.{eqb}
 use lib.ListN.{length, getD, set}
-use lib.Seq.{take-append-seam}
 use borrow.Author.Tests.{eq-eqb, ne-eqb}
 use Rattle.rules.specs.Ledger.{none, made, Developer, Offer, By, Ledger, nobody, withOffer}
-use Rattle.rules.specs.Refusals.{inRound, isNumber, mayOffer, isNone, pricesOk, lowering, moveNumber, number}
-use Rattle.rules.specs.CheckLaws.{is-number, may-offer-facts, prices-facts}
+use Rattle.rules.specs.Refusals.{inRound, isOfKind, isNone, pricesOk, lowering, moveNumber, number}
+use Rattle.rules.specs.CheckLaws.{of-kind-facts, prices-facts}
 use Rattle.rules.specs.Rounds.{steps, moved, accepted, numberAlone, granted}
 use Rattle.sound.specs.Sound.{Sound, Registered}
 use Rattle.reachable.specs.Bounds.{offer-fits}
 use Rattle.reachable.specs.Steps.{step-accepted}
 use Rattle.reachable.specs.Reachable.{sound-step}
-use Rattle.levels.specs.Held.{heldLevels, levelsIn}
+use Rattle.levels.specs.Held.{levelsIn}
 use Rattle.levels.specs.declared.Levels.{Levels}
 use Rattle.history.specs.Held.{heldHistory, offeredNumber, Offered}
 use Rattle.history.specs.HeldLaws.{is-none-by-number, offered-none, steps-length}
 use Rattle.history.specs.declared.History.{History}
 use Rattle.auction.specs.declared.Auction.{Auction}
-use Rattle.auction.specs.Holds.{auctionOf}
+use Rattle.auction.specs.Holds.{heldCourse, auctionOf}
 use Rattle.auction.specs.Called.{Called}
 use Rattle.auction.specs.Parts.{withCourses, courses-held}
-use Rattle.auction.proofs.Calls.{where-true, Refused, refused, taken}
-use Rattle.auction.specs.Places.{each-at, put-at, put-keeps}
+use Rattle.auction.proofs.Calls.{Refused, refused, taken}
+use Rattle.auction.specs.Places.{put-at, put-keeps}
 use Rattle.auction.proofs.Phases.{round-is}
-
--- levels that are held are all there
-pub levels-in : (ls : List ℕ) → levelsIn (heldLevels ls) ≡ ls
-levels-in ls = take-append-seam ls _
+use Rattle.auction.proofs.DeveloperHeld.{levels-in, quantity-at, declared-at, history-at, kindHeld, kind-is}
 
 module _ (n : ℕ) (ps qs : List ℕ) (a : Auction) where
-  -- what the auction holds of developer n
-  module _ (l : Ledger) (h : a ≡ auctionOf l) (low : 1 ≤ n) (high : n ≤ 32) where
-    kind-at : getD (a .kinds) (n - 1) 0 ≡ l .developers n .declared .kind
-    unfolding auctionOf
-    kind-at = ap (λ (x : Auction). getD (x .kinds) (n - 1) 0) h ∙ each-at (λ x. x .declared .kind) l n 0 low high
-
-    quantity-at : getD (a .quantities) (n - 1) 0 ≡ l .developers n .quantity
-    unfolding auctionOf
-    quantity-at = ap (λ (x : Auction). getD (x .quantities) (n - 1) 0) h ∙ each-at (λ x. x .quantity) l n 0 low high
-
-    declared-at : (d : Levels) → getD (a .declared) (n - 1) d ≡ heldLevels (l .developers n .declared .levels)
-    unfolding auctionOf
-    declared-at d = ap (λ (x : Auction). getD (x .declared) (n - 1) d) h ∙ each-at (λ x. heldLevels (x .declared .levels)) l n d low high
-
-    history-at : (d : History) → getD (a .histories) (n - 1) d ≡ heldHistory (l .developers n .withdrawals) (l .developers n .offer)
-    unfolding auctionOf
-    history-at d = ap (λ (x : Auction). getD (x .histories) (n - 1) d) h ∙ each-at (λ x. heldHistory (x .withdrawals) (x .offer)) l n d low high
-
   in-round : a .phase ≡ 2 → (l : Ledger) → a ≡ auctionOf l → inRound (l .phase) ≡ true
   in-round z l h = round-is a l h ∙ eq-eqb _ 2 z
-
-  -- the kind that the auction holds of developer n
-  abbrev kindHeld : ℕ
-  kindHeld = getD (a .kinds) (n - 1) 0
-
-  may-offer-at : (l : Ledger) → a ≡ auctionOf l → mayOffer n (l .developers n .declared .kind) ≡ mayOffer n kindHeld
-  unfolding mayOffer
-  may-offer-at l h = where-true (isNumber n) (λ e. let b = is-number n e in ap (λ (k : ℕ). eqb k 2) (sym (kind-at l h (b .0) (b .1))))
 
   pub offer-phase : (a .phase ≡ 2 → ⊥) → Refused (By n (Offer ps qs)) a 2
   unfolding number moveNumber
   offer-phase z = refused _ a 2 (omega arith) (λ l s h. simp (round-is a l h ∙ ne-eqb _ 2 z))
 
-  pub offer-barred : a .phase ≡ 2 → mayOffer n kindHeld ≡ false → Refused (By n (Offer ps qs)) a 3
+  pub offer-barred : a .phase ≡ 2 → isOfKind 2 n (kindHeld n a) ≡ false → Refused (By n (Offer ps qs)) a 3
   unfolding number moveNumber
-  offer-barred z f = refused _ a 3 (omega arith) (λ l s h. simp (in-round z l h, may-offer-at l h ∙ f))
+  offer-barred z f = refused _ a 3 (omega arith) (λ l s h. simp (in-round z l h, kind-is n a 2 l h ∙ f))
 
-  module _ (z : a .phase ≡ 2) (w : mayOffer n kindHeld ≡ true) (d : History) where
+  module _ (z : a .phase ≡ 2) (w : isOfKind 2 n (kindHeld n a) ≡ true) (d : History) where
     low : 1 ≤ n
-    low = may-offer-facts n _ w .0
+    low = of-kind-facts 2 n _ w .0
 
     high : n ≤ 32
-    high = may-offer-facts n _ w .1
+    high = of-kind-facts 2 n _ w .1
 
     offered-at : (l : Ledger) → a ≡ auctionOf l → offeredNumber (l .developers n .offer) ≡ getD (a .histories) (n - 1) d .offered
-    offered-at l h = ap (λ (x : History). x .offered) (sym (history-at l h low high d))
+    offered-at l h = ap (λ (x : History). x .offered) (sym (history-at n a l h low high d))
 
     pub offer-second : 0 < getD (a .histories) (n - 1) d .offered → Refused (By n (Offer ps qs)) a 8
     unfolding number moveNumber
-    offer-second v = refused _ a 8 (omega arith) (λ l s h. simp (in-round z l h, may-offer-at l h ∙ w, is-none-by-number (l .developers n .offer) ∙ ne-eqb (offeredNumber (l .developers n .offer)) 0 (λ e. let k = offered-at l h in omega arith)))
+    offer-second v = refused _ a 8 (omega arith) (λ l s h. simp (in-round z l h, kind-is n a 2 l h ∙ w, is-none-by-number (l .developers n .offer) ∙ ne-eqb (offeredNumber (l .developers n .offer)) 0 (λ e. let k = offered-at l h in omega arith)))
 
     module _ (none-yet : getD (a .histories) (n - 1) d .offered ≤ 0) where
       first : getD (a .histories) (n - 1) d .offered ≡ 0
@@ -99,20 +68,20 @@ module _ (n : ℕ) (ps qs : List ℕ) (a : Auction) where
 
       pub offer-prices : pricesOk (a .closing) (a .opening) ps qs ≡ false → Refused (By n (Offer ps qs)) a 6
       unfolding number moveNumber
-      offer-prices f = refused _ a 6 (omega arith) (λ l s h. simp (in-round z l h, may-offer-at l h ∙ w, first-is l h, prices-at l h ∙ f))
+      offer-prices f = refused _ a 6 (omega arith) (λ l s h. simp (in-round z l h, kind-is n a 2 l h ∙ w, first-is l h, prices-at l h ∙ f))
 
       module _ (f : pricesOk (a .closing) (a .opening) ps qs ≡ true) (k : Levels) where
         lowering-at : (l : Ledger) → a ≡ auctionOf l → lowering (l .developers n .declared .levels) (l .developers n .quantity) qs ≡ lowering (levelsIn (getD (a .declared) (n - 1) k)) (getD (a .quantities) (n - 1) 0) qs
-        lowering-at l h = rw (declared-at l h low high k, quantity-at l h low high, levels-in)
+        lowering-at l h = rw (declared-at n a l h low high k, quantity-at n a l h low high, levels-in)
 
         pub offer-levels : lowering (levelsIn (getD (a .declared) (n - 1) k)) (getD (a .quantities) (n - 1) 0) qs ≡ false → Refused (By n (Offer ps qs)) a 7
         unfolding number moveNumber
-        offer-levels g = refused _ a 7 (omega arith) (λ l s h. simp (in-round z l h, may-offer-at l h ∙ w, first-is l h, prices-at l h ∙ f, lowering-at l h ∙ g))
+        offer-levels g = refused _ a 7 (omega arith) (λ l s h. simp (in-round z l h, kind-is n a 2 l h ∙ w, first-is l h, prices-at l h ∙ f, lowering-at l h ∙ g))
 
         module _ (g : lowering (levelsIn (getD (a .declared) (n - 1) k)) (getD (a .quantities) (n - 1) 0) qs ≡ true) (r : History) (o : Offered (getD (a .histories) (n - 1) d) ps qs r) where
           passes : (l : Ledger) → a ≡ auctionOf l → number l (By n (Offer ps qs)) ≡ 0
           unfolding number moveNumber
-          passes l h = simp (in-round z l h, may-offer-at l h ∙ w, first-is l h, prices-at l h ∙ f, lowering-at l h ∙ g)
+          passes l h = simp (in-round z l h, kind-is n a 2 l h ∙ w, first-is l h, prices-at l h ∙ f, lowering-at l h ∙ g)
 
           -- the developer with the offer
           abbrev entry : Ledger → Developer
@@ -138,12 +107,22 @@ module _ (n : ℕ) (ps qs : List ℕ) (a : Auction) where
               fits : Registered (accepted l (By n (Offer ps qs))) n → length (l .developers n .withdrawals) + length (steps ps qs) ≤ 8
               fits q = subst (λ (x : Developer). length (x .withdrawals) + length (steps ps qs) ≤ 8) here (offer-fits q (ap (λ (x : Developer). x .offer) here))
 
-          history-next : (l : Ledger) → Sound l → a ≡ auctionOf l → r ≡ heldHistory (l .developers n .withdrawals) (made (steps ps qs))
+          -- a new plant has nothing lodged
+          none-lodged : (l : Ledger) → Sound l → a ≡ auctionOf l → l .developers n .lodged ≡ []
+          none-lodged l s h = ⊎-elim
+              (λ e. ap (λ (x : Developer). x .lodged) e)
+              (λ q. q .lodged .kind (of-kind-facts 2 n _ (kind-is n a 2 l h ∙ w) .2))
+              (s .each n)
+
+          history-next : (l : Ledger) → Sound l → a ≡ auctionOf l → r ≡ heldCourse (entry l)
           history-next l s h =
-              o .right (l .developers n .withdrawals)
-              (history-at l h low high d ∙ ap (heldHistory (l .developers n .withdrawals)) (offered-none (l .developers n .offer) (offered-at l h ∙ first)))
+              let ws = l .developers n .withdrawals in
+              let e = none-lodged l s h in
+              o .right ws
+              (history-at n a l h low high d ∙ ap₂ (heldHistory ws) (offered-none (l .developers n .offer) (offered-at l h ∙ first)) e)
               (as-long l h)
               (room l s h)
+              ∙ ap (heldHistory ws (made (steps ps qs))) (sym e)
 
           -- the auction with the offer standing
           abbrev pub offering : Auction
@@ -156,5 +135,5 @@ module _ (n : ℕ) (ps qs : List ℕ) (a : Auction) where
             answer = refl;
             next = courses-held a l n (entry l) h refl
                 (ap (λ (x : Auction). x .quantities) h ∙ sym (put-keeps (λ x. x .quantity) l n (entry l) refl))
-                (ap (λ (x : Auction). set (x .histories) (n - 1) r) h ∙ put-at (λ x. heldHistory (x .withdrawals) (x .offer)) l n (entry l) r low high (history-next l s h));
+                (ap (λ (x : Auction). set (x .histories) (n - 1) r) h ∙ put-at heldCourse l n (entry l) r low high (history-next l s h));
           })

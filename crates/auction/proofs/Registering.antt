@@ -3,14 +3,14 @@ use Prim.Native.Nat.{ℕ, _-_, _≤_}
 use mathlib.Core.Path.{_≡_, refl, sym, ap, _∙_}
 use mathlib.Core.Logic.{⊎-elim}
 use mathlib.Core.Bool.{Bool, true, false, _&&_}
-use mathlib.Core.List.{List, [], map}
+use mathlib.Core.List.{List, map}
 use native.Mathlib.Omega.{arith}
 use lib.Dec.{eqb}
 use lib.ListN.{length, getD, set}
 use borrow.Author.Tests.{eq-eqb, ne-eqb}
 use Rattle.numbers.specs.Cases.{and-true}
 use Rattle.numbers.specs.Lists.{oneTo}
-use Rattle.rules.specs.Ledger.{Declaration, Call, none, Developer, Ledger, nobody, put, newcomer}
+use Rattle.rules.specs.Ledger.{Declaration, Call, Developer, Ledger, nobody, put, newcomer}
 use Rattle.rules.specs.Clearing.{ofEach}
 use Rattle.rules.specs.Refusals.{isNumber, numbersOk, isKind, levelsOk, declarationOk, check, number}
 use Rattle.rules.specs.CheckLaws.{is-number}
@@ -19,11 +19,10 @@ use Rattle.sound.specs.Sound.{Sound}
 use Rattle.reachable.specs.Checks.{RegisterPassed, register-passed, Numbers, numbers-facts, declaration-facts, levels-facts}
 use Rattle.levels.specs.declared.Levels.{Levels}
 use Rattle.levels.specs.Held.{heldLevels, Copied, Highest}
-use Rattle.history.specs.Held.{heldHistory}
 use Rattle.supply.specs.ByProject.{joins}
 use Rattle.supply.specs.ByProjectLaws.{joins-of}
 use Rattle.auction.specs.declared.Auction.{Auction}
-use Rattle.auction.specs.Holds.{auctionOf, Holding}
+use Rattle.auction.specs.Holds.{heldCourse, auctionOf, Holding}
 use Rattle.auction.specs.Called.{Called, registers}
 use Rattle.auction.specs.Places.{each-at, put-at, put-keeps}
 use Rattle.auction.proofs.Calls.{where-true, Refused, refused, taken}
@@ -106,7 +105,7 @@ module _ (a : Auction) (k n kind study day : ℕ) (ls : List ℕ) where
       days = stored (λ x. x .declared .day) (λ j. h j .days) refl i;
       quantities = stored (λ x. x .quantity) (λ j. h j .quantities) (highest .right ls levels few) i;
       declared = stored (λ x. heldLevels (x .declared .levels)) (λ j. h j .declared) levels i;
-      histories = (ap (λ (x : Auction). x .histories) h ∙ sym (put-keeps (λ x. heldHistory (x .withdrawals) (x .offer)) l n new kept)) i;
+      histories = (ap (λ (x : Auction). x .histories) h ∙ sym (put-keeps heldCourse l n new kept)) i;
     }
       where
         passed : RegisterPassed l n declaration
@@ -121,8 +120,8 @@ module _ (a : Auction) (k n kind study day : ℕ) (ls : List ℕ) where
         levels : v ≡ heldLevels ls
         levels = copied .right few
 
-        kept : heldHistory [] none ≡ heldHistory (l .developers n .withdrawals) (l .developers n .offer)
-        kept = ap (λ (x : Developer). heldHistory (x .withdrawals) (x .offer)) (sym (unused-nobody s n (numbers .unused)))
+        kept : heldCourse new ≡ heldCourse (l .developers n)
+        kept = ap heldCourse (sym (unused-nobody s n (numbers .unused)))
 
         stored : {A : Type 0} (f : Developer → A) {xs : List A} {w : A} → xs ≡ ofEach f l → w ≡ f new → set xs (n - 1) w ≡ map (λ m. f (put n new (l .developers) m)) (oneTo 32)
         stored f {xs} {w} d g = ap (λ ys. set ys (n - 1) w) d ∙ put-at f l n new w (numbers .number-low) (numbers .number-high) g

@@ -2,7 +2,7 @@
 use Prim.Native.Nat.{ℕ}
 use mathlib.Core.Path.{_≡_}
 use mathlib.Core.List.{List, [], _∷_, _++_}
-use Rattle.rules.specs.Ledger.{settingsOf, Call, SetUp, Register, Close, Ledger, withDevelopers}
+use Rattle.rules.specs.Ledger.{settingsOf, Call, SetUp, Register, Close, Round, Ledger, withDevelopers}
 use Rattle.rules.specs.Rounds.{ledger, Answered, numberAlone, answer, applied}
 use Rattle.sound.specs.Sound.{Sound}
 use Rattle.auction.specs.declared.Auction.{Auction}
@@ -43,6 +43,6 @@ registers k n kind study day ls = Register n (record { project = k; kind = kind;
 abbrev pub refusedAnswer : Auction → ℕ → Answer
 refusedAnswer a n = record { number = n; auction = a }
 
--- every offer applied
+-- in an open round: every offer and the lodged steps reached applied
 pub record OffersApplied (a r : Auction) : Type 0 where
-  pub right : (l : Ledger) → Sound l → a ≡ auctionOf l → r ≡ auctionOf (withDevelopers l (λ n. applied (l .opening) (l .developers n)))
+  pub right : (l : Ledger) → Sound l → l .phase ≡ Round → a ≡ auctionOf l → r ≡ auctionOf (withDevelopers l (λ n. applied (l .closing) (l .opening) (l .developers n)))

@@ -1,11 +1,12 @@
 -- The one auction that holds a ledger: developer n stands at place n - 1 of each array, what is not used is zero.
 use Prim.Native.Nat.{ℕ}
 use mathlib.Core.Path.{_≡_}
-use Rattle.rules.specs.Ledger.{Phase, Fresh, Ready, Round, Between, Closed, Ledger}
+use Rattle.rules.specs.Ledger.{Developer, Phase, Fresh, Ready, Round, Between, Closed, Ledger}
 use Rattle.rules.specs.Clearing.{ofEach}
 use Rattle.sound.specs.Sound.{Sound}
 use Rattle.levels.specs.Held.{heldLevels}
 use Rattle.history.specs.Held.{heldHistory}
+use Rattle.history.specs.declared.History.{History}
 use Rattle.auction.specs.declared.Auction.{Auction}
 
 abbrev pub phaseNumber : Phase → ℕ
@@ -14,6 +15,10 @@ phaseNumber Ready = 1
 phaseNumber Round = 2
 phaseNumber Between = 3
 phaseNumber Closed = 4
+
+-- the history of a developer
+abbrev pub heldCourse : Developer → History
+heldCourse x = heldHistory (x .withdrawals) (x .offer) (x .lodged)
 
 unfoldable pub auctionOf : Ledger → Auction
 auctionOf l = record {
@@ -33,7 +38,7 @@ auctionOf l = record {
   days = ofEach (λ x. x .declared .day) l;
   quantities = ofEach (λ x. x .quantity) l;
   declared = ofEach (λ x. heldLevels (x .declared .levels)) l;
-  histories = ofEach (λ x. heldHistory (x .withdrawals) (x .offer)) l;
+  histories = ofEach heldCourse l;
 }
 
 -- P of every sound ledger that the auction holds

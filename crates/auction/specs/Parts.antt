@@ -7,11 +7,10 @@ use Rattle.rules.specs.Ledger.{Declaration, Developer, Phase, Ledger, withPhase
 use Rattle.rules.specs.Ledger as rules
 use Rattle.rules.specs.Clearing.{ofEach}
 use Rattle.levels.specs.Held.{heldLevels}
-use Rattle.history.specs.Held.{heldHistory}
 use Rattle.history.specs.declared.History.{History}
 use Rattle.auction.specs.declared.Auction.{Auction}
 use Rattle.auction.specs.declared.Settings.{Settings}
-use Rattle.auction.specs.Holds.{phaseNumber, auctionOf}
+use Rattle.auction.specs.Holds.{phaseNumber, heldCourse, auctionOf}
 use Rattle.auction.specs.Places.{put-keeps}
 
 -- ---- another phase, settings and prices
@@ -79,7 +78,7 @@ module _ (a : Auction) (l : Ledger) (n : ℕ) (x : Developer) (h : a ≡ auction
   keeps f g = g ∙ sym (put-keeps (λ y. f (y .declared)) l n x (ap f e))
 
   pub courses-held :
-      {qs : List ℕ} {hs : List History} → qs ≡ ofEach (λ y. y .quantity) next → hs ≡ ofEach (λ y. heldHistory (y .withdrawals) (y .offer)) next →
+      {qs : List ℕ} {hs : List History} → qs ≡ ofEach (λ y. y .quantity) next → hs ≡ ofEach heldCourse next →
       withCourses a qs hs ≡ auctionOf next
   unfolding auctionOf
   courses-held eq eh = λ i. record {

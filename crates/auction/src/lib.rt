@@ -1,9 +1,9 @@
-// The auction: its state, passed by value, and the five calls that change it. Each call's contract is an equation with the ledger of
+// The auction: its state, passed by value, and the six calls that change it. Each call's contract is an equation with the ledger of
 // document 01, for every list of calls (specs/Called.antt).
 ghost use mathlib.Core.Path.{_≡_};
 ghost use mathlib.Core.List.{[]};
 ghost use Prim.Native.Nat.{_≤_};
-ghost use Rattle.rules.specs.Ledger.{Open, By, Offer};
+ghost use Rattle.rules.specs.Ledger.{Open, By, Offer, Lodge};
 ghost use Rattle.rules.specs.Rounds.{ledger};
 ghost use Rattle.auction.specs.Holds.{auctionOf};
 ghost use Rattle.auction.specs.Called.{AnswersNumber, AnswersClosing, setsUp, registers, refusedAnswer, OffersApplied};
@@ -278,7 +278,7 @@ impl Auction {
             return self.refused(2);
         }
         let kinds = self.kinds;
-        if !checks::may_offer(kinds, developer) {
+        if !checks::is_of_kind(kinds, developer, Auction::NEW_PLANT) {
             return self.refused(3);
         }
         let i = (developer - 1) as usize;
@@ -301,17 +301,48 @@ impl Auction {
         }
     }
 
-    // All developers' offers applied; one of kind 2 without an offer and above 0 withdraws at the opening price.
+    // Lodging a withdrawal list (document 02, 5). Checks: 2, 15, 6, 7; all prices before any level.
+    pub fn lodge(self, developer: u8, prices: &[u32], levels: &[u32]) -> Answer
+        ensures { λ r. ⌜ AnswersNumber (By developer (Lodge (now (prices .entry)) (now (levels .entry)))) self r ⌝ }
+    {
+        let phase = self.phase;
+        if phase != Auction::READY {
+            return self.refused(2);
+        }
+        let kinds = self.kinds;
+        if !checks::is_of_kind(kinds, developer, Auction::EXISTING_PLANT) {
+            return self.refused(15);
+        }
+        let settings = self.settings;
+        if !checks::prices_ok(settings.ce / 2, settings.a, prices, levels) {
+            return self.refused(6);
+        }
+        let i = (developer - 1) as usize;
+        let declared = self.declared[i];
+        if !declared.lowers(declared.highest(), levels) {
+            return self.refused(7);
+        }
+        let mut next = self;
+        next.histories[i] = History::lodge(prices, levels);
+        Answer {
+            number: 0,
+            auction: next,
+        }
+    }
+
+    // All developers' offers applied, and the lodged steps that C reaches; one of kind 2 without an offer and above 0 withdraws at the opening price.
     fn with_offers_applied(self) -> Auction
         ensures { λ r. ⌜ OffersApplied self r ⌝ }
     {
         let mut next = self;
         let opening = self.opening;
+        let closing = self.closing;
         for i in 0..32 {
             let h = next.histories[i];
             let q = next.quantities[i];
             let missing = checks::withdraws(next.kinds[i], q);
-            let applied = h.close(missing, opening);
+            let reached = h.reach(closing);
+            let applied = reached.close(missing, opening);
             next.histories[i] = applied;
             next.quantities[i] = applied.last_level(q);
         }

@@ -5,7 +5,7 @@ ghost use mathlib.Core.Bool.{_&&_};
 ghost use Prim.Native.Nat.{min, _-_, _<_, _^_};
 ghost use lib.IntN.{pos, _-ℤ_};
 ghost use lib.ListN.{getD};
-ghost use Rattle.rules.specs.Refusals.{settingsOk, numbersOk, isKind, levelsOk, mayOffer, pricesOk};
+ghost use Rattle.rules.specs.Refusals.{settingsOk, numbersOk, isKind, levelsOk, isOfKind, pricesOk};
 ghost use Rattle.rules.specs.Rounds.{withdrawsAll, clears};
 ghost use Rattle.rules.specs.Ledger.{settingsOf};
 ghost use Rattle.supply.specs.ByProject.{joins};
@@ -84,17 +84,17 @@ pub fn declaration_ok(
     supply::may_join(projects, kinds, project, kind)
 }
 
-// ---- offers
+// ---- offers and lodged lists
 
-// Whether a developer may offer: it has a number and is of kind 2.
-pub fn may_offer(kinds: [u8; 32], developer: u8) -> bool
-    ensures { λ r. ⌜ r ≡ mayOffer developer (getD kinds (developer - 1) 0) ⌝ }
+// Whether a number is that of a developer of this kind: kind 2 makes offers, kind 1 lodges lists.
+pub fn is_of_kind(kinds: [u8; 32], developer: u8, kind: u8) -> bool
+    ensures { λ r. ⌜ r ≡ isOfKind kind developer (getD kinds (developer - 1) 0) ⌝ }
 {
     if !supply::is_number(developer) {
         return false;
     }
     let i = (developer - 1) as usize;
-    kinds[i] == supply::NEW
+    kinds[i] == kind
 }
 
 // Whether there are as many prices as levels, at most 8, and the prices fall from below `opening` and are at least `closing`.

@@ -26,6 +26,7 @@ rows =
     ∷ row 4 (2 ∷ 2 ∷ []) 2  -- 04 offer: developer, count; steps of price and level
     ∷ row 5 [] 0  -- 05 close
     ∷ row 6 (8 ∷ []) 0  -- 06 settle: limit
+    ∷ row 7 (2 ∷ 2 ∷ []) 2  -- 07 lodging (document 02, 5): developer, count; steps of price and level
     ∷ []
 
 -- the width of each field that follows the fixed ones

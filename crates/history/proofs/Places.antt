@@ -3,6 +3,7 @@ use Prim.Native.Nat.{ℕ, suc, _+_, _-_, _≤_, _<_}
 use mathlib.Core.Path.{_≡_, sym, ap, _∙_}
 use mathlib.Core.List.{List, [], _∷_, _++_, map, append-assoc}
 use native.Mathlib.Omega.{arith}
+use native.Mathlib.Nat.{zero-add, suc-add}
 use native.Mathlib.Numerals.{add-one}
 use lib.ListN.{length, getD, take, set, replicate, length-append, length-map, List·getD-append, List·getD-map}
 use lib.Seq.{set-append-seam, take-suc, length-take-le}
@@ -10,14 +11,17 @@ use Rattle.numbers.specs.Lists.{padded}
 use Rattle.rules.specs.Ledger.{Step}
 use Rattle.history.specs.declared.History.{History}
 
-pub same : (h g : History) → h .prices ≡ g .prices → h .levels ≡ g .levels → h .count ≡ g .count → h .offered ≡ g .offered → h ≡ g
-same h g p l c o = λ i. record { prices = p i; levels = l i; count = c i; offered = o i }
+pub same : (h g : History) → h .prices ≡ g .prices → h .levels ≡ g .levels → h .count ≡ g .count → h .offered ≡ g .offered → h .lodged ≡ g .lodged → h ≡ g
+same h g p l c o d = λ i. record { prices = p i; levels = l i; count = c i; offered = o i; lodged = d i }
 
 pub count-of : {h g : History} → h ≡ g → h .count ≡ g .count
 count-of e = ap (λ (x : History). x .count) e
 
 pub offered-of : {h g : History} → h ≡ g → h .offered ≡ g .offered
 offered-of e = ap (λ (x : History). x .offered) e
+
+pub lodged-of : {h g : History} → h ≡ g → h .lodged ≡ g .lodged
+lodged-of e = ap (λ (x : History). x .lodged) e
 
 module _ (k : ℕ) where
   pub padded-more : (xs : List ℕ) (n x : ℕ) → length xs ≡ n → n < k → set (padded k xs) n x ≡ padded k (xs ++ (x ∷ []))
@@ -46,3 +50,17 @@ padded-at f z k ws ss i w =
     ∙ ap (λ (d : ℕ). getD (map f (ws ++ ss)) i d) (sym z)
     ∙ List·getD-map f (ws ++ ss) i noStep
     ∙ ap f (List·getD-append ws ss noStep i w)
+
+-- a place of the steps behind them
+pub padded-behind :
+    (f : Step → ℕ) → f noStep ≡ 0 → (k : ℕ) (ws ss : List Step) (i : ℕ) → i < length ss →
+    getD (padded k (map f (ws ++ ss))) (length ws + i) 0 ≡ f (getD ss i noStep)
+padded-behind f z k ws ss i w =
+    List·getD-append (map f (ws ++ ss)) (replicate (k - length (map f (ws ++ ss))) 0) 0 (length ws + i) (omega (arith, length-map (ws ++ ss) f, length-append ws ss))
+    ∙ ap (λ (d : ℕ). getD (map f (ws ++ ss)) (length ws + i) d) (sym z)
+    ∙ List·getD-map f (ws ++ ss) (length ws + i) noStep
+    ∙ ap f (go ws)
+  where
+    go : (xs : List Step) → getD (xs ++ ss) (length xs + i) noStep ≡ getD ss i noStep
+    go [] = ap (λ (j : ℕ). getD ss j noStep) (zero-add i)
+    go (x ∷ xs) = ap (λ (j : ℕ). getD (x ∷ (xs ++ ss)) j noStep) (suc-add (length xs) i) ∙ go xs

@@ -1,19 +1,23 @@
--- What the writing functions leave: an offer's steps behind the withdrawals, and the withdrawals once an offer is applied.
+-- What the writing functions leave: an offer's steps behind the withdrawals, a lodged list, and the withdrawals once an offer or lodged steps
+-- are applied.
 use Prim.Native.Nat.{ℕ, _+_, _-_, _≤_, _<_}
 use mathlib.Core.Path.{_≡_, refl, sym, ap, _∙_}
+use mathlib.Core.Logic.{_⊎_, ⊎-elim}
 use mathlib.Core.Bool.{Bool, true, false}
-use mathlib.Core.List.{List, [], _∷_, _++_, map, map-append, append-nil}
+use mathlib.Core.List.{List, [], _∷_, _++_, map, map-append, append-nil, append-assoc}
 use native.Mathlib.Omega.{arith}
+use native.Mathlib.Nat.{le-refl}
 use lib.ListN.{length, getD, take, set, length-append, length-map}
 use lib.Seq.{take-all}
 use Rattle.numbers.specs.Lists.{padded}
 use Rattle.rules.specs.Ledger.{Step, Standing, none, made}
-use Rattle.rules.specs.Rounds.{steps}
+use Rattle.rules.specs.Rounds.{steps, reached, unreached}
 use Rattle.sound.specs.Sound.{pricesOf, levelsOf}
+use Rattle.sound.specs.LodgedLaws.{reached-front}
 use Rattle.history.specs.declared.History.{History}
-use Rattle.history.specs.Held.{heldHistory, additions, Offered, Applied}
+use Rattle.history.specs.Held.{heldHistory, pending, additions, Offered, Lodged, ReachedNumber, Reached, Applied}
 use Rattle.history.specs.HeldLaws.{steps-prices, steps-levels, steps-length}
-use Rattle.history.proofs.Places.{same, count-of, offered-of, padded-more, padded-next}
+use Rattle.history.proofs.Places.{same, count-of, offered-of, lodged-of, padded-more, padded-next}
 
 -- a column of the arrays
 column : (f : Step → ℕ) (ws ss : List Step) (xs : List ℕ) → map f ss ≡ xs → padded 8 (map f ws ++ xs) ≡ padded 8 (map f (ws ++ ss))
@@ -22,9 +26,13 @@ column f ws ss xs e = ap (padded 8) (ap (λ (ys : List ℕ). map f ws ++ ys) (sy
 -- one step more
 column-more :
     (f : Step → ℕ) (ws : List Step) (s : Step) (n : ℕ) → n ≡ length ws → n < 8 →
-    set (padded 8 (map f (ws ++ []))) n (f s) ≡ padded 8 (map f (ws ++ (s ∷ []) ++ []))
+    set (padded 8 (map f (ws ++ []))) n (f s) ≡ padded 8 (map f ((ws ++ (s ∷ [])) ++ []))
 column-more f ws s n e h =
     simp append-nil (padded-more 8 (map f ws) n (f s) (length-map ws f ∙ sym e) h ∙ column f ws (s ∷ []) (f s ∷ []) refl)
+
+-- nothing behind the last steps
+last : (f : Step → ℕ) (ws ss : List Step) → padded 8 (map f (ws ++ ss)) ≡ padded 8 (map f (ws ++ (ss ++ [])))
+last f ws ss = ap (λ (x : List Step). padded 8 (map f (ws ++ x))) (sym (append-nil ss))
 
 -- ---- offer
 
@@ -35,19 +43,20 @@ storedTo ws ps qs i = record {
   levels = padded 8 (levelsOf ws ++ take i qs);
   count = length ws;
   offered = 0;
+  lodged = 0;
 }
 
 -- the loop before step i: `h₀` is the history that it begins with, `h` that of now
 pub record Storing (ps qs : List ℕ) (h₀ h : History) (n i : ℕ) : Type 0 where
   pub within : i ≤ length ps
   pub count : n ≡ h₀ .count
-  pub stored : (ws : List Step) → h₀ ≡ heldHistory ws none → length ps ≡ length qs → length ws + length ps ≤ 8 → h ≡ storedTo ws ps qs i
+  pub stored : (ws : List Step) → h₀ ≡ heldHistory ws none [] → length ps ≡ length qs → length ws + length ps ≤ 8 → h ≡ storedTo ws ps qs i
 
 pub store-first : (ps qs : List ℕ) (h : History) → Storing ps qs h h (h .count) 0
 store-first ps qs h = record {
   within = omega arith;
   count = refl;
-  stored = λ ws e s w. e ∙ same (heldHistory ws none) (storedTo ws ps qs 0) (sym (column (λ t. t .price) ws [] [] refl)) (sym (column (λ t. t .level) ws [] [] refl)) refl refl;
+  stored = λ ws e s w. e ∙ same (heldHistory ws none []) (storedTo ws ps qs 0) (sym (column (λ t. t .price) ws [] [] refl)) (sym (column (λ t. t .level) ws [] [] refl)) refl refl refl;
 }
 
 -- an early return is not reached where there is room
@@ -62,6 +71,7 @@ module _ (ps qs : List ℕ) (h₀ h : History) (n i : ℕ) (t : Storing ps qs h�
         levels = set (h .levels) (n + i) (getD qs i 0);
         count = h .count;
         offered = h .offered;
+        lodged = h .lodged;
       }) n (i + 1)
   store-next w = record {
     within = omega arith;
@@ -73,20 +83,72 @@ module _ (ps qs : List ℕ) (h₀ h : History) (n i : ℕ) (t : Storing ps qs h�
         (ap (λ (x : History). set (x .prices) (n + i) (getD ps i 0)) g ∙ padded-next 8 (pricesOf ws) ps n i (length-map ws (λ x. x .price) ∙ sym m) w (omega arith))
         (ap (λ (x : History). set (x .levels) (n + i) (getD qs i 0)) g ∙ padded-next 8 (levelsOf ws) qs n i (length-map ws (λ x. x .level) ∙ sym m) (omega arith) (omega arith))
         (count-of g)
-        (offered-of g);
+        (offered-of g)
+        (lodged-of g);
   }
 
   -- all steps are stored
-  pub store-end : length ps ≤ i → Offered h₀ ps qs (record { prices = h .prices; levels = h .levels; count = h .count; offered = i + 1 })
+  pub store-end : length ps ≤ i → Offered h₀ ps qs (record { prices = h .prices; levels = h .levels; count = h .count; offered = i + 1; lodged = h .lodged })
   store-end w = record {
     right = λ ws e s v.
         let g : h ≡ storedTo ws ps qs i = t .stored ws e s v in
-        same _ (heldHistory ws (made (steps ps qs)))
-        (ap (λ (x : History). x .prices) g ∙ column (λ x. x .price) ws (steps ps qs) (take i ps) (steps-prices ps qs s ∙ sym (take-all i ps w)))
-        (ap (λ (x : History). x .levels) g ∙ column (λ x. x .level) ws (steps ps qs) (take i qs) (steps-levels ps qs s ∙ sym (take-all i qs (omega arith))))
+        same _ (heldHistory ws (made (steps ps qs)) [])
+        (ap (λ (x : History). x .prices) g ∙ column (λ x. x .price) ws (steps ps qs) (take i ps) (steps-prices ps qs s ∙ sym (take-all i ps w)) ∙ last (λ x. x .price) ws (steps ps qs))
+        (ap (λ (x : History). x .levels) g ∙ column (λ x. x .level) ws (steps ps qs) (take i qs) (steps-levels ps qs s ∙ sym (take-all i qs (omega arith))) ∙ last (λ x. x .level) ws (steps ps qs))
         (count-of g)
-        (omega (arith, steps-length ps qs s, t .within));
+        (omega (arith, steps-length ps qs s, t .within))
+        (lodged-of g);
   }
+
+-- ---- lodge
+
+-- an offer behind no withdrawals, held as a lodged list
+pub lodge-list : (ps qs : List ℕ) (e h : History) → e ≡ heldHistory [] none [] → Offered e ps qs h → Lodged ps qs (record { prices = h .prices; levels = h .levels; count = h .count; offered = 0; lodged = length ps })
+lodge-list ps qs e h z o = record {
+  right = λ s w.
+      let g = o .right [] z s (omega arith) in
+      same _ (heldHistory [] none (steps ps qs))
+      (ap (λ (x : History). x .prices) g ∙ sym (last (λ x. x .price) [] (steps ps qs)))
+      (ap (λ (x : History). x .levels) g ∙ sym (last (λ x. x .level) [] (steps ps qs)))
+      (count-of g)
+      refl
+      (sym (steps-length ps qs s));
+}
+
+-- ---- reach
+
+-- the lodged steps reached stand in front of the others: in place already
+pub reach-lodged :
+    (h : History) (c k : ℕ) → ReachedNumber h c k →
+    Reached h c (record { prices = h .prices; levels = h .levels; count = h .count + k; offered = h .offered; lodged = h .lodged - k })
+reach-lodged h c k r = record {
+  right = λ ws s ls f o e d g w.
+      let n = r .right ws s ls f o e d g w in
+      let front = reached-front f o c o ls (le-refl o) g in
+      let l = length-append (reached c o ls) (unreached c o ls) in
+      let m : length (reached c o ls ++ unreached c o ls) ≡ length ls = ap length front in
+      same _ (heldHistory (ws ++ reached c o ls) s (unreached c o ls))
+      (ap (λ (x : History). x .prices) e ∙ ap (λ (x : List Step). padded 8 (pricesOf x)) (moved ws s ls (reached c o ls) (unreached c o ls) front d))
+      (ap (λ (x : History). x .levels) e ∙ ap (λ (x : List Step). padded 8 (levelsOf x)) (moved ws s ls (reached c o ls) (unreached c o ls) front d))
+      (omega (arith, count-of e, length-append ws (reached c o ls)))
+      (offered-of e)
+      (omega (arith, lodged-of e));
+}
+  where
+    moved : (ws : List Step) (s : Standing) (ls rs us : List Step) → rs ++ us ≡ ls → (s ≡ none) ⊎ (ls ≡ []) → ws ++ (pending s ++ ls) ≡ (ws ++ rs) ++ (pending s ++ us)
+    moved ws none ls rs us e d = ap (λ (x : List Step). ws ++ x) (sym e) ∙ sym (append-assoc ws rs us)
+    moved ws (made ss) ls [] us e d = ap (λ (x : List Step). ws ++ (ss ++ x)) (sym e) ∙ ap (λ (x : List Step). x ++ (ss ++ us)) (sym (append-nil ws))
+    moved ws (made ss) ls (t ∷ rs) us e d = ⊎-elim (λ z. absurd (let y : _≡_ {A = ℕ} 0 1 = cc in omega arith)) (λ z. absurd (omega (arith, ap length (e ∙ z)))) d
+
+-- no more are reached than there are, and there is room for all
+pub reached-fits : (h r : History) (c k : ℕ) → ReachedNumber h c k → (8 < h .count + k) ⊎ (h .lodged < k) → Reached h c r
+reached-fits h r c k n b = record {
+  right = λ ws s ls f o e d g w.
+      let m = n .right ws s ls f o e d g w in
+      let l = length-append (reached c o ls) (unreached c o ls) in
+      let q : length (reached c o ls ++ unreached c o ls) ≡ length ls = ap length (reached-front f o c o ls (le-refl o) g) in
+      absurd (⊎-elim (λ z. omega (arith, count-of e)) (λ z. omega (arith, lodged-of e)) b);
+}
 
 -- ---- close
 
@@ -94,54 +156,64 @@ module _ (h : History) (missing : Bool) (o : ℕ) where
   -- by the offer that stands
   by-standing :
       (r : History) →
-      ((ws : List Step) → h ≡ heldHistory ws none → length ws + length (additions missing o none) ≤ 8 → r ≡ heldHistory (ws ++ additions missing o none) none) →
-      ((ws ss : List Step) → h ≡ heldHistory ws (made ss) → length ws + length ss ≤ 8 → r ≡ heldHistory (ws ++ ss) none) →
+      ((ws ls : List Step) → h ≡ heldHistory ws none ls → (missing ≡ true → ls ≡ []) → length ws + length (additions missing o none) ≤ 8 → r ≡ heldHistory (ws ++ additions missing o none) none ls) →
+      ((ws ss ls : List Step) → h ≡ heldHistory ws (made ss) ls → length ws + length ss ≤ 8 → r ≡ heldHistory (ws ++ ss) none ls) →
       Applied h missing o r
   by-standing r f g = record { right = go }
     where
-      go : (ws : List Step) (s : Standing) → h ≡ heldHistory ws s → length ws + length (additions missing o s) ≤ 8 → r ≡ heldHistory (ws ++ additions missing o s) none
-      go ws none e w = f ws e w
-      go ws (made ss) e w = g ws ss e w
+      go : (ws : List Step) (s : Standing) (ls : List Step) → h ≡ heldHistory ws s ls → (missing ≡ true → ls ≡ []) → length ws + length (additions missing o s) ≤ 8 → r ≡ heldHistory (ws ++ additions missing o s) none ls
+      go ws none ls e m w = f ws ls e m w
+      go ws (made ss) ls e m w = g ws ss ls e w
 
-  with-offer : (r : History) → 0 < h .offered → ((ws ss : List Step) → h ≡ heldHistory ws (made ss) → length ws + length ss ≤ 8 → r ≡ heldHistory (ws ++ ss) none) → Applied h missing o r
-  with-offer r k g = by-standing r (λ ws e w. absurd (omega (arith, offered-of e))) g
+  with-offer : (r : History) → 0 < h .offered → ((ws ss ls : List Step) → h ≡ heldHistory ws (made ss) ls → length ws + length ss ≤ 8 → r ≡ heldHistory (ws ++ ss) none ls) → Applied h missing o r
+  with-offer r k g = by-standing r (λ ws ls e m w. absurd (omega (arith, offered-of e))) g
 
   without-offer :
       (r : History) → h .offered ≤ 0 →
-      ((ws : List Step) → h ≡ heldHistory ws none → length ws + length (additions missing o none) ≤ 8 → r ≡ heldHistory (ws ++ additions missing o none) none) →
+      ((ws ls : List Step) → h ≡ heldHistory ws none ls → (missing ≡ true → ls ≡ []) → length ws + length (additions missing o none) ≤ 8 → r ≡ heldHistory (ws ++ additions missing o none) none ls) →
       Applied h missing o r
-  without-offer r k f = by-standing r f (λ ws ss e w. absurd (omega (arith, offered-of e)))
+  without-offer r k f = by-standing r f (λ ws ss ls e w. absurd (omega (arith, offered-of e)))
 
   -- the steps of an offer are in place already
-  pub close-offer : 0 < h .offered → Applied h missing o (record { prices = h .prices; levels = h .levels; count = h .count + (h .offered - 1); offered = 0 })
-  close-offer k = with-offer _ k (λ ws ss e w.
-      same _ (heldHistory (ws ++ ss) none)
-      (ap (λ (x : History). x .prices) e ∙ ap (λ (x : List Step). padded 8 (pricesOf x)) (sym (append-nil (ws ++ ss))))
-      (ap (λ (x : History). x .levels) e ∙ ap (λ (x : List Step). padded 8 (levelsOf x)) (sym (append-nil (ws ++ ss))))
+  pub close-offer : 0 < h .offered → Applied h missing o (record { prices = h .prices; levels = h .levels; count = h .count + (h .offered - 1); offered = 0; lodged = h .lodged })
+  close-offer k = with-offer _ k (λ ws ss ls e w.
+      same _ (heldHistory (ws ++ ss) none ls)
+      (ap (λ (x : History). x .prices) e ∙ ap (λ (x : List Step). padded 8 (pricesOf x)) (sym (append-assoc ws ss ls)))
+      (ap (λ (x : History). x .levels) e ∙ ap (λ (x : List Step). padded 8 (levelsOf x)) (sym (append-assoc ws ss ls)))
       (omega (arith, count-of e, offered-of e, length-append ws ss))
-      refl)
+      refl
+      (lodged-of e))
 
   -- an early return is not reached where there is room
   pub close-no-room : (r : History) → 0 < h .offered → 8 < h .count + (h .offered - 1) → Applied h missing o r
-  close-no-room r k v = with-offer r k (λ ws ss e w. absurd (omega (arith, count-of e, offered-of e)))
+  close-no-room r k v = with-offer r k (λ ws ss ls e w. absurd (omega (arith, count-of e, offered-of e)))
 
   -- all is withdrawn at o
   pub close-missing :
       h .offered ≤ 0 → missing ≡ true → h .count < 8 →
-      Applied h missing o (record { prices = set (h .prices) (h .count) o; levels = set (h .levels) (h .count) 0; count = h .count + 1; offered = h .offered })
-  close-missing k m n = without-offer _ k (λ ws e w.
+      Applied h missing o (record {
+        prices = set (h .prices) (h .count) o;
+        levels = set (h .levels) (h .count) 0;
+        count = h .count + 1;
+        offered = h .offered;
+        lodged = h .lodged;
+      })
+  close-missing k m n = without-offer _ k (λ ws ls e i w.
       let s : Step = record { price = o; level = 0 } in
       let l : h .count ≡ length ws = count-of e in
-      rw m
-      (same _ (heldHistory (ws ++ (s ∷ [])) none)
-      (ap (λ (x : History). set (x .prices) (h .count) o) e ∙ column-more (λ x. x .price) ws s (h .count) l n)
-      (ap (λ (x : History). set (x .levels) (h .count) 0) e ∙ column-more (λ x. x .level) ws s (h .count) l n)
+      let z : ls ≡ [] = i m in
+      let g : h ≡ heldHistory ws none [] = e ∙ ap (heldHistory ws none) z in
+      rw (m, z)
+      (same _ (heldHistory (ws ++ (s ∷ [])) none [])
+      (ap (λ (x : History). set (x .prices) (h .count) o) g ∙ column-more (λ x. x .price) ws s (h .count) l n)
+      (ap (λ (x : History). set (x .levels) (h .count) 0) g ∙ column-more (λ x. x .level) ws s (h .count) l n)
       (omega (arith, length-append ws (s ∷ [])))
-      (offered-of e)))
+      (offered-of g)
+      (lodged-of g)))
 
   pub close-full : h .offered ≤ 0 → missing ≡ true → 8 ≤ h .count → Applied h missing o h
-  close-full k m n = without-offer h k (λ ws e w. absurd (omega (arith, count-of e, rw m at w)))
+  close-full k m n = without-offer h k (λ ws ls e i w. absurd (omega (arith, count-of e, rw m at w)))
 
   -- no offer is missing: all stays
   pub close-kept : h .offered ≤ 0 → missing ≡ false → Applied h missing o h
-  close-kept k m = without-offer h k (λ ws e w. rw m (e ∙ ap (λ (x : List Step). heldHistory x none) (sym (append-nil ws))))
+  close-kept k m = without-offer h k (λ ws ls e i w. rw m (e ∙ ap (λ (x : List Step). heldHistory x none ls) (sym (append-nil ws))))

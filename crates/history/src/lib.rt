@@ -1,17 +1,18 @@
-// The history of a developer's withdrawals, with its standing offer, as the engine holds it.
+// The history of a developer's withdrawals, with its standing offer or lodged steps, as the engine holds it.
 ghost use mathlib.Core.Path.{_≡_};
 ghost use mathlib.Core.List.{[]};
 ghost use Rattle.rules.specs.Ledger.{none};
 ghost use Rattle.rules.specs.Refusals.{falling};
-ghost use Rattle.history.specs.Held.{heldHistory, Offered, Applied, LastLevel, LevelAt};
+ghost use Rattle.history.specs.Held.{heldHistory, Offered, Lodged, ReachedNumber, Reached, Applied, LastLevel, LevelAt};
 
-// A developer's withdrawals, and behind them the steps of its standing offer, with zeros behind them.
-// `offered` is 0 for no offer, else 1 more than its steps.
+// A developer's withdrawals, behind them the steps of its standing offer, then its lodged steps that no closing has reached, with zeros behind
+// them. `offered` is 0 for no offer, else 1 more than its steps.
 pub struct History {
     pub prices: [u32; 8],
     pub levels: [u32; 8],
     pub count: usize,
     pub offered: usize,
+    pub lodged: usize,
 }
 
 // Whether the prices fall strictly from below the opening price and are at least the closing price.
@@ -39,13 +40,14 @@ impl History {
     pub const MOST: usize = 8;
 
     pub fn new() -> History
-        ensures { λ r. ⌜ r ≡ heldHistory [] none ⌝ }
+        ensures { λ r. ⌜ r ≡ heldHistory [] none [] ⌝ }
     {
         History {
             prices: [0; 8],
             levels: [0; 8],
             count: 0,
             offered: 0,
+            lodged: 0,
         }
     }
 
@@ -71,6 +73,59 @@ impl History {
             i += 1;
         }
         h.offered = i + 1;
+        h
+    }
+
+    // A history of a lodged list alone, as far as there is room (document 02, 5).
+    pub fn lodge(prices: &[u32], levels: &[u32]) -> History
+        ensures { λ r. ⌜ Lodged (now (prices .entry)) (now (levels .entry)) r ⌝ }
+    {
+        let empty = History::new();
+        let mut h = empty.offer(prices, levels);
+        h.offered = 0;
+        h.lodged = prices.len();
+        h
+    }
+
+    // How many of the lodged steps a closing at c reaches: the first ones, as prices fall.
+    fn reached(self, c: u32) -> usize
+        ensures { λ r. ⌜ ReachedNumber self c r ⌝ }
+    {
+        let n = self.count;
+        let mut i: usize = 0;
+        while i < self.lodged {
+            if 8 <= i {
+                return i;
+            }
+            if 8 - i <= n {
+                return i;
+            }
+            if self.prices[n + i] < c {
+                return i;
+            }
+            i += 1;
+        }
+        i
+    }
+
+    // The history once the lodged steps that a closing at c reaches are withdrawals (document 02, 5).
+    pub fn reach(self, c: u32) -> History
+        ensures { λ r. ⌜ Reached self c r ⌝ }
+    {
+        let n = self.count;
+        let k = self.reached(c);
+        let mut h = self;
+        if 8 < k {
+            return h;
+        }
+        if 8 - k < n {
+            return h;
+        }
+        if self.lodged < k {
+            return h;
+        }
+        h.count = n + k;
+        h.lodged = self.lodged - k;
         h
     }
 

@@ -1,20 +1,21 @@
 -- The developers' highest levels and lows, read place by place.
 use Prim.Native.Nat.{ℕ, suc, _+_, _≤_, _<_}
-use mathlib.Core.Path.{_≡_, refl, sym, ap, _∙_, subst}
+use mathlib.Core.Path.{_≡_, sym, ap, _∙_, subst}
 use mathlib.Core.Logic.{⊎-elim}
 use mathlib.Core.List.{List}
 use native.Mathlib.Omega.{arith}
 use lib.Dec.{leb}
 use lib.ListN.{length, getD, set}
-use Rattle.rules.specs.Ledger.{Standing, none, made, Developer, Ledger}
+use Rattle.rules.specs.Ledger.{Developer, Ledger}
 use Rattle.rules.specs.Clearing.{highest, quantityAfter, low, ofEach}
-use Rattle.sound.specs.Sound.{Sound, Registered}
+use Rattle.sound.specs.Sound.{Sound}
 use Rattle.reachable.specs.Checks.{levels-facts}
-use Rattle.reachable.specs.Bounds.{withdrawals-few, offer-fits}
+use Rattle.reachable.specs.Bounds.{withdrawals-few}
 use Rattle.levels.specs.Held.{heldLevels, Highest}
 use Rattle.levels.specs.declared.Levels.{Levels}
-use Rattle.history.specs.Held.{heldHistory, pending, LevelAt}
+use Rattle.history.specs.Held.{LevelAt}
 use Rattle.history.specs.declared.History.{History}
+use Rattle.auction.specs.Holds.{heldCourse}
 use Rattle.auction.specs.Places.{Filling, filling-next, filling-all, numbered-at}
 use Rattle.price.specs.Prices.{Highests, Lows}
 
@@ -23,12 +24,10 @@ use Rattle.price.specs.Prices.{Highests, Lows}
 pub levels-few : (l : Ledger) → Sound l → (n : ℕ) → length (l .developers n .declared .levels) ≤ 8
 levels-few l s n = ⊎-elim (λ e. subst (λ (x : Developer). length (x .declared .levels) ≤ 8) (sym e) (omega arith)) (λ r. levels-facts _ (r .developer .declared .levels) .few) (s .each n)
 
-pub history-few : (l : Ledger) → Sound l → (n : ℕ) → length (l .developers n .withdrawals) + length (pending (l .developers n .offer)) ≤ 8
-history-few l s n = ⊎-elim (λ e. subst (λ (x : Developer). length (x .withdrawals) + length (pending (x .offer)) ≤ 8) (sym e) (omega arith)) (λ r. go r (l .developers n .offer) refl) (s .each n)
-  where
-    go : Registered l n → (o : Standing) → l .developers n .offer ≡ o → length (l .developers n .withdrawals) + length (pending o) ≤ 8
-    go r none e = let w = withdrawals-few (r .developer) in omega arith
-    go r (made ss) e = offer-fits r e
+pub history-few : (l : Ledger) → Sound l → (n : ℕ) → length (l .developers n .withdrawals) ≤ 8
+history-few l s n = ⊎-elim
+    (λ e. subst (λ (x : Developer). length (x .withdrawals) ≤ 8) (sym e) (omega arith))
+    (λ r. withdrawals-few (r .developer)) (s .each n)
 
 -- ---- the loops
 
@@ -53,7 +52,7 @@ highest-all declared out i t w =
 
 pub record LowTurn (histories : List History) (firsts : List ℕ) (p : ℕ) (out : List ℕ) (i : ℕ) : Type 0 where
   pub within : i ≤ 32
-  pub part : (l : Ledger) → Sound l → histories ≡ ofEach (λ x. heldHistory (x .withdrawals) (x .offer)) l → firsts ≡ ofEach highest l → Filling (λ n. low p (l .developers n)) 0 out i
+  pub part : (l : Ledger) → Sound l → histories ≡ ofEach heldCourse l → firsts ≡ ofEach highest l → Filling (λ n. low p (l .developers n)) 0 out i
 
 pub low-first : (histories : List History) (firsts : List ℕ) (p : ℕ) (out : List ℕ) → length out ≡ 32 → LowTurn histories firsts p out 0
 low-first histories firsts p out e = record { within = omega arith; part = λ l s h g. record { long = e; done = λ j w. absurd (omega arith) } }
@@ -63,7 +62,8 @@ unfolding low
 low-next histories firsts p out i d v t w r = record {
   within = omega arith;
   part = λ l s h g. filling-next _ 0 out i v (t .part l s h g) w
-      (r .right (l .developers (suc i) .withdrawals) (l .developers (suc i) .offer) (ap (λ (xs : List History). getD xs i d) h ∙ numbered-at (λ n. heldHistory (l .developers n .withdrawals) (l .developers n .offer)) i d w) (history-few l s (suc i))
+      (r .right (l .developers (suc i) .withdrawals) (l .developers (suc i) .offer) (l .developers (suc i) .lodged)
+      (ap (λ (xs : List History). getD xs i d) h ∙ numbered-at (λ n. heldCourse (l .developers n)) i d w) (history-few l s (suc i))
       ∙ ap (λ (q : ℕ). quantityAfter (leb p) q (l .developers (suc i) .withdrawals)) (ap (λ (xs : List ℕ). getD xs i 0) g ∙ numbered-at (λ n. highest (l .developers n)) i 0 w));
 }
 

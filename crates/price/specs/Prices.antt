@@ -10,9 +10,8 @@ use Rattle.sound.specs.Sound.{Sound, started}
 use Rattle.sound.specs.Parts.{Part}
 use Rattle.levels.specs.Held.{heldLevels}
 use Rattle.levels.specs.declared.Levels.{Levels}
-use Rattle.history.specs.Held.{heldHistory}
 use Rattle.history.specs.declared.History.{History}
-use Rattle.auction.specs.Holds.{auctionOf}
+use Rattle.auction.specs.Holds.{heldCourse, auctionOf}
 use Rattle.auction.specs.declared.Auction.{Auction}
 use Rattle.price.specs.declared.Bracket.{Bracket}
 
@@ -22,7 +21,7 @@ pub record Highests (declared : List Levels) (r : List ℕ) : Type 0 where
 
 -- each developer's low at p, from its history and its highest level
 pub record Lows (histories : List History) (firsts : List ℕ) (p : ℕ) (r : List ℕ) : Type 0 where
-  pub right : (l : Ledger) → Sound l → histories ≡ ofEach (λ x. heldHistory (x .withdrawals) (x .offer)) l → firsts ≡ ofEach highest l → r ≡ ofEach (low p) l
+  pub right : (l : Ledger) → Sound l → histories ≡ ofEach heldCourse l → firsts ≡ ofEach highest l → r ≡ ofEach (low p) l
 
 -- The auction holds the sound ledger l, in which a round was opened; `firsts` are its developers' highest levels. `projects` are those of
 -- m, which is l or a part of it: a developer that is taken out is in no project

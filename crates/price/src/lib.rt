@@ -47,7 +47,7 @@ pub fn above(p: u32) -> u32
 }
 
 // Whether the sum of these projects' highs at p is at least Dem(p).
-fn covered_at(auction: Auction, projects: [u8; 32], highest: [u32; 32], p: u32) -> bool
+pub fn covered_at(auction: Auction, projects: [u8; 32], highest: [u32; 32], p: u32) -> bool
     ensures { λ r. ⌜ CoveredAt auction projects highest p r ⌝ }
 {
     let histories = auction.histories;

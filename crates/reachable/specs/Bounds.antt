@@ -30,15 +30,26 @@ falls-few {x = x} d ws e =
 pub withdrawals-few : {c a : ℕ} {x : Developer} → SoundDeveloper c a x → length (x .withdrawals) ≤ 8
 withdrawals-few {x = x} d = falls-few d (x .withdrawals) (d .falls)
 
+-- steps that fall from the quantity stand behind the withdrawals, and both are eight at most
+behind-few :
+    {c a : ℕ} {x : Developer} (ss : List Step) → SoundDeveloper c a x → lowering (x .declared .levels) (x .quantity) (levelsOf ss) ≡ true →
+    length (x .withdrawals) + length ss ≤ 8
+behind-few {x = x} ss d e =
+    let behind = subst (λ (q : ℕ). lowering (x .declared .levels) q (levelsOf ss) ≡ true) (d .quantity) e in
+    let falls = lowering-append (x .declared .levels) (highest x) (x .withdrawals) ss (d .falls) behind in
+    omega (arith, length-append (x .withdrawals) ss, falls-few d (x .withdrawals ++ ss) falls)
+
 -- the withdrawals and behind them the steps of the standing offer are eight at most
 pub offer-fits : {l : Ledger} {n : ℕ} {ss : List Step} → Registered l n → l .developers n .offer ≡ made ss → length (l .developers n .withdrawals) + length ss ≤ 8
 unfolding SoundOffer
 offer-fits {l} {n} {ss} r e =
     let x = l .developers n in
     let o : SoundSteps l x ss = subst (λ (s : Standing). SoundOffer l x s) e (r .offer) in
-    let behind = subst (λ (q : ℕ). lowering (x .declared .levels) q (levelsOf ss) ≡ true) (r .developer .quantity) (o .levels) in
-    let falls = lowering-append (x .declared .levels) (highest x) (x .withdrawals) ss (r .developer .falls) behind in
-    omega (arith, length-append (x .withdrawals) ss, falls-few (r .developer) (x .withdrawals ++ ss) falls)
+    behind-few ss (r .developer) (o .levels)
+
+-- and so are the withdrawals and the lodged steps not reached
+pub lodged-fits : {l : Ledger} {n : ℕ} → Registered l n → length (l .developers n .withdrawals) + length (l .developers n .lodged) ≤ 8
+lodged-fits {l} {n} r = behind-few (l .developers n .lodged) (r .developer) (r .lodged .levels)
 
 descends-each : (c a : ℕ) (w : Step) (ws : List Step) → List·Memᴰ w ws → Descends c a ws → (c ≤ w .price) × (w .price ≤ a)
 unfolding Descends

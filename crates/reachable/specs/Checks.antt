@@ -4,9 +4,10 @@ use mathlib.Core.Path.{_≡_, refl}
 use mathlib.Core.Bool.{Bool, true, false}
 use mathlib.Core.List.{List}
 use native.Mathlib.Omega.{arith}
-use Rattle.rules.specs.Ledger.{Settings, Declaration, Offer, SetUp, Register, Open, Close, Developer, Ledger}
-use Rattle.rules.specs.Refusals.{isFresh, isReady, mayOpen, inRound, settingsOk, numbersOk, declarationOk, closingOk, startCovered, isNone, mayOffer, pricesOk, lowering, check, moveNumber, number}
-pub use Rattle.rules.specs.CheckLaws.{Numbers, numbers-facts, levels-facts, Declared, declaration-facts, closing-facts, may-offer-facts, prices-facts}
+use Rattle.rules.specs.Ledger.{Settings, Declaration, Offer, Lodge, SetUp, Register, Open, Close, Developer, Ledger}
+use Rattle.rules.specs.Clearing.{highest}
+use Rattle.rules.specs.Refusals.{isFresh, isReady, mayOpen, inRound, settingsOk, numbersOk, declarationOk, floor, closingOk, startCovered, isNone, isOfKind, pricesOk, lowering, check, moveNumber, number}
+pub use Rattle.rules.specs.CheckLaws.{Numbers, numbers-facts, levels-facts, Declared, declaration-facts, closing-facts, of-kind-facts, prices-facts}
 
 pub record SetUpPassed (l : Ledger) (s : Settings) : Type 0 where
   pub phase : isFresh (l .phase) ≡ true
@@ -24,10 +25,16 @@ pub record OpenPassed (l : Ledger) (c : ℕ) : Type 0 where
 
 pub record OfferPassed (l : Ledger) (n : ℕ) (x : Developer) (ps qs : List ℕ) : Type 0 where
   pub phase : inRound (l .phase) ≡ true
-  pub developer : mayOffer n (x .declared .kind) ≡ true
+  pub developer : isOfKind 2 n (x .declared .kind) ≡ true
   pub first : isNone (x .offer) ≡ true
   pub prices : pricesOk (l .closing) (l .opening) ps qs ≡ true
   pub levels : lowering (x .declared .levels) (x .quantity) qs ≡ true
+
+pub record LodgePassed (l : Ledger) (n : ℕ) (x : Developer) (ps qs : List ℕ) : Type 0 where
+  pub phase : isReady (l .phase) ≡ true
+  pub developer : isOfKind 1 n (x .declared .kind) ≡ true
+  pub prices : pricesOk (floor l) (l .settings .a) ps qs ≡ true
+  pub levels : lowering (x .declared .levels) (highest x) qs ≡ true
 
 pub record ClosePassed (l : Ledger) : Type 0 where
   pub phase : inRound (l .phase) ≡ true
@@ -63,11 +70,20 @@ pub offer-passed : (l : Ledger) (n : ℕ) (x : Developer) (ps qs : List ℕ) →
 unfolding moveNumber
 offer-passed l n x ps qs e =
     let p = passed (inRound (l .phase)) 1 _ e in
-    let q = passed (mayOffer n (x .declared .kind)) 2 _ (p .1) in
+    let q = passed (isOfKind 2 n (x .declared .kind)) 2 _ (p .1) in
     let r = passed (isNone (x .offer)) 7 _ (q .1) in
     let s = passed (pricesOk (l .closing) (l .opening) ps qs) 5 _ (r .1) in
     let t = passed (lowering (x .declared .levels) (x .quantity) qs) 6 _ (s .1) in
     record { phase = p .0; developer = q .0; first = r .0; prices = s .0; levels = t .0 }
+
+pub lodge-passed : (l : Ledger) (n : ℕ) (x : Developer) (ps qs : List ℕ) → moveNumber l n x (Lodge ps qs) ≡ 0 → LodgePassed l n x ps qs
+unfolding moveNumber
+lodge-passed l n x ps qs e =
+    let p = passed (isReady (l .phase)) 1 _ e in
+    let q = passed (isOfKind 1 n (x .declared .kind)) 14 _ (p .1) in
+    let s = passed (pricesOk (floor l) (l .settings .a) ps qs) 5 _ (q .1) in
+    let t = passed (lowering (x .declared .levels) (highest x) qs) 6 _ (s .1) in
+    record { phase = p .0; developer = q .0; prices = s .0; levels = t .0 }
 
 pub close-passed : (l : Ledger) → number l Close ≡ 0 → ClosePassed l
 unfolding number

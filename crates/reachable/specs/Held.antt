@@ -9,8 +9,8 @@ use borrow.Author.Tests.{eqb-true}
 use Rattle.numbers.specs.Cases.{clash}
 use Rattle.rules.specs.Ledger.{Standing, none, made, Developer, Phase, Fresh, Ready, Round, Between, Closed, Ledger, nobody, put, withDevelopers}
 use Rattle.rules.specs.Clearing.{covered}
-use Rattle.rules.specs.Refusals.{isFresh, isReady, mayOpen, inRound}
-use Rattle.sound.specs.Sound.{started, appliedTo, SoundDeveloper, SoundOffer, Stands, Sound}
+use Rattle.rules.specs.Refusals.{isFresh, isReady, mayOpen, inRound, floor}
+use Rattle.sound.specs.Sound.{started, appliedTo, SoundDeveloper, SoundOffer, SoundLodged, Stands, Sound}
 pub use Rattle.clearing.specs.ClosingPrice.{started-not-fresh}
 
 -- ---- phases
@@ -62,14 +62,23 @@ applied-to-with Closed l f = refl
 pub developer-with : (l : Ledger) (f : ℕ → Developer) (x : Developer) → SoundDeveloper (appliedTo (l .phase) l) (l .settings .a) x → SoundDeveloper (appliedTo (l .phase) (withDevelopers l f)) (l .settings .a) x
 developer-with l f x d = subst (λ (c : ℕ). SoundDeveloper c (l .settings .a) x) (applied-to-with (l .phase) l f) d
 
-offer-with : (l : Ledger) (f : ℕ → Developer) (x : Developer) (o : Standing) → SoundOffer l x o → SoundOffer (withDevelopers l f) x o
+pub lodged-with : (l : Ledger) (f : ℕ → Developer) (x : Developer) → SoundLodged (floor l) (appliedTo (l .phase) l) x → SoundLodged (floor l) (appliedTo (l .phase) (withDevelopers l f)) x
+lodged-with l f x d = subst (λ (c : ℕ). SoundLodged (floor l) c x) (applied-to-with (l .phase) l f) d
+
+pub offer-with : (l : Ledger) (f : ℕ → Developer) (x : Developer) (o : Standing) → SoundOffer l x o → SoundOffer (withDevelopers l f) x o
 unfolding SoundOffer
 offer-with l f x none h = tt
 offer-with l f x (made ss) h = record { round = h .round; kind = h .kind; few = h .few; prices = h .prices; levels = h .levels }
 
 pub kept-with : (l : Ledger) (f : ℕ → Developer) (n : ℕ) (x : Developer) → Kept l n x → Kept (withDevelopers l f) n x
 kept-with l f n x k = ⊎-elim inl
-    (λ h. inr (record { number-low = h .number-low; number-high = h .number-high; developer = developer-with l f x (h .developer); offer = offer-with l f x (x .offer) (h .offer) })) k
+    (λ h. inr (record {
+      number-low = h .number-low;
+      number-high = h .number-high;
+      developer = developer-with l f x (h .developer);
+      offer = offer-with l f x (x .offer) (h .offer);
+      lodged = lodged-with l f x (h .lodged);
+    })) k
 
 -- a sound ledger, set up, stays sound with developers of which these hold
 pub record SoundWith (l : Ledger) (f : ℕ → Developer) : Type 0 where

@@ -1,20 +1,21 @@
 -- An accepted move of a developer keeps the ledger sound: it changes that developer's entry alone, and of it neither the declaration nor
 -- the withdrawals.
 use Prim.Native.Nat.{ℕ}
-use mathlib.Core.Path.{_≡_, refl, ap, subst, _∙_}
+use mathlib.Core.Path.{_≡_, refl, sym, ap, subst, _∙_}
 use mathlib.Core.Logic.{inr, ⊎-elim}
 use mathlib.Core.Bool.{true, false}
 use mathlib.Core.List.{List, []}
 use native.Mathlib.Omega.{arith}
-use Rattle.rules.specs.Ledger.{Declaration, Step, Move, Offer, By, made, Developer, Round, Ledger, put, withDeveloper, withOffer}
-use Rattle.rules.specs.Clearing.{high}
-use Rattle.rules.specs.Refusals.{isFresh, moveNumber}
-use Rattle.rules.specs.Rounds.{steps, moved, accepted}
-use Rattle.sound.specs.Sound.{started, SoundDeveloper, SoundSteps, SoundOffer, Stands, Registered, Sound}
+use Rattle.rules.specs.Ledger.{Declaration, Step, Move, Offer, Lodge, By, Standing, none, made, Developer, Phase, Ready, Round, Ledger, put, withDeveloper, withOffer, withLodged}
+use Rattle.rules.specs.Clearing.{highest, high}
+use Rattle.rules.specs.Refusals.{isFresh, inRound, floor, lowering, moveNumber}
+use Rattle.rules.specs.Rounds.{steps, lastLevel, moved, accepted}
+use Rattle.sound.specs.Sound.{started, appliedTo, SoundDeveloper, SoundSteps, SoundOffer, SoundLodged, Stands, Registered, Sound}
 use Rattle.sound.specs.StepLaws.{steps-prices, steps-levels, steps-length}
-use Rattle.reachable.specs.Checks.{OfferPassed, offer-passed, may-offer-facts, prices-facts}
+use Rattle.reachable.specs.Checks.{OfferPassed, offer-passed, LodgePassed, lodge-passed, of-kind-facts, prices-facts}
 use Rattle.reachable.specs.Supplies.{covered-same}
-use Rattle.reachable.specs.Held.{in-round, Kept, by-put, developer-with, kept-with, sound-with}
+use Rattle.numbers.specs.Cases.{clash}
+use Rattle.reachable.specs.Held.{is-ready, in-round, Kept, by-put, developer-with, lodged-with, offer-with, kept-with, sound-with}
 
 -- ---- any move: y in the place of developer n's entry
 
@@ -46,10 +47,13 @@ module _ (l : Ledger) (n : ℕ) (y : Developer) (s : Sound l) (f : isFresh (l .p
     alone = λ m j. rw (declared-stays m, declared-stays j) (s .alone m j);
   })
 
--- ---- an offer
+-- a developer of a kind is registered
+registered-kind : (l : Ledger) (n : ℕ) → Sound l → (k : ℕ) → l .developers n .declared .kind ≡ k → (k ≡ 0 → ⊥) → Registered l n
+registered-kind l n s k e not = ⊎-elim
+    (λ g. let z : l .developers n .declared .kind ≡ 0 = ap (λ (d : Developer). d .declared .kind) g in absurd (not (sym e ∙ z)))
+    (λ h. h) (s .each n)
 
-offering-sound : (c a : ℕ) (x : Developer) (ss : List Step) → SoundDeveloper c a x → SoundDeveloper c a (withOffer x (made ss))
-offering-sound c a x ss d = record { declared = d .declared; falls = d .falls; prices = d .prices; quantity = d .quantity; existing = d .existing }
+-- ---- an offer
 
 module _ (l : Ledger) (n : ℕ) (ps qs : List ℕ) (s : Sound l) (p : OfferPassed l n (l .developers n) ps qs) where
   abbrev offering : Developer
@@ -60,32 +64,85 @@ module _ (l : Ledger) (n : ℕ) (ps qs : List ℕ) (s : Sound l) (p : OfferPasse
       let f = prices-facts _ _ ps qs (p .prices) in
       record {
         round = p .phase;
-        kind = may-offer-facts n _ (p .developer) .2;
+        kind = of-kind-facts 2 n _ (p .developer) .2;
         few = omega (arith, steps-length ps qs (f .same));
         prices = rw (steps-prices ps qs (f .same)) (f .falls);
         levels = rw (steps-levels ps qs (f .same)) (p .levels);
       }
 
-  registered : Registered l n
-  registered = ⊎-elim
-      (λ e. let z : l .developers n .declared .kind ≡ 0 = ap (λ (d : Developer). d .declared .kind) e in absurd (omega (arith, may-offer-facts n _ (p .developer))))
-      (λ h. h) (s .each n)
-
   offer-moved : Moved l n offering
   unfolding SoundOffer
-  offer-moved = record {
-    declared = refl;
-    withdrawals = refl;
-    stands = record {
-      number-low = registered .number-low;
-      number-high = registered .number-high;
-      developer = offering-sound _ _ (l .developers n) (steps ps qs) (developer-with l (put n offering (l .developers)) (l .developers n) (registered .developer));
-      offer = given;
-    };
-  }
+  offer-moved =
+      let r = registered-kind l n s 2 (of-kind-facts 2 n _ (p .developer) .2) (λ z. omega arith) in
+      let d = developer-with l (put n offering (l .developers)) (l .developers n) (r .developer) in
+      let g = lodged-with l (put n offering (l .developers)) (l .developers n) (r .lodged) in
+      record {
+        declared = refl;
+        withdrawals = refl;
+        stands = record {
+          number-low = r .number-low;
+          number-high = r .number-high;
+          developer = record { declared = d .declared; falls = d .falls; prices = d .prices; quantity = d .quantity };
+          offer = given;
+          lodged = record { kind = g .kind; prices = g .prices; levels = g .levels };
+        };
+      }
+
+-- ---- a lodged list
+
+module _ (l : Ledger) (n : ℕ) (ps qs : List ℕ) (s : Sound l) (p : LodgePassed l n (l .developers n) ps qs) where
+  abbrev lodging : Developer
+  lodging = withLodged (l .developers n) (steps ps qs)
+
+  ready : l .phase ≡ Ready
+  ready = is-ready (l .phase) (p .phase)
+
+  existing : l .developers n .declared .kind ≡ 1
+  existing = of-kind-facts 1 n _ (p .developer) .2
+
+  registered : Registered l n
+  registered = registered-kind l n s 1 existing (λ z. omega arith)
+
+  -- before the first round nothing is withdrawn
+  whole : l .developers n .quantity ≡ highest (l .developers n)
+  unfolding lastLevel
+  whole = registered .developer .quantity ∙ ap (lastLevel (highest (l .developers n))) (s .idle (ap started ready) n)
+
+  lodged-list : SoundLodged (floor l) (appliedTo (l .phase) (withDeveloper l n lodging)) lodging
+  lodged-list =
+      let f = prices-facts _ _ ps qs (p .prices) in
+      subst (λ (q : Phase). SoundLodged (floor l) (appliedTo q (withDeveloper l n lodging)) lodging) (sym ready) (record {
+        kind = λ e. absurd (omega (arith, existing, e));
+        prices = rw (steps-prices ps qs (f .same)) (f .falls);
+        levels = rw (steps-levels ps qs (f .same), whole) (p .levels);
+      })
+
+  lodge-moved : Moved l n lodging
+  unfolding SoundOffer
+  lodge-moved =
+      let d = developer-with l (put n lodging (l .developers)) (l .developers n) (registered .developer) in
+      record {
+        declared = refl;
+        withdrawals = refl;
+        stands = record {
+          number-low = registered .number-low;
+          number-high = registered .number-high;
+          developer = record { declared = d .declared; falls = d .falls; prices = d .prices; quantity = d .quantity };
+          offer = no-offer (l .developers n .offer) (registered .offer);
+          lodged = lodged-list;
+        };
+      }
+    where
+      -- no round is open, so no offer stands
+      no-offer : (o : Standing) → SoundOffer l (l .developers n) o → SoundOffer (withDeveloper l n lodging) lodging o
+      no-offer none h = tt
+      no-offer (made ss) h = absurd (clash (h .round) (ap inRound ready))
 
 pub sound-move : (l : Ledger) (n : ℕ) (m : Move) → Sound l → moveNumber l n (l .developers n) m ≡ 0 → Sound (accepted l (By n m))
 unfolding accepted moved
 sound-move l n (Offer ps qs) s e =
     let p = offer-passed l n (l .developers n) ps qs e in
     sound-entry l n _ s (ap isFresh (in-round (l .phase) (p .phase))) (offer-moved l n ps qs s p)
+sound-move l n (Lodge ps qs) s e =
+    let p = lodge-passed l n (l .developers n) ps qs e in
+    sound-entry l n _ s (ap isFresh (is-ready (l .phase) (p .phase))) (lodge-moved l n ps qs s p)

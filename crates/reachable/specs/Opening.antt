@@ -8,9 +8,9 @@ use native.Mathlib.Nat.{le-refl}
 use Rattle.numbers.specs.Cases.{clash}
 use Rattle.rules.specs.Ledger.{Open, Standing, none, made, Developer, Round, Ledger, withPhase, withPrices}
 use Rattle.rules.specs.Clearing.{developersOf, greatestOf, supply, covered}
-use Rattle.rules.specs.Refusals.{isFresh, isReady, inRound, openingPrice, startCovered}
+use Rattle.rules.specs.Refusals.{isFresh, isReady, inRound, floor, openingPrice, startCovered}
 use Rattle.rules.specs.Rounds.{accepted}
-use Rattle.sound.specs.Sound.{started, appliedTo, SoundDeveloper, SoundOffer, RoundPrices, Sound}
+use Rattle.sound.specs.Sound.{started, appliedTo, SoundDeveloper, SoundOffer, SoundLodged, RoundPrices, Sound}
 use Rattle.reachable.specs.Checks.{OpenPassed, closing-facts}
 use Rattle.reachable.specs.Held.{by-may-open, Kept}
 
@@ -48,6 +48,7 @@ module _ (l : Ledger) (c : ℕ) (s : Sound l) (p : OpenPassed l c) where
         number-high = h .number-high;
         developer = subst (λ (b : ℕ). SoundDeveloper b (l .settings .a) (l .developers n)) opening-applied (h .developer);
         offer = offers (l .developers n) (l .developers n .offer) (h .offer);
+        lodged = subst (λ (b : ℕ). SoundLodged (floor l) b (l .developers n)) opening-applied (h .lodged);
       })) (s .each n)
 
   pub sound-open : Sound (accepted l (Open c))

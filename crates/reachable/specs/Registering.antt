@@ -11,7 +11,7 @@ use Rattle.numbers.specs.Cases.{and-true, clash}
 use Rattle.numbers.specs.ListLaws.{all-true}
 use Rattle.rules.specs.Ledger.{Declaration, Register, Developer, Ready, Ledger, put, withDevelopers, newcomer}
 use Rattle.rules.specs.Clearing.{developersOf}
-use Rattle.rules.specs.Refusals.{isFresh, mayJoin, lowering}
+use Rattle.rules.specs.Refusals.{isFresh, mayJoin, falling, lowering}
 use Rattle.rules.specs.Rounds.{lastLevel, accepted}
 use Rattle.rules.specs.Projects.{in-developers-of}
 use Rattle.sound.specs.Sound.{started, Descends, SoundDeclaration, SoundDeveloper, SoundOffer, Stands, Sound}
@@ -35,7 +35,7 @@ joined-kinds l s k kind m e h g =
 
 newcomer-sound : (c a : ℕ) (x : Declaration) → SoundDeclaration x → SoundDeveloper c a (newcomer x)
 unfolding lowering Descends lastLevel
-newcomer-sound c a x d = record { declared = d; falls = refl; prices = tt; quantity = refl; existing = λ e. refl }
+newcomer-sound c a x d = record { declared = d; falls = refl; prices = tt; quantity = refl }
 
 module _ (l : Ledger) (n : ℕ) (x : Declaration) (s : Sound l) (p : RegisterPassed l n x) where
   numbers : Numbers (x .project) n (l .developers n .declared .project)
@@ -48,12 +48,13 @@ module _ (l : Ledger) (n : ℕ) (x : Declaration) (s : Sound l) (p : RegisterPas
   next = put n (newcomer x) (l .developers)
 
   held : Stands (withDevelopers l next) n (newcomer x)
-  unfolding SoundOffer
+  unfolding SoundOffer falling lowering
   held = record {
     number-low = numbers .number-low;
     number-high = numbers .number-high;
     developer = newcomer-sound _ _ x (record { project-low = numbers .project-low; project-high = numbers .project-high; kind = declared .kind; levels = declared .levels });
     offer = tt;
+    lodged = record { kind = λ e. refl; prices = refl; levels = refl };
   }
 
   kinds : (m : ℕ) → l .developers m .declared .project ≡ x .project → (x .kind ≡ 2) × (l .developers m .declared .kind ≡ 2)

@@ -6,7 +6,7 @@ use mathlib.Core.Option.{Option, none, some}
 use lib.Dec.{eqb}
 use lib.ListN.{getD, drop}
 use Rattle.format.specs.Fields.{RawCall, read}
-use Rattle.rules.specs.Ledger.{settingsOf, Offer, Call, SetUp, Register, Open, By, Close}
+use Rattle.rules.specs.Ledger.{settingsOf, Move, Offer, Lodge, Call, SetUp, Register, Open, By, Close}
 
 pub data Order : Type 0 where
   Malformed : Order
@@ -38,9 +38,9 @@ registrationOf ns = Register (getD ns 1 0) (record {
   levels = drop 6 ns;
 })
 
--- 04 offer: developer, count, steps of price and level
-abbrev pub offerOf : List ℕ → Call
-offerOf ns = By (getD ns 0 0) (Offer (firsts (drop 2 ns)) (seconds (drop 2 ns)))
+-- 04 offer and 07 lodging (document 02, 5): developer, count, steps of price and level
+abbrev pub moveOf : (List ℕ → List ℕ → Move) → List ℕ → Call
+moveOf move ns = By (getD ns 0 0) (move (firsts (drop 2 ns)) (seconds (drop 2 ns)))
 
 -- by the frame's kind; a kind that asks nothing would be malformed, though the table had it
 unfoldable pub orderOf : RawCall → Order
@@ -48,10 +48,11 @@ orderOf c =
     cond (eqb (c .kind) 1) (Asks (setUpOf (c .fields)))
     (cond (eqb (c .kind) 2) (Asks (registrationOf (c .fields)))
     (cond (eqb (c .kind) 3) (Asks (Open (getD (c .fields) 0 0)))
-    (cond (eqb (c .kind) 4) (Asks (offerOf (c .fields)))
+    (cond (eqb (c .kind) 4) (Asks (moveOf Offer (c .fields)))
     (cond (eqb (c .kind) 5) (Asks Close)
     (cond (eqb (c .kind) 6) (Settle (getD (c .fields) 0 0))
-    Malformed)))))
+    (cond (eqb (c .kind) 7) (Asks (moveOf Lodge (c .fields)))
+    Malformed))))))
 
 unfoldable pub ordered : Option RawCall → Order
 ordered none = Malformed

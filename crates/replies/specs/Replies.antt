@@ -1,4 +1,4 @@
--- The replies to a record (document 01, Frames; document 02, 4): over its bytes, the ledger and nothing of the engine.
+-- The replies to a record (document 01, Frames; document 02, 4 and 5): over its bytes, the ledger and nothing of the engine.
 use Prim.Native.Nat.{ℕ, suc, _-_, _^_}
 use mathlib.Core.Bool.{cond}
 use mathlib.Core.List.{List, [], _∷_, _++_, map, flatten}
@@ -8,7 +8,7 @@ use lib.ListN.{length}
 use Rattle.format.specs.Hex.{digits}
 use Rattle.format.specs.Fields.{textAt}
 use Rattle.format.specs.Lines.{lines}
-use Rattle.rules.specs.Ledger.{Offer, Call, SetUp, Register, Open, By, Close, Ledger, start}
+use Rattle.rules.specs.Ledger.{Offer, Lodge, Call, SetUp, Register, Open, By, Close, Ledger, start}
 use Rattle.rules.specs.Rounds.{step, Answered, answer}
 use Rattle.rules.specs.Settling.{Settlement, settlement, settlingNumber}
 use Rattle.replies.specs.Orders.{Order, Malformed, Asks, Settle, orderIn}
@@ -18,6 +18,7 @@ kindOf (SetUp s) = 1
 kindOf (Register n x) = 2
 kindOf (Open c) = 3
 kindOf (By n (Offer ps qs)) = 4
+kindOf (By n (Lodge ps qs)) = 7
 kindOf Close = 5
 
 -- a signed number in two's complement, as a number of 64 bits
@@ -63,9 +64,9 @@ settlingHead =
 abbrev pub recordDigits : List ℕ → List ℕ
 recordDigits bytes = flatten (map (digits 2) bytes)
 
--- .. and behind the records the remainder
+-- .. and behind the records the remainder, then the second price and its mark, 1 short (document 02, 5)
 abbrev pub settlingTail : List (Field Settlement)
-settlingTail = field 8 (λ s. s .remainder) ∷ []
+settlingTail = field 8 (λ s. s .remainder) ∷ field 8 (λ s. s .second) ∷ field 2 (λ s. cond (s .short) 1 0) ∷ []
 
 unfoldable pub closingText : Answered → List ℕ
 closingText r = fieldsText closingFields r

@@ -10,9 +10,10 @@ use Rattle.curve.specs.Demand.{dem, inBounds}
 use Rattle.curve.specs.Remainder.{exactTimesCe, remainder}
 use Rattle.choices.specs.Choices.{spread, choices, covering, larger, before, best, bestOf}
 use Rattle.rules.specs.Clearing.{quantityAfter, high, low, developersOf, greatestOf, supply, covered, closingPrice}
-use Rattle.rules.specs.Refusals.{settingsOk, numbersOk, rising, levelsOk, mayJoin, declarationOk, openingPrice, closingOk, startCovered, mayOffer, falling, pricesOk, lowering, moveNumber, number}
-use Rattle.rules.specs.Rounds.{steps, withdrawsAll, added, lastLevel, applied, supplyAfter, thousandths, clears, phaseAfter, moved, accepted, step, excess, granted, answer}
+use Rattle.rules.specs.Refusals.{settingsOk, numbersOk, rising, levelsOk, mayJoin, declarationOk, openingPrice, closingOk, startCovered, isOfKind, falling, pricesOk, lowering, moveNumber, number}
+use Rattle.rules.specs.Rounds.{steps, withdrawsAll, reached, unreached, added, lastLevel, applied, supplyAfter, thousandths, clears, phaseAfter, moved, accepted, step, excess, granted, answer}
 use Rattle.rules.specs.Award.{openBetween, openToDeveloper, openTo, insert, insertAll, declaredBy, openLevels, row, rows, admissible, coveringChoices, award, preferred, mostPreferred, firstPreferred, winner}
+use Rattle.rules.specs.Second.{lodgedApplied, takenOut, remaining, short, secondPrice}
 use Rattle.rules.specs.Settling.{recordsFrom, records, settlingNumber, settlementAt, settlement}
 use Rattle.curve.specs.Marked.{MarkedCases}
 use Rattle.rules.specs.Sample.{sample, SampleSettled, shown-jointly}
@@ -60,7 +61,7 @@ sampleReply = text (
     ∷ "0400"
     ∷ "0400"
     ∷ "0500FFFFFFFFFFFFFFC900000000"
-    ∷ "06000000659000000003CA00000003FC0000000400000003020101000003340203000000C800000000"
+    ∷ "06000000659000000003CA00000003FC0000000400000003020101000003340203000000C8000000000000659000"
     ∷ [])
 
 sample-asks : map orderIn (lines sampleRecord) ≡ map Asks sample ++ (Settle 100 ∷ [])
@@ -77,10 +78,11 @@ sample-written = refl
 sample-replied : replies sampleRecord ≡ sampleReply
 unfolding codes line text flatten oneTo keep total greatest lastOr any all leastFrom dem exactTimesCe remainder inBounds
     quantityAfter high low developersOf greatestOf supply covered closingPrice
-    settingsOk numbersOk rising levelsOk mayJoin declarationOk openingPrice closingOk startCovered mayOffer falling pricesOk lowering moveNumber number
-    steps withdrawsAll added lastLevel applied supplyAfter thousandths clears phaseAfter moved accepted step excess granted answer
+    settingsOk numbersOk rising levelsOk mayJoin declarationOk openingPrice closingOk startCovered isOfKind falling pricesOk lowering moveNumber number
+    steps withdrawsAll reached unreached added lastLevel applied supplyAfter thousandths clears phaseAfter moved accepted step excess granted answer
     spread choices covering larger before best bestOf
     openBetween openToDeveloper openTo insert insertAll declaredBy openLevels row rows admissible coveringChoices award preferred mostPreferred firstPreferred winner
+    lodgedApplied takenOut remaining short secondPrice
     recordsFrom records settlingNumber settlementAt settlement
     isHex valueOf charOf digits numberFrom known fixed each count layout fieldsAt textAt kindOf asked wellFormed callOf read onFirst lines
     firsts seconds orderOf ordered orderIn closingText settlingText answerLine replyTo after repliesFrom replies

@@ -19,7 +19,7 @@ use Rattle.format.specs.FieldLaws.{WellFormed, reads, Formed, formed, as-many-a
 use Rattle.format.specs.Lines.{lines}
 use Rattle.format.specs.Written.{lineOf, frameOf, writable}
 use Rattle.format.specs.WrittenLaws.{reads-back, writes-back, frame-first}
-use Rattle.rules.specs.Ledger.{Ledger, start, Offer, SetUp, Register, Open, By, Close}
+use Rattle.rules.specs.Ledger.{Ledger, start, Move, Offer, Lodge, SetUp, Register, Open, By, Close}
 use Rattle.replies.specs.Orders.{Order, Malformed, Asks, Settle, firsts, seconds, orderOf, ordered, orderIn}
 use Rattle.replies.specs.WrittenOrders.{raw, paired, rawOf, listsMatch, writableOrder, frameOfOrder}
 use Rattle.replies.specs.Replies.{replyTo, after, repliesFrom, replies}
@@ -55,15 +55,19 @@ paired-back (p ∷ q ∷ ss) (suc n) e =
 
 -- ---- an order from its kind and fields
 
+by-steps : (n : ℕ) (move : List ℕ → List ℕ → Move) (ps qs : List ℕ) → eqb (length ps) (length qs) ≡ true → Asks (By n (move (firsts (paired ps qs)) (seconds (paired ps qs)))) ≡ Asks (By n (move ps qs))
+by-steps n move ps qs e =
+    let m = eqb-true (length ps) (length qs) e in
+    ap₂ (λ (xs : List ℕ) (ys : List ℕ). Asks (By n (move xs ys))) (firsts-paired ps qs m) (seconds-paired ps qs m)
+
 order-raw : (o : Order) → listsMatch o ≡ true → orderOf (rawOf o) ≡ o
 unfolding orderOf rawOf listsMatch
 order-raw Malformed e = refl
 order-raw (Asks (SetUp s)) e = refl
 order-raw (Asks (Register n x)) e = refl
 order-raw (Asks (Open c)) e = refl
-order-raw (Asks (By n (Offer ps qs))) e =
-    let m = eqb-true (length ps) (length qs) e in
-    ap₂ (λ (xs : List ℕ) (ys : List ℕ). Asks (By n (Offer xs ys))) (firsts-paired ps qs m) (seconds-paired ps qs m)
+order-raw (Asks (By n (Offer ps qs))) e = by-steps n Offer ps qs e
+order-raw (Asks (By n (Lodge ps qs))) e = by-steps n Lodge ps qs e
 order-raw (Asks Close) e = refl
 order-raw (Settle limit) e = refl
 
@@ -141,7 +145,8 @@ raw-order c f =
     (at-kind c 4 _ _ (λ e. with-steps c f 4 e 1 refl refl)
     (at-kind c 5 _ _ (λ e. (plain c f 5 e refl, refl))
     (at-kind c 6 _ _ (λ e. (plain c f 6 e refl, refl))
-    (record { back = λ o. absurd (o refl) }))))))
+    (at-kind c 7 _ _ (λ e. with-steps c f 7 e 1 refl refl)
+    (record { back = λ o. absurd (o refl) })))))))
 
 -- ---- a line
 

@@ -1,5 +1,6 @@
 // A reply in numbers, its size, and its text written at the start of the tail that it is handed.
 ghost use mathlib.Core.Path.{_≡_};
+ghost use mathlib.Core.Bool.{cond};
 ghost use mathlib.Core.List.{map, flatten};
 ghost use Prim.Native.Nat.{min, _*_, _≤_};
 ghost use lib.ListN.{length, take};
@@ -45,11 +46,11 @@ const CLOSING: Form = Form {
     tail: [0, 0, 0, 0, 0, 0, 0, 0],
 };
 
-// 06: P, Dem, total, choices, covering, awards; behind the awards the remainder.
+// 06: P, Dem, total, choices, covering, awards; behind the awards the remainder, the second price and its mark.
 const SETTLING: Form = Form {
     head: [8, 10, 10, 8, 8, 2, 0, 0],
     room: 192,
-    tail: [8, 0, 0, 0, 0, 0, 0, 0],
+    tail: [8, 8, 2, 0, 0, 0, 0, 0],
 };
 
 // The others add nothing.
@@ -83,6 +84,16 @@ pub fn closing_values(bits: u64, remainder: u32) -> Values
     }
 }
 
+// The mark of a second price: 1 where it is short.
+fn mark(short: bool) -> u64
+    ensures { λ r. ⌜ r ≡ cond short 1 0 ⌝ }
+{
+    if short {
+        return 1;
+    }
+    0
+}
+
 // Of a settling.
 pub fn settling_values(settled: Settled) -> Values
     ensures { λ r. ⌜ ((s : Settlement) → settled ≡ settledAs s → Valued s r) ⌝ }
@@ -98,7 +109,16 @@ pub fn settling_values(settled: Settled) -> Values
             0,
             0,
         ],
-        tail: [settled.remainder as u64, 0, 0, 0, 0, 0, 0, 0],
+        tail: [
+            settled.remainder as u64,
+            settled.second as u64,
+            mark(settled.short),
+            0,
+            0,
+            0,
+            0,
+            0,
+        ],
     }
 }
 

@@ -14,7 +14,7 @@ use Rattle.numbers.specs.ListLaws.{last-in, member-true}
 use Rattle.curve.specs.Demand.{inBounds, InBounds}
 use Rattle.curve.specs.Range.{in-bounds}
 use Rattle.rules.specs.Ledger.{Settings, Declaration, declaredOrZero, Ledger}
-use Rattle.rules.specs.Refusals.{settingsOk, isNumber, numbersOk, isKind, rising, levelsOk, mayJoin, declarationOk, floor, openingPrice, closingOk, mayOffer, falling, pricesOk, lowering}
+use Rattle.rules.specs.Refusals.{settingsOk, isNumber, numbersOk, isKind, rising, levelsOk, mayJoin, declarationOk, floor, openingPrice, closingOk, isOfKind, falling, pricesOk, lowering}
 
 -- ---- set-up
 
@@ -110,12 +110,12 @@ closing-facts l c e =
 
 -- ---- offers
 
-pub may-offer-facts : (n kind : ℕ) → mayOffer n kind ≡ true → (1 ≤ n) × (n ≤ 32) × (kind ≡ 2)
-unfolding mayOffer
-may-offer-facts n kind e =
-    let t = and-true (isNumber n) (eqb kind 2) e in
+pub of-kind-facts : (k n kind : ℕ) → isOfKind k n kind ≡ true → (1 ≤ n) × (n ≤ 32) × (kind ≡ k)
+unfolding isOfKind
+of-kind-facts k n kind e =
+    let t = and-true (isNumber n) (eqb kind k) e in
     let u = is-number n (t .0) in
-    (u .0, u .1, eqb-true kind 2 (t .1))
+    (u .0, u .1, eqb-true kind k (t .1))
 
 pub record Prices (c o : ℕ) (ps qs : List ℕ) : Type 0 where
   pub same : length ps ≡ length qs

@@ -38,9 +38,11 @@ pub record Step : Type 0 where
   pub price : ℕ
   pub level : ℕ
 
--- What a registered developer does for itself: it makes an offer, of prices and levels, of any lengths
+-- What a registered developer does for itself: it makes an offer, or, an existing plant, lodges a withdrawal list (document 02, 5), of prices
+-- and levels, of any lengths
 pub data Move : Type 0 where
   Offer : List ℕ → List ℕ → Move
+  Lodge : List ℕ → List ℕ → Move
 
 -- The calls, with any arguments, absurd ones too. A registration and a move name the developer
 pub data Call : Type 0 where
@@ -55,12 +57,14 @@ pub data Standing : Type 0 where
   none : Standing
   made : List Step → Standing
 
--- what is held of a developer number. Of one that is not registered, all is 0 or empty: `nobody`
+-- what is held of a developer number; `lodged` are the lodged steps that no closing has reached (document 02, 5). Of one that is not registered,
+-- all is 0 or empty: `nobody`
 pub record Developer : Type 0 where
   pub declared : Declaration
   pub quantity : ℕ
   pub withdrawals : List Step
   pub offer : Standing
+  pub lodged : List Step
 
 -- The phases of document 01, Rounds. Fresh: before set-up. Ready: set up, no round opened yet. Round: a round is open. Between: a round
 -- was closed, another may be opened. Closed: the auction is closed
@@ -87,6 +91,7 @@ nobody = record {
   quantity = 0;
   withdrawals = [];
   offer = none;
+  lodged = [];
 }
 
 -- the ledger starts empty
@@ -122,8 +127,11 @@ abbrev pub withDeveloper : Ledger → ℕ → Developer → Ledger
 withDeveloper l n x = withDevelopers l (put n x (l .developers))
 
 abbrev pub withOffer : Developer → Standing → Developer
-withOffer x o = record { declared = x .declared; quantity = x .quantity; withdrawals = x .withdrawals; offer = o }
+withOffer x o = record { declared = x .declared; quantity = x .quantity; withdrawals = x .withdrawals; offer = o; lodged = x .lodged }
+
+abbrev pub withLodged : Developer → List Step → Developer
+withLodged x ss = record { declared = x .declared; quantity = x .quantity; withdrawals = x .withdrawals; offer = x .offer; lodged = ss }
 
 -- a developer at its registration
 abbrev pub newcomer : Declaration → Developer
-newcomer x = record { declared = x; quantity = highestDeclared x; withdrawals = []; offer = none }
+newcomer x = record { declared = x; quantity = highestDeclared x; withdrawals = []; offer = none; lodged = [] }

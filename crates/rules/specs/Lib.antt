@@ -2,9 +2,11 @@ pub mod Ledger
 pub mod Clearing
 pub mod Refusals
 pub mod Rounds
+pub mod Second
 pub mod Award
 pub mod Settling
 pub mod Sample
+pub mod LodgingSample
 pub mod CheckLaws
 pub mod Projects
 pub mod RoundLaws

@@ -6,8 +6,8 @@ use lib.Dec.{leb, ltb, eqb}
 use lib.ListN.{length}
 use Rattle.numbers.specs.Lists.{all}
 use Rattle.curve.specs.Demand.{inBounds}
-use Rattle.rules.specs.Ledger.{Settings, Declaration, declaredOrZero, Move, Offer, Call, SetUp, Register, Open, By, Close, Standing, none, made, Developer, Phase, Fresh, Ready, Round, Between, Closed, Ledger}
-use Rattle.rules.specs.Clearing.{developersOf, covered}
+use Rattle.rules.specs.Ledger.{Settings, Declaration, declaredOrZero, Move, Offer, Lodge, Call, SetUp, Register, Open, By, Close, Standing, none, made, Developer, Phase, Fresh, Ready, Round, Between, Closed, Ledger}
+use Rattle.rules.specs.Clearing.{highest, developersOf, covered}
 
 -- ---- the phase that accepts a call (document 01, Rounds)
 
@@ -113,16 +113,18 @@ abbrev pub isNone : Standing → Bool
 isNone none = true
 isNone (made ss) = false
 
--- a developer of kind 2 alone makes offers
-unfoldable pub mayOffer : ℕ → ℕ → Bool
-mayOffer n kind = isNumber n && eqb kind 2
+-- the number n, under which this kind is registered, is that of a developer of kind k: one of kind 2 alone makes offers, one of kind 1 alone
+-- lodges a withdrawal list (document 02, 5)
+unfoldable pub isOfKind : ℕ → ℕ → ℕ → Bool
+isOfKind k n kind = isNumber n && eqb kind k
 
 -- prices fall strictly from below o, and are at least c
 unfoldable pub falling : ℕ → ℕ → List ℕ → Bool
 falling c o [] = true
 falling c o (p ∷ ps) = leb c p && ltb p o && falling c p ps
 
--- price and level lists of equal length, at most 8 steps, prices from c to o less 1: of an offer, from C to the opening price less 1
+-- price and level lists of equal length, at most 8 steps, prices from c to o less 1: of an offer, from C to the opening price less 1; of a
+-- lodged list, from the floor to A less 1 (document 02, 5)
 unfoldable pub pricesOk : ℕ → ℕ → List ℕ → List ℕ → Bool
 pricesOk c o ps qs = eqb (length ps) (length qs) && leb (length ps) 8 && falling c o ps
 
@@ -137,14 +139,20 @@ lowering declared q (v ∷ vs) = declaredOrZero declared v && ltb v q && lowerin
 abbrev pub check : Bool → ℕ → ℕ → ℕ
 check passes n next = cond passes next n
 
--- of a move of developer n, whose entry is x: no other developer's entry counts. Offer 2, 3, 8, 6, 7
+-- of a move of developer n, whose entry is x: no other developer's entry counts. Offer 2, 3, 8, 6, 7; lodging 2, 15, 6, 7, its levels from
+-- the highest declared down (document 02, 5)
 unfoldable pub moveNumber : Ledger → ℕ → Developer → Move → ℕ
 moveNumber l n x (Offer ps qs) =
     check (inRound (l .phase)) 2
-    (check (mayOffer n (x .declared .kind)) 3
+    (check (isOfKind 2 n (x .declared .kind)) 3
     (check (isNone (x .offer)) 8
     (check (pricesOk (l .closing) (l .opening) ps qs) 6
     (check (lowering (x .declared .levels) (x .quantity) qs) 7 0))))
+moveNumber l n x (Lodge ps qs) =
+    check (isReady (l .phase)) 2
+    (check (isOfKind 1 n (x .declared .kind)) 15
+    (check (pricesOk (floor l) (l .settings .a) ps qs) 6
+    (check (lowering (x .declared .levels) (highest x) qs) 7 0)))
 
 -- set-up 2, 1; registration 2, 3, 4; opening 2, 5, 9; closing 2
 unfoldable pub number : Ledger → Call → ℕ

@@ -13,7 +13,7 @@ use Rattle.curve.specs.Signs.{minus}
 use Rattle.rules.specs.Ledger.{Step, Close, Standing, none, made, Developer, Phase, Between, Closed, Ledger}
 use Rattle.rules.specs.Clearing.{developersOf, greatestOf, supply, demandAt}
 use Rattle.rules.specs.Refusals.{floor}
-use Rattle.rules.specs.Rounds.{withdrawsAll, added, lastLevel, applied, supplyAfter, thousandths, atMostZero, clears, phaseAfter, accepted, excess}
+use Rattle.rules.specs.Rounds.{withdrawsAll, reached, unreached, added, lastLevel, applied, supplyAfter, thousandths, atMostZero, clears, phaseAfter, accepted, excess}
 
 pub last-level-append : (q : ℕ) (ws vs : List Step) → lastLevel q (ws ++ vs) ≡ lastLevel (lastLevel q ws) vs
 unfolding lastLevel
@@ -22,49 +22,67 @@ last-level-append q (w ∷ ws) vs = last-level-append (w .level) ws vs
 
 -- ---- a developer after the closing
 
--- a missing offer adds a withdrawal to 0 at the opening price o, of a kind 2 developer above 0 alone
-pub by-missing : (P : List Step → Type 0) (o : ℕ) (x : Developer) → (x .declared .kind ≡ 2 → 0 < x .quantity → P (record { price = o; level = 0 } ∷ [])) → ((x .declared .kind ≡ 2 → 0 < x .quantity → ⊥) → P []) → P (added o x none)
+-- a missing offer adds a withdrawal to 0 at the opening price o, of a kind 2 developer above 0 alone; of the others the lodged steps reached
+pub by-missing :
+    (P : List Step → Type 0) (c o : ℕ) (x : Developer) → (x .declared .kind ≡ 2 → 0 < x .quantity → P (record { price = o; level = 0 } ∷ [])) →
+    ((x .declared .kind ≡ 2 → 0 < x .quantity → ⊥) → P (reached c o (x .lodged))) → P (added c o x none)
 unfolding added withdrawsAll
-by-missing P o x h g = go (withdrawsAll (x .declared .kind) (x .quantity)) refl
+by-missing P c o x h g = go (withdrawsAll (x .declared .kind) (x .quantity)) refl
   where
-    go : (b : Bool) → withdrawsAll (x .declared .kind) (x .quantity) ≡ b → P (cond b (record { price = o; level = 0 } ∷ []) [])
+    go : (b : Bool) → withdrawsAll (x .declared .kind) (x .quantity) ≡ b → P (cond b (record { price = o; level = 0 } ∷ []) (reached c o (x .lodged)))
     go true e = let t = and-true (eqb (x .declared .kind) 2) (ltb 0 (x .quantity)) e in h (eqb-true _ 2 (t .0)) (ltb-true 0 _ (t .1))
     go false e = g (λ k q. true≢false (rw (eq-eqb (x .declared .kind) 2 k, lt-ltb 0 (x .quantity) q) at e))
 
--- developer n after the closing: at quantity q, with ws behind its withdrawals and no offer; its declaration stays
+-- developer n after the closing: at quantity q, with ws behind its withdrawals and no offer; its declaration stays, and so do the lodged steps
+-- not reached
 pub record AfterClosing (l : Ledger) (n q : ℕ) (ws : List Step) : Type 0 where
   pub declared : accepted l Close .developers n .declared ≡ l .developers n .declared
   pub quantity : accepted l Close .developers n .quantity ≡ q
   pub withdrawals : accepted l Close .developers n .withdrawals ≡ l .developers n .withdrawals ++ ws
   pub offer : accepted l Close .developers n .offer ≡ none
+  pub lodged : accepted l Close .developers n .lodged ≡ unreached (l .closing) (l .opening) (l .developers n .lodged)
 
 -- it keeps its quantity and withdraws nothing
 abbrev pub Keeps : Ledger → ℕ → Type 0
 Keeps l n = AfterClosing l n (l .developers n .quantity) []
 
 module _ (l : Ledger) (n : ℕ) where
-  after-closing : (s : Standing) (ws : List Step) → l .developers n .offer ≡ s → added (l .opening) (l .developers n) s ≡ ws → AfterClosing l n (lastLevel (l .developers n .quantity) ws) ws
+  after-closing : (s : Standing) (ws : List Step) → l .developers n .offer ≡ s → added (l .closing) (l .opening) (l .developers n) s ≡ ws → AfterClosing l n (lastLevel (l .developers n .quantity) ws) ws
   unfolding accepted applied
   after-closing s ws e a =
-      let b = ap (added (l .opening) (l .developers n)) e ∙ a in
-      record { declared = refl; quantity = ap (lastLevel (l .developers n .quantity)) b; withdrawals = ap (λ vs. l .developers n .withdrawals ++ vs) b; offer = refl }
+      let b = ap (added (l .closing) (l .opening) (l .developers n)) e ∙ a in
+      record { declared = refl; quantity = ap (lastLevel (l .developers n .quantity)) b; withdrawals = ap (λ vs. l .developers n .withdrawals ++ vs) b; offer = refl; lodged = refl }
 
   -- a kind 2 developer without an offer and above 0 withdraws to 0 at the round's opening price
   pub missing-offer-withdraws : l .developers n .declared .kind ≡ 2 → l .developers n .offer ≡ none → 0 < l .developers n .quantity → AfterClosing l n 0 (record { price = l .opening; level = 0 } ∷ [])
   unfolding lastLevel
-  missing-offer-withdraws k e q = after-closing none _ e (by-missing (λ ws. ws ≡ record { price = l .opening; level = 0 } ∷ []) (l .opening) (l .developers n) (λ j i. refl) (λ not. absurd (not k q)))
+  missing-offer-withdraws k e q = after-closing none _ e (by-missing (λ ws. ws ≡ record { price = l .opening; level = 0 } ∷ []) (l .closing) (l .opening) (l .developers n) (λ j i. refl) (λ not. absurd (not k q)))
 
-  keeps : (l .developers n .declared .kind ≡ 2 → 0 < l .developers n .quantity → ⊥) → l .developers n .offer ≡ none → Keeps l n
-  unfolding lastLevel
-  keeps not e = after-closing none [] e (by-missing (λ ws. ws ≡ []) (l .opening) (l .developers n) (λ k q. absurd (not k q)) (λ i. refl))
+  -- the lodged steps that the closing applies
+  abbrev reachedNow : List Step
+  reachedNow = reached (l .closing) (l .opening) (l .developers n .lodged)
+
+  by-lodged :
+      (l .developers n .declared .kind ≡ 2 → 0 < l .developers n .quantity → ⊥) → l .developers n .offer ≡ none →
+      (ws : List Step) → reachedNow ≡ ws → AfterClosing l n (lastLevel (l .developers n .quantity) ws) ws
+  by-lodged not e ws r = after-closing none ws e (by-missing (λ vs. vs ≡ ws) (l .closing) (l .opening) (l .developers n) (λ k q. absurd (not k q)) (λ i. r))
 
   -- one at 0 already stays there
-  pub withdrawn-keeps : l .developers n .quantity ≡ 0 → l .developers n .offer ≡ none → Keeps l n
-  withdrawn-keeps z = keeps (λ k q. omega arith)
+  pub withdrawn-keeps : l .developers n .quantity ≡ 0 → l .developers n .offer ≡ none → reachedNow ≡ [] → Keeps l n
+  unfolding lastLevel
+  withdrawn-keeps z e = by-lodged (λ k q. omega arith) e []
 
-  -- an existing plant, which makes no offers, keeps its quantity
-  pub existing-keeps : l .developers n .declared .kind ≡ 1 → l .developers n .offer ≡ none → Keeps l n
-  existing-keeps o = keeps (λ k q. omega arith)
+  -- an existing plant, which makes no offers, keeps its quantity where no lodged step is reached (document 02, 5)
+  pub existing-keeps : l .developers n .declared .kind ≡ 1 → l .developers n .offer ≡ none → reachedNow ≡ [] → Keeps l n
+  unfolding lastLevel
+  existing-keeps o e = by-lodged (λ k q. omega arith) e []
+
+  -- else the steps reached are added, and the level of the last one becomes the quantity
+  pub lodged-withdraws :
+      l .developers n .declared .kind ≡ 1 → l .developers n .offer ≡ none →
+      (ss : List Step) (s : Step) → reachedNow ≡ ss ++ (s ∷ []) → AfterClosing l n (s .level) (ss ++ (s ∷ []))
+  unfolding lastLevel
+  lodged-withdraws o e ss s r = rw (last-level-append (l .developers n .quantity) ss (s ∷ [])) at (by-lodged (λ k q. omega arith) e (ss ++ (s ∷ [])) r)
 
   -- an offer of no steps keeps the quantity too
   pub empty-offer-keeps : l .developers n .offer ≡ made [] → Keeps l n

@@ -1,11 +1,12 @@
 -- What the accepted calls do to the ledger, the ledger of a list of calls, and the answers along it (document 01, Rounds and Closing
 -- price and award).
 use Prim.Native.Nat.{ℕ, suc, _/_}
-use mathlib.Core.Bool.{Bool, true, cond, _&&_, _||_}
+use mathlib.Core.Bool.{Bool, true, cond, not, _&&_, _||_}
 use mathlib.Core.List.{List, [], _∷_, _++_}
-use lib.Dec.{ltb, eqb}
+use lib.Dec.{leb, ltb, eqb}
 use lib.IntN.{ℤ, pos, negsuc, _-ℤ_}
-use Rattle.rules.specs.Ledger.{Step, Move, Offer, Call, SetUp, Register, Open, By, Close, Standing, none, made, Developer, Phase, Ready, Round, Between, Closed, Ledger, start, withPhase, withSettings, withPrices, withDevelopers, withDeveloper, withOffer, newcomer}
+use Rattle.numbers.specs.Lists.{keep}
+use Rattle.rules.specs.Ledger.{Step, Move, Offer, Lodge, Call, SetUp, Register, Open, By, Close, Standing, none, made, Developer, Phase, Ready, Round, Between, Closed, Ledger, start, withPhase, withSettings, withPrices, withDevelopers, withDeveloper, withOffer, withLodged, newcomer}
 use Rattle.rules.specs.Clearing.{supply, demandAt, remainderAt}
 use Rattle.rules.specs.Refusals.{floor, openingPrice, number}
 
@@ -21,11 +22,22 @@ steps (p ∷ ps) (q ∷ qs) = record { price = p; level = q } ∷ steps ps qs
 unfoldable pub withdrawsAll : ℕ → ℕ → Bool
 withdrawsAll kind q = eqb kind 2 && ltb 0 q
 
--- what closing adds to a developer's withdrawals: the steps of its offer, or all at the opening price for a kind 2 developer without one
--- and above 0 (3.7)
-unfoldable pub added : ℕ → Developer → Standing → List Step
-added o x (made ss) = ss
-added o x none = cond (withdrawsAll (x .declared .kind) (x .quantity)) (record { price = o; level = 0 } ∷ []) []
+-- a lodged step that closing a round applies: its price is from C to the opening price less 1 (document 02, 5)
+unfoldable pub reaches : ℕ → ℕ → Step → Bool
+reaches c o s = leb c (s .price) && ltb (s .price) o
+
+-- the lodged steps that it applies, in their order, and those that stay lodged
+unfoldable pub reached : ℕ → ℕ → List Step → List Step
+reached c o ss = keep (reaches c o) ss
+
+unfoldable pub unreached : ℕ → ℕ → List Step → List Step
+unreached c o ss = keep (λ s. not (reaches c o s)) ss
+
+-- what closing a round from o to c adds to a developer's withdrawals: the steps of its offer; without one, all at the opening price for a kind 2
+-- developer above 0 (3.7), and for the others the lodged steps reached (document 02, 5)
+unfoldable pub added : ℕ → ℕ → Developer → Standing → List Step
+added c o x (made ss) = ss
+added c o x none = cond (withdrawsAll (x .declared .kind) (x .quantity)) (record { price = o; level = 0 } ∷ []) (reached c o (x .lodged))
 
 -- the last level, or q of none
 unfoldable pub lastLevel : ℕ → List Step → ℕ
@@ -33,17 +45,18 @@ lastLevel q [] = q
 lastLevel q (s ∷ ss) = lastLevel (s .level) ss
 
 -- a developer after the closing: with these withdrawals added, and the last level added, if any, as its quantity
-unfoldable pub applied : ℕ → Developer → Developer
-applied o x = record {
+unfoldable pub applied : ℕ → ℕ → Developer → Developer
+applied c o x = record {
   declared = x .declared;
-  quantity = lastLevel (x .quantity) (added o x (x .offer));
-  withdrawals = x .withdrawals ++ added o x (x .offer);
+  quantity = lastLevel (x .quantity) (added c o x (x .offer));
+  withdrawals = x .withdrawals ++ added c o x (x .offer);
   offer = none;
+  lodged = unreached c o (x .lodged);
 }
 
 -- supply after the withdrawals at C: the sum over the projects of the greatest quantity among each one's developers
 unfoldable pub supplyAfter : Ledger → ℕ
-supplyAfter l = supply (λ x. applied (l .opening) x .quantity) l
+supplyAfter l = supply (λ x. applied (l .closing) (l .opening) x .quantity) l
 
 -- an excess in kWh per day read in thousandths of a GWh per day: what lies beyond the third decimal is dropped (document 02, 1)
 unfoldable pub thousandths : ℤ → ℤ
@@ -61,9 +74,10 @@ clears supply demand c floor = atMostZero (thousandths (pos supply -ℤ pos dema
 unfoldable pub phaseAfter : Ledger → Phase
 phaseAfter l = cond (clears (supplyAfter l) (demandAt l (l .closing)) (l .closing) (floor l)) Closed Between
 
--- a developer after an accepted move of its own: an offer stores its steps
+-- a developer after an accepted move of its own: an offer stores its steps; a lodged list replaces the one before (document 02, 5)
 unfoldable pub moved : Developer → Move → Developer
 moved x (Offer ps qs) = withOffer x (made (steps ps qs))
+moved x (Lodge ps qs) = withLodged x (steps ps qs)
 
 -- the ledger after an accepted call
 unfoldable pub accepted : Ledger → Call → Ledger
@@ -71,7 +85,7 @@ accepted l (SetUp s) = withPhase (withSettings l s) Ready
 accepted l (Register n x) = withDeveloper l n (newcomer x)
 accepted l (Open c) = withPhase (withPrices l (openingPrice l) c) Round
 accepted l (By n m) = withDeveloper l n (moved (l .developers n) m)
-accepted l Close = withPhase (withDevelopers l (λ n. applied (l .opening) (l .developers n))) (phaseAfter l)
+accepted l Close = withPhase (withDevelopers l (λ n. applied (l .closing) (l .opening) (l .developers n))) (phaseAfter l)
 
 -- ---- the ledger of a list of calls (document 01, Closing price and award)
 

@@ -1,6 +1,6 @@
 -- The award records and the settling's answer (document 01, Closing price and award).
 use Prim.Native.Nat.{ℕ, suc, min, _*_, _/_, _%_}
-use mathlib.Core.Bool.{cond}
+use mathlib.Core.Bool.{Bool, cond}
 use mathlib.Core.List.{List, [], _∷_}
 use lib.Dec.{leb, eqb}
 use lib.ListN.{length}
@@ -8,6 +8,7 @@ use Rattle.numbers.specs.Lists.{total}
 use Rattle.rules.specs.Ledger.{Ledger}
 use Rattle.rules.specs.Clearing.{demandAt, remainderAt, closingPrice}
 use Rattle.rules.specs.Refusals.{check, isClosed}
+use Rattle.rules.specs.Second.{short, secondPrice}
 use Rattle.rules.specs.Award.{admissible, coveringChoices, keptChoices, award, winner}
 
 -- an award record, 6 bytes: project, developer, quantity with the high byte first
@@ -29,8 +30,8 @@ settlingNumber l limit room =
     (check (leb (length (admissible l (closingPrice l))) (min limit 65536)) 10
     (check (leb (6 * length (records l (closingPrice l))) room) 11 0))
 
--- P, Dem(P) with its remainder (document 02, 4), the award's total, the numbers of admissible, of covering and of kept choices, and the award
--- records
+-- P, Dem(P) with its remainder (document 02, 4), the award's total, the numbers of admissible, of covering and of kept choices, the second
+-- price with its mark (document 02, 5), and the award records
 pub record Settlement : Type 0 where
   pub price : ℕ
   pub demand : ℕ
@@ -39,6 +40,8 @@ pub record Settlement : Type 0 where
   pub choices : ℕ
   pub covering : ℕ
   pub kept : ℕ
+  pub second : ℕ
+  pub short : Bool
   pub records : List (List ℕ)
 
 unfoldable pub settlementAt : Ledger → ℕ → Settlement
@@ -50,6 +53,8 @@ settlementAt l p = record {
   choices = length (admissible l p);
   covering = length (coveringChoices l p);
   kept = keptChoices l p;
+  second = secondPrice l;
+  short = short l;
   records = records l p;
 }
 

@@ -16,6 +16,7 @@ use Rattle.rules.specs.Clearing.{highest, high, low, covered, demandAt, remaind
 use Rattle.rules.specs.Refusals.{isClosed}
 use Rattle.rules.specs.Rounds.{ledger}
 use Rattle.rules.specs.Award.{rows, admissible, coveringChoices, keptChoices, award}
+use Rattle.rules.specs.Second.{short, secondPrice}
 use Rattle.rules.specs.Settling.{recordsFrom, records, settlingNumber, settlementAt, settlement}
 use Rattle.sound.specs.Sound.{Sound, started}
 use Rattle.sound.specs.Parts.{whole}
@@ -28,6 +29,8 @@ use Rattle.auction.specs.Demands.{demand-is, remainder-is}
 use Rattle.auction.specs.declared.Auction.{Auction}
 use Rattle.price.specs.Prices.{Highests, Lows, ClosingPrice, nextPrice}
 use Rattle.price.specs.PriceLaws.{next-price}
+use Rattle.second_price.specs.Taken.{SecondPrice}
+use Rattle.second_price.specs.declared.Second.{Second}
 use Rattle.table.specs.Rows.{Lays}
 use Rattle.table.specs.declared.Table.{Table}
 use Rattle.open_levels.specs.Tabled.{Tabled}
@@ -66,8 +69,8 @@ module _ (a : Auction) (limit : ℕ) (old : List ℕ) where
   unfolding settlingNumber
   settle-phase z = refusal 2 (omega arith) (λ l s h. simp (closed-is l h ∙ ne-eqb _ 4 z))
 
--- what the parts computed: P, demand there with its remainder, and the selection from the table of open levels
-pub record Computed (a : Auction) (limit p demand remainder : ℕ) (lows highs : List ℕ) (s : Selected) : Type 0 where
+-- what the parts computed: P, the second price, demand there with its remainder, and the selection from the table of open levels
+pub record Computed (a : Auction) (limit p demand remainder : ℕ) (lows highs : List ℕ) (t : Second) (s : Selected) : Type 0 where
   pub phase : a .phase ≡ 4
   pub highest : List ℕ
   pub next : ℕ
@@ -80,27 +83,32 @@ pub record Computed (a : Auction) (limit p demand remainder : ℕ) (lows highs :
   pub tabled : Tabled (a .projects) (a .declared) lows highs table
   pub demand-at : demand ≡ demandBy (a .settings) p
   pub remainder-at : remainder ≡ remainderBy (a .settings) p
+  pub second-at : SecondPrice a highest t
   pub selects : Selects table demand (min limit 65536) s
 
 -- what that is of the ledger
-pub record Known (l : Ledger) (limit p demand remainder : ℕ) (lows highs : List ℕ) (s : Selected) : Type 0 where
+pub record Known (l : Ledger) (limit p demand remainder : ℕ) (lows highs : List ℕ) (t : Second) (s : Selected) : Type 0 where
   pub closed : isClosed (l .phase) ≡ true
   pub price : p ≡ closingPrice l
   pub lows-are : lows ≡ ofEach (low p) l
   pub highs-are : highs ≡ ofEach (high p) l
   pub demand-is : demand ≡ demandAt l p
   pub remainder-is : remainder ≡ remainderAt l p
+  pub second-is : t .price ≡ secondPrice l
+  pub short-is : t .short ≡ short l
   pub selected : s ≡ selectedOf (min limit 65536) (demandAt l p) (rows l p)
 
-pub known : (a : Auction) (limit p demand remainder : ℕ) (lows highs : List ℕ) (s : Selected) → Computed a limit p demand remainder lows highs s → Holding a (λ l. Known l limit p demand remainder lows highs s)
+pub known : (a : Auction) (limit p demand remainder : ℕ) (lows highs : List ℕ) (t : Second) (s : Selected) → Computed a limit p demand remainder lows highs t s → Holding a (λ l. Known l limit p demand remainder lows highs t s)
 unfolding auctionOf demandBy remainderBy high low coveringChoices admissible
-known a limit p demand remainder lows highs s c l snd h = record {
+known a limit p demand remainder lows highs t s c l snd h = record {
   closed = closed;
   price = price;
   lows-are = lows-are;
   highs-are = highs-are;
   demand-is = demand-at;
   remainder-is = c .remainder-at ∙ ap (λ (x : Auction). remainderBy (x .settings) p) h ∙ remainder-is _ _ _ _ _ (settings-facts l snd began .bounds) in-range;
+  second-is = second-at .0;
+  short-is = second-at .1;
   selected = subst (λ (d : ℕ). s ≡ selectedOf (min limit 65536) d (rows l p)) demand-at (c .selects .right (rows l p) lays (subst (λ (d : ℕ). covering d (choices (rows l p)) ≡ [] → ⊥) (sym demand-at) some));
 }
   where
@@ -144,6 +152,9 @@ known a limit p demand remainder lows highs s c l snd h = record {
     demand-at : demand ≡ demandAt l p
     demand-at = c .demand-at ∙ ap (λ (x : Auction). demandBy (x .settings) p) h ∙ demand-is _ _ _ _ _ (settings-facts l snd began .bounds) in-range
 
+    second-at : (t .price ≡ secondPrice l) × (t .short ≡ short l)
+    second-at = c .second-at .right l snd began h firsts
+
     lays : Lays (c .table) (rows l p)
     lays = c .tabled .right l p snd (ap (λ (x : Auction). x .projects) h) (ap (λ (x : Auction). x .declared) h) lows-are highs-are
 
@@ -184,11 +195,11 @@ within-limit limit d rs s e z = go (leb (length (choices rs)) (min limit 65536))
 
 -- ---- the returns
 
-module _ (a : Auction) (limit p demand remainder : ℕ) (lows highs : List ℕ) (s : Selected) (c : Computed a limit p demand remainder lows highs s) (old : List ℕ) where
+module _ (a : Auction) (limit p demand remainder : ℕ) (lows highs : List ℕ) (t : Second) (s : Selected) (c : Computed a limit p demand remainder lows highs t s) (old : List ℕ) where
   pub settle-over : (s .number ≡ 0 → ⊥) → Settles a limit old old (refusedWith (s .number))
   unfolding settlingNumber admissible
   settle-over z = refusal a limit old (s .number) z (λ l snd h.
-      let k = known a limit p demand remainder lows highs s c l snd h in
+      let k = known a limit p demand remainder lows highs t s c l snd h in
       let o = over-limit limit (demandAt l p) (rows l p) s (k .selected) z in
       let e : leb (length (choices (rows l (closingPrice l)))) (min limit 65536) ≡ false = subst (λ (q : ℕ). leb (length (choices (rows l q))) (min limit 65536) ≡ false) (k .price) (o .1) in
       o .0 ∙ sym (simp (k .closed, e)))
@@ -196,8 +207,8 @@ module _ (a : Auction) (limit p demand remainder : ℕ) (lows highs : List ℕ) 
   module _ (z : s .number ≡ 0) (n : ℕ) (counted : n ≡ awardCount (s .award)) where
     -- accepted so far: the award, its total and the counts are the ledger's at p
     module _ (l : Ledger) (snd : Sound l) (h : a ≡ auctionOf l) where
-      k : Known l limit p demand remainder lows highs s
-      k = known a limit p demand remainder lows highs s c l snd h
+      k : Known l limit p demand remainder lows highs t s
+      k = known a limit p demand remainder lows highs t s c l snd h
 
       w : (s ≡ chosen (demandAt l p) (rows l p)) × (leb (length (choices (rows l p))) (min limit 65536) ≡ true)
       w = within-limit limit (demandAt l p) (rows l p) s (k .selected) z
@@ -232,6 +243,8 @@ module _ (a : Auction) (limit p demand remainder : ℕ) (lows highs : List ℕ) 
       choices = s .choices;
       covering = s .covering;
       kept = s .kept;
+      second = t .price;
+      short = t .short;
       records = n;
     }
 
@@ -268,6 +281,8 @@ module _ (a : Auction) (limit p demand remainder : ℕ) (lows highs : List ℕ) 
         choices = w l snd h .0 i .choices;
         covering = w l snd h .0 i .covering;
         kept = w l snd h .0 i .kept;
+        second = k l snd h .second-is i;
+        short = k l snd h .short-is i;
         records = sym (records-are-n l snd h) i;
       }
 

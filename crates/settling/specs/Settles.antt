@@ -1,6 +1,7 @@
 -- What settling ensures. `a` is the auction, `old` and `new` the lent buffer before and after, `r` the answer.
 use Prim.Native.Nat.{ℕ, _*_}
 use mathlib.Core.Path.{_≡_}
+use mathlib.Core.Bool.{false}
 use mathlib.Core.List.{List, flatten}
 use lib.ListN.{length, drop}
 use Rattle.rules.specs.Ledger.{Call}
@@ -13,7 +14,7 @@ use Rattle.settling.specs.declared.Settled.{Settled}
 
 -- a refusal: its number, every other number 0
 abbrev pub refusedWith : ℕ → Settled
-refusedWith n = record { number = n; price = 0; demand = 0; remainder = 0; total = 0; choices = 0; covering = 0; kept = 0; records = 0 }
+refusedWith n = record { number = n; price = 0; demand = 0; remainder = 0; total = 0; choices = 0; covering = 0; kept = 0; second = 0; short = false; records = 0 }
 
 -- an acceptance, in the numbers of the settlement
 abbrev pub settledAs : Settlement → Settled
@@ -26,6 +27,8 @@ settledAs s = record {
   choices = s .choices;
   covering = s .covering;
   kept = s .kept;
+  second = s .second;
+  short = s .short;
   records = length (s .records);
 }
 

@@ -4,7 +4,8 @@ ghost use mathlib.Core.Path.{_≡_};
 use auction::Auction;
 
 // The answer: 0 or a refusal's number; P, Dem(P) with its remainder (document 02, 4), the award's total, the numbers of admissible choices, of
-// covering ones and of those that the search keeps (document 02, 3), and of award records. A refusal has 0 in every other place.
+// covering ones and of those that the search keeps (document 02, 3), the second price and whether it is short (document 02, 5), and the number of
+// award records. A refusal has 0 in every other place.
 pub struct Settled {
     pub number: u8,
     pub price: u32,
@@ -14,6 +15,8 @@ pub struct Settled {
     pub choices: u64,
     pub covering: u64,
     pub kept: u64,
+    pub second: u32,
+    pub short: bool,
     pub records: usize,
 }
 
@@ -29,6 +32,8 @@ fn refused(number: u8) -> Settled
         choices: 0,
         covering: 0,
         kept: 0,
+        second: 0,
+        short: false,
         records: 0,
     }
 }
@@ -50,6 +55,7 @@ pub fn settle(auction: Auction, limit: u32, awards: &mut [u8]) -> Settled
     let table = open_levels::table_of(projects, declared, lows, highs);
     let demand = auction.demand_at(p);
     let remainder = auction.remainder_at(p);
+    let second = second_price::second_price(auction, highest);
     let capped = checks::capped_limit(limit);
     let selected = selection::select(table, demand, capped);
     if selected.number != 0 {
@@ -73,6 +79,8 @@ pub fn settle(auction: Auction, limit: u32, awards: &mut [u8]) -> Settled
         choices: selected.choices,
         covering: selected.covering,
         kept: selected.kept,
+        second: second.price,
+        short: second.short,
         records: records,
     }
 }

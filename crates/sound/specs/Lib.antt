@@ -1,3 +1,4 @@
 pub mod Sound
 pub mod Parts
 pub mod StepLaws
+pub mod LodgedLaws

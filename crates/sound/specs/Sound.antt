@@ -49,7 +49,6 @@ pub record SoundDeveloper (c a : ℕ) (x : Developer) : Type 0 where
   pub falls : lowering (x .declared .levels) (highest x) (levelsOf (x .withdrawals)) ≡ true
   pub prices : Descends c a (x .withdrawals)
   pub quantity : x .quantity ≡ lastLevel (highest x) (x .withdrawals)
-  pub existing : x .declared .kind ≡ 1 → x .withdrawals ≡ []
 
 -- an offer stands in an open round only, is of kind 2 and well-formed
 pub record SoundSteps (l : Ledger) (x : Developer) (ss : List Step) : Type 0 where
@@ -63,12 +62,20 @@ unfoldable pub SoundOffer : Ledger → Developer → Standing → Type 0
 SoundOffer l x none = Unit {0}
 SoundOffer l x (made ss) = SoundSteps l x ss
 
+-- lodged steps not reached (document 02, 5): of existing plants alone, from below the price c down to which withdrawals were applied to the
+-- floor f, and from the quantity down
+pub record SoundLodged (f c : ℕ) (x : Developer) : Type 0 where
+  pub kind : x .declared .kind ≡ 2 → x .lodged ≡ []
+  pub prices : falling f c (pricesOf (x .lodged)) ≡ true
+  pub levels : lowering (x .declared .levels) (x .quantity) (levelsOf (x .lodged)) ≡ true
+
 -- x may stand in the ledger under the number n
 pub record Stands (l : Ledger) (n : ℕ) (x : Developer) : Type 0 where
   pub number-low : 1 ≤ n
   pub number-high : n ≤ 32
   pub developer : SoundDeveloper (appliedTo (l .phase) l) (l .settings .a) x
   pub offer : SoundOffer l x (x .offer)
+  pub lodged : SoundLodged (floor l) (appliedTo (l .phase) l) x
 
 abbrev pub Registered : Ledger → ℕ → Type 0
 Registered l n = Stands l n (l .developers n)

@@ -68,6 +68,8 @@ accepted-is l old new r z a =
       choices = a .choices i;
       covering = a .covering i;
       kept = a .kept i;
+      second = a .second i;
+      short = a .short i;
       records = a .count i;
     }
 

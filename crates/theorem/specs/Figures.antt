@@ -27,6 +27,8 @@ use Rattle.rules.specs.Award.{openTo, rows, admissible, coveringChoices, award,
 use Rattle.rules.specs.Settling.{recordOf, recordsFrom, records, settlingNumber}
 use Rattle.sound.specs.Sound.{started, Sound}
 use Rattle.clearing.specs.Supply.{greatest-of-bound, high-small}
+use Rattle.rules.specs.Second.{secondPrice}
+use Rattle.clearing.specs.Second.{second-high}
 use Rattle.clearing.specs.ClosingPrice.{closed-started, settings-facts, passed-in-range, closing-price}
 use Rattle.reachable.specs.Bounds.{quantity-declared}
 use Rattle.reachable.specs.Checks.{close-passed}
@@ -170,6 +172,9 @@ module _ (l : Ledger) (s : Sound l) (c : Passed l) where
 
   pub remainder-small : remainderAt l at < 500000
   remainder-small = remainder-at-most l s begun at
+
+  pub second-small : secondPrice l ≤ 1000000
+  second-small = let b = settings-facts l s begun in let f = b .bounds in omega (arith, second-high l s begun)
 
   -- that of all projects at their highs, which cover, at most
   pub total-small : total (award l at) ≤ 32000000000

@@ -4,9 +4,10 @@ use Prim.Native.Nat.{ℕ, zero, suc, _-_, _≤_}
 use mathlib.Core.Path.{_≡_, refl, sym, ap, ap₂, _∙_, fun-ext}
 use mathlib.Core.Logic.{⊎-elim}
 use mathlib.Core.Bool.{Bool, true, false, cond, _&&_}
-use mathlib.Core.List.{List, [], _∷_, _++_, map}
+use mathlib.Core.List.{List, [], _∷_, _++_, map, map-append, append-assoc}
+use native.Mathlib.Omega.{arith}
 use lib.ListN.{length, getD, take, drop, length-map}
-use lib.Seq.{take-append-seam, take-at}
+use lib.Seq.{take-append-seam, take-at, drop-at}
 use borrow.Author.Tests.{le-leb}
 use Rattle.numbers.specs.Cases.{clash}
 use Rattle.rules.specs.Ledger.{Step, Standing, none, made, Developer, Phase, Fresh, Ready, Round, Between, Closed, Ledger, nobody}
@@ -18,7 +19,7 @@ use Rattle.sound.specs.Sound.{pricesOf, levelsOf, Sound}
 use Rattle.levels.specs.Held.{noLevels, heldLevels, levelsIn}
 use Rattle.history.specs.Held.{heldHistory}
 use Rattle.history.specs.declared.History.{History}
-use Rattle.auction.specs.Holds.{phaseNumber, auctionOf}
+use Rattle.auction.specs.Holds.{phaseNumber, heldCourse, auctionOf}
 use Rattle.auction.specs.Places.{each-at}
 use Rattle.auction.specs.declared.Auction.{Auction}
 
@@ -48,6 +49,13 @@ abbrev offerIn : ℕ → History → Standing
 offerIn zero h = none
 offerIn (suc k) h = made (steps (take k (drop (h .count) (h .prices))) (take k (drop (h .count) (h .levels))))
 
+-- behind both
+abbrev lodgedPart : History → List ℕ → List ℕ
+lodgedPart h xs = take (h .lodged) (drop (h .offered - 1) (drop (h .count) xs))
+
+abbrev lodgedIn : History → List Step
+lodgedIn h = steps (lodgedPart h (h .prices)) (lodgedPart h (h .levels))
+
 steps-back : (ss : List Step) → steps (pricesOf ss) (levelsOf ss) ≡ ss
 unfolding steps
 steps-back [] = refl
@@ -58,21 +66,37 @@ module _ (f : Step → ℕ) where
   front [] vs rest = refl
   front (w ∷ ws) vs rest = ap (λ (xs : List ℕ). f w ∷ xs) (front ws vs rest)
 
-  behind : (ws vs : List Step) (rest : List ℕ) → take (length vs) (drop (length ws) (map f (ws ++ vs) ++ rest)) ≡ map f vs
-  behind [] vs rest = take-at (map f vs) rest (length vs) (length-map vs f)
-  behind (w ∷ ws) vs rest = behind ws vs rest
+  -- what stands behind ws: vs, then us
+  behind : (ws vs us : List Step) (rest : List ℕ) → drop (length ws) (map f (ws ++ (vs ++ us)) ++ rest) ≡ map f vs ++ (map f us ++ rest)
+  behind [] vs us rest = ap (λ (xs : List ℕ). xs ++ rest) (map-append f vs us) ∙ append-assoc (map f vs) (map f us) rest
+  behind (w ∷ ws) vs us rest = behind ws vs us rest
 
-withdrawals-back : (ws : List Step) (o : Standing) → withdrawalsIn (heldHistory ws o) ≡ ws
-withdrawals-back ws o = ap₂ steps (front (λ s. s .price) ws _ _) (front (λ s. s .level) ws _ _) ∙ steps-back ws
+  middle : (ws vs us : List Step) (rest : List ℕ) → take (length vs) (drop (length ws) (map f (ws ++ (vs ++ us)) ++ rest)) ≡ map f vs
+  middle ws vs us rest = ap (take (length vs)) (behind ws vs us rest) ∙ take-at (map f vs) _ (length vs) (length-map vs f)
 
-offer-back : (ws : List Step) (o : Standing) → offerIn (heldHistory ws o .offered) (heldHistory ws o) ≡ o
-offer-back ws none = refl
-offer-back ws (made ss) = ap made (ap₂ steps (behind (λ s. s .price) ws ss _) (behind (λ s. s .level) ws ss _) ∙ steps-back ss)
+  last : (ws vs us : List Step) (rest : List ℕ) → take (length us) (drop (length vs) (drop (length ws) (map f (ws ++ (vs ++ us)) ++ rest))) ≡ map f us
+  last ws vs us rest =
+      ap (λ (xs : List ℕ). take (length us) (drop (length vs) xs)) (behind ws vs us rest)
+      ∙ ap (take (length us)) (drop-at (map f vs) _ (length vs) (length-map vs f)) ∙ take-at (map f us) rest (length us) (length-map us f)
+
+module _ (ws : List Step) where
+  withdrawals-back : (o : Standing) (ls : List Step) → withdrawalsIn (heldHistory ws o ls) ≡ ws
+  withdrawals-back o ls = ap₂ steps (front (λ s. s .price) ws _ _) (front (λ s. s .level) ws _ _) ∙ steps-back ws
+
+  offer-back : (o : Standing) (ls : List Step) → offerIn (heldHistory ws o ls .offered) (heldHistory ws o ls) ≡ o
+  offer-back none ls = refl
+  offer-back (made ss) ls = ap made (ap₂ steps (middle (λ s. s .price) ws ss ls _) (middle (λ s. s .level) ws ss ls _) ∙ steps-back ss)
+
+  lodged-back : (o : Standing) (ls : List Step) → lodgedIn (heldHistory ws o ls) ≡ ls
+  lodged-back none ls = ap₂ steps (last (λ s. s .price) ws [] ls _) (last (λ s. s .level) ws [] ls _) ∙ steps-back ls
+  lodged-back (made ss) ls =
+      let e : suc (length ss) - 1 ≡ length ss = omega arith in
+      rw e (ap₂ steps (last (λ s. s .price) ws ss ls _) (last (λ s. s .level) ws ss ls _) ∙ steps-back ls)
 
 -- ---- developers, developer n from place n - 1 of each array
 
 abbrev historyIn : Auction → ℕ → History
-historyIn a n = getD (a .histories) (n - 1) (heldHistory [] none)
+historyIn a n = getD (a .histories) (n - 1) (heldHistory [] none [])
 
 abbrev entryIn : Auction → ℕ → Developer
 entryIn a n = record {
@@ -86,6 +110,7 @@ entryIn a n = record {
   quantity = getD (a .quantities) (n - 1) 0;
   withdrawals = withdrawalsIn (historyIn a n);
   offer = offerIn (historyIn a n .offered) (historyIn a n);
+  lodged = lodgedIn (historyIn a n);
 }
 
 abbrev developerIn : Auction → ℕ → Developer
@@ -102,9 +127,9 @@ module _ (l : Ledger) (n : ℕ) where
     levels : levelsIn (getD (ofEach (λ y. heldLevels (y .declared .levels)) l) (n - 1) noLevels) ≡ x .declared .levels
     levels = ap levelsIn (each-at (λ y. heldLevels (y .declared .levels)) l n noLevels low high) ∙ take-append-seam (x .declared .levels) _
 
-    history : historyIn (auctionOf l) n ≡ heldHistory (x .withdrawals) (x .offer)
+    history : historyIn (auctionOf l) n ≡ heldCourse x
     unfolding auctionOf
-    history = each-at (λ y. heldHistory (y .withdrawals) (y .offer)) l n (heldHistory [] none) low high
+    history = each-at heldCourse l n (heldHistory [] none []) low high
 
     entry-back : entryIn (auctionOf l) n ≡ x
     unfolding auctionOf
@@ -117,8 +142,9 @@ module _ (l : Ledger) (n : ℕ) where
         levels = levels i;
       };
       quantity = at (λ y. y .quantity) i;
-      withdrawals = (ap withdrawalsIn history ∙ withdrawals-back (x .withdrawals) (x .offer)) i;
-      offer = (ap (λ (h : History). offerIn (h .offered) h) history ∙ offer-back (x .withdrawals) (x .offer)) i;
+      withdrawals = (ap withdrawalsIn history ∙ withdrawals-back (x .withdrawals) (x .offer) (x .lodged)) i;
+      offer = (ap (λ (h : History). offerIn (h .offered) h) history ∙ offer-back (x .withdrawals) (x .offer) (x .lodged)) i;
+      lodged = (ap lodgedIn history ∙ lodged-back (x .withdrawals) (x .offer) (x .lodged)) i;
     }
 
   -- outside 1 to 32 a sound ledger has nobody

@@ -1,6 +1,7 @@
 -- The replies to every list of calls can be read: each figure of an accepted closing or settling fits its field.
 use Prim.Native.Nat.{ℕ, _*_, _≤_, _<_}
 use mathlib.Core.Path.{_≡_, refl, sym, ap, ap₂, _∙_, subst}
+use mathlib.Core.Bool.{Bool, true, false, cond}
 use mathlib.Core.List.{List, [], _∷_, _++_, flatten, List·Memᴰ·head, List·Memᴰ·tail, List·Memᴰ·not-nil}
 use native.Mathlib.Omega.{arith}
 use lib.ListN.{length}
@@ -9,6 +10,7 @@ use Rattle.format.specs.Fields.{fieldsAt, textAt}
 use Rattle.rules.specs.Ledger.{Call, Close, Ledger}
 use Rattle.rules.specs.Refusals.{number}
 use Rattle.rules.specs.Rounds.{ledger, granted, answer}
+use Rattle.rules.specs.Second.{short}
 use Rattle.rules.specs.Settling.{settlement, settlementAt, settlingNumber}
 use Rattle.sound.specs.Sound.{Sound}
 use Rattle.reachable.specs.Reachable.{sound}
@@ -17,7 +19,7 @@ use Rattle.replies.specs.Replies.{twosComplement, widthsOf, valuesOf, closingFi
 use Rattle.replies.specs.Lengths.{flat-length, flat-digits, six, few}
 use Rattle.theorem.specs.Readable.{signed, twos, Awarded, Readable}
 use Rattle.theorem.specs.Reading.{Fit, fit-append, text-append, line-reads, Bytes, fit-bytes, text-bytes, bytes-cons, bytes-join}
-use Rattle.theorem.specs.Figures.{Passed, passed, excess-small, excess-back, closing-remainder-small, price-small, demand-small, remainder-small, total-small, covering-small, awarded}
+use Rattle.theorem.specs.Figures.{Passed, passed, excess-small, excess-back, closing-remainder-small, price-small, demand-small, remainder-small, second-small, total-small, covering-small, awarded}
 
 -- ---- award records
 
@@ -77,7 +79,14 @@ module _ (l : Ledger) (s : Sound l) where
 
     tail-fit : Fit (widthsOf settlingTail) (valuesOf settlingTail (settlement l))
     unfolding Fit settlement settlementAt
-    tail-fit = let r = remainder-small l s went in (omega arith, tt)
+    tail-fit =
+        let r = remainder-small l s went in
+        let p = second-small l s went in
+        (omega arith, (omega arith, (mark (short l), tt)))
+      where
+        mark : (b : Bool) → cond b 1 0 < 256
+        mark true = omega arith
+        mark false = omega arith
 
     abbrev bytes : List ℕ
     bytes = flatten (settlement l .records)

@@ -13,6 +13,7 @@ use Rattle.rules.specs.Ledger.{Ledger}
 use Rattle.rules.specs.Clearing.{low, supply, covered, demandAt, remainderAt, closingPrice}
 use Rattle.rules.specs.Refusals.{isClosed}
 use Rattle.rules.specs.Award.{admissible, coveringChoices, keptChoices, award, winner}
+use Rattle.rules.specs.Second.{takenOut, remaining, short, secondPrice}
 use Rattle.rules.specs.Settling.{records}
 use Rattle.settling.specs.Settles.{refusedWith}
 use Rattle.settling.specs.declared.Settled.{Settled}
@@ -44,6 +45,14 @@ pub record Accepted (l : Ledger) (old new : List ℕ) (r : Settled) : Type 0 whe
   pub kept-some : 1 ≤ r .kept
   pub kept-few : r .kept ≤ r .covering
   pub kept-one : demandAt l (r .price) ≤ supply (low (r .price)) l → r .kept ≡ 1
+  -- the second price (document 02, 5): the lowest covered price passed when the projects with an applied lodged step are taken out; A, marked
+  -- short, where A is then not covered. It is never below the first, and the first where no lodged step was applied
+  pub second : r .second ≡ secondPrice l
+  pub short : r .short ≡ short l
+  pub second-least : r .short ≡ false → Least (covered (remaining l)) (l .closing) (l .settings .a) (r .second)
+  pub second-short : r .short ≡ true → (covered (remaining l) (l .settings .a) ≡ false) × (r .second ≡ l .settings .a)
+  pub second-not-below : r .price ≤ r .second
+  pub second-first : ((k : ℕ) → takenOut l k ≡ false) → (r .second ≡ r .price) × (r .short ≡ false)
   -- each level above 0 goes to the preferred developer, and has one record
   pub goes : (k : ℕ) → 1 ≤ k → k ≤ 32 → let v = awardedLevel l (r .price) k in 0 < v → Goes l (r .price) k v (winner l (r .price) k v)
   pub count : r .records ≡ length (records l (r .price))

@@ -18,6 +18,7 @@ use Rattle.rules.specs.Settling.{records, settlingNumber, settlementAt, settlem
 use Rattle.sound.specs.Sound.{Sound, started}
 use Rattle.reachable.specs.Reachable.{sound}
 use Rattle.clearing.specs.ClosingPrice.{closed-started, settings-facts, closing-price}
+use Rattle.clearing.specs.Second.{short-uncovered, second-least, short-second, second-not-below, second-is-first}
 use Rattle.awards.specs.AwardLaws.{kept-few, kept-at-lows, kept-not-none, award-at-closing}
 use Rattle.awards.specs.Winners.{winner-open, winner-preferred, awarded-open}
 use Rattle.auction.specs.Holds.{auctionOf}
@@ -54,6 +55,12 @@ module _ (l : Ledger) (s : Sound l) (c : isClosed (l .phase) ≡ true) (old new 
     kept-some = kept-not-none l (closingPrice l) s covers;
     kept-few = kept-few l (closingPrice l) s;
     kept-one = kept-at-lows l (closingPrice l) s;
+    second = refl;
+    short = refl;
+    second-least = second-least l s began;
+    second-short = λ h. (short-uncovered l h, short-second l s began h);
+    second-not-below = second-not-below l s began;
+    second-first = second-is-first l s began;
     goes = λ k low high v.
         let o = awarded-open l (closingPrice l) k s covers low high v in
         let n = winner-open l (closingPrice l) k _ o in

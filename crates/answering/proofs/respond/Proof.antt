@@ -50,22 +50,30 @@ returns-6 : tie.Need-returns-6
 unfolding orderOf
 returns-6 c = ordered-as _ _ _ 6 (omega arith) (c .before .if6 .taken) (c .settle-turn .ensures)
 
-malformed-requires : tie.Need-malformed-requires
-malformed-requires c κs = tt
+lodge-turn-requires : tie.Need-lodge-turn-requires
+lodge-turn-requires c κs = framed 7 _ (c .before .before .before .before .before .before .before .pre) (omega arith) (c .if7 .taken)
 
 returns-7 : tie.Need-returns-7
 unfolding orderOf
-returns-7 c =
-    let k = c .before .before .before .before .before .before in
+returns-7 c = ordered-as _ _ _ 7 (omega arith) (c .before .if7 .taken) (c .lodge-turn .ensures)
+
+malformed-requires : tie.Need-malformed-requires
+malformed-requires c κs = tt
+
+returns-8 : tie.Need-returns-8
+unfolding orderOf
+returns-8 c =
+    let k = c .before .before .before .before .before .before .before in
     let f = k .before .args .frame in
     let none : orderOf (held f) ≡ Malformed =
     rw (
       ne-eqb (f .kind) 1 (k .if1 .left),
-      ne-eqb (f .kind) 2 (c .before .before .before .before .before .if2 .left),
-      ne-eqb (f .kind) 3 (c .before .before .before .before .if3 .left),
-      ne-eqb (f .kind) 4 (c .before .before .before .if4 .left),
-      ne-eqb (f .kind) 5 (c .before .before .if5 .left),
-      ne-eqb (f .kind) 6 (c .before .if6 .left),
+      ne-eqb (f .kind) 2 (c .before .before .before .before .before .before .if2 .left),
+      ne-eqb (f .kind) 3 (c .before .before .before .before .before .if3 .left),
+      ne-eqb (f .kind) 4 (c .before .before .before .before .if4 .left),
+      ne-eqb (f .kind) 5 (c .before .before .before .if5 .left),
+      ne-eqb (f .kind) 6 (c .before .before .if6 .left),
+      ne-eqb (f .kind) 7 (c .before .if7 .left),
     ) in
     ordered-none _ f _ none (c .malformed .ensures)
 
@@ -85,5 +93,7 @@ respond-spec =
     returns-5
     settle-turn-requires
     returns-6
+    lodge-turn-requires
+    returns-7
     malformed-requires
-    returns-7)
+    returns-8)

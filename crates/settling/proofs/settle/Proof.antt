@@ -7,7 +7,7 @@ use Rattle.settling.proofs.settle.Tie as tie
 
 -- the ways back from the call of `select`: to that of `lows_at` for the highs, and to that of `closing_price`
 abbrev highs : tie.After-select → tie.After-lows-at2
-highs c = c .before .before .before .before .before
+highs c = c .before .before .before .before .before .before
 
 abbrev priced : tie.After-select → tie.After-closing-price
 priced c = highs c .before .before .before
@@ -15,8 +15,8 @@ priced c = highs c .before .before .before
 computed :
     (c : tie.After-select) →
     let s = priced c .before .before .before .before .before .before .before .before .args in
-    Computed (s .auction) (s .limit) (priced c .closing-price .result)
-    (c .before .before .before .demand-at .result) (c .before .before .remainder-at .result) (highs c .before .before .lows-at .result) (highs c .lows-at2 .result) (c .select .result)
+    Computed (s .auction) (s .limit) (priced c .closing-price .result) (c .before .before .before .before .demand-at .result) (c .before .before .before .remainder-at .result) (highs c .before .before .lows-at .result) (highs c .lows-at2 .result)
+    (c .before .before .second-price .result) (c .select .result)
 computed c =
     let h = highs c in
     let p = priced c in
@@ -24,15 +24,16 @@ computed c =
       phase = p .before .before .before .before .before .if1 .left;
       highest = p .before .highest-levels .result;
       next = h .before .above .result;
-      table = c .before .before .before .before .table-of .result;
+      table = c .before .before .before .before .before .table-of .result;
       highests = p .before .highest-levels .ensures;
       price = p .closing-price .ensures;
       lows-at = h .before .before .lows-at .ensures;
       above = h .before .above .ensures;
       highs-at = h .lows-at2 .ensures;
-      tabled = c .before .before .before .before .table-of .ensures;
-      demand-at = c .before .before .before .demand-at .ensures .0;
-      remainder-at = c .before .before .remainder-at .ensures;
+      tabled = c .before .before .before .before .before .table-of .ensures;
+      demand-at = c .before .before .before .before .demand-at .ensures .0;
+      remainder-at = c .before .before .before .remainder-at .ensures;
+      second-at = c .before .before .second-price .ensures;
       selects = rw (c .before .capped-limit .ensures) at (c .select .ensures);
     }
 
@@ -66,6 +67,9 @@ demand-at-requires c κs = search needs
 remainder-at-requires : tie.Need-remainder-at-requires
 remainder-at-requires c κs = search needs
 
+second-price-requires : tie.Need-second-price-requires
+second-price-requires c κs = search needs
+
 capped-limit-requires : tie.Need-capped-limit-requires
 capped-limit-requires c κs = search needs
 
@@ -76,7 +80,7 @@ refused-requires-2 : tie.Need-refused-requires-2
 refused-requires-2 c κs = search needs
 
 returns-2 : tie.Need-returns-2
-returns-2 c = rw (c .refused2 .ensures) (settle-over _ _ _ _ _ _ _ _ (computed (c .before .before .before)) _ (c .before .if2 .taken))
+returns-2 c = rw (c .refused2 .ensures) (settle-over _ _ _ _ _ _ _ _ _ (computed (c .before .before .before)) _ (c .before .if2 .taken))
 
 count-awards-requires : tie.Need-count-awards-requires
 count-awards-requires c κs = search needs
@@ -91,7 +95,7 @@ returns-3 : tie.Need-returns-3
 returns-3 c =
     let n = c .before .before in
     rw (c .refused3 .ensures)
-    (settle-no-room _ _ _ _ _ _ _ _ (computed (n .before .before .before .before)) _ (n .before .before .if2 .left) _ (n .count-awards .ensures .0) (c .before .if3 .taken))
+    (settle-no-room _ _ _ _ _ _ _ _ _ (computed (n .before .before .before .before)) _ (n .before .before .if2 .left) _ (n .count-awards .ensures .0) (c .before .if3 .taken))
 
 winners-requires : tie.Need-winners-requires
 winners-requires c κs = search needs
@@ -106,7 +110,7 @@ returns-4 : tie.Need-returns-4
 returns-4 c =
     let w = c .before .before .before .before in
     let n = w .before .before .before .before in
-    settle-accepted _ _ _ _ _ _ _ _ (computed (n .before .before .before .before)) _ (n .before .before .if2 .left) _ (n .count-awards .ensures .0) (w .before .before .before .if3 .left) _ _ (w .winners .ensures) (c .before .before .write-awards .ensures)
+    settle-accepted _ _ _ _ _ _ _ _ _ (computed (n .before .before .before .before)) _ (n .before .before .if2 .left) _ (n .count-awards .ensures .0) (w .before .before .before .if3 .left) _ _ (w .winners .ensures) (c .before .before .write-awards .ensures)
 
 pub settle-spec : {M : Type 1} → statement M
 settle-spec =
@@ -122,6 +126,7 @@ settle-spec =
     table-of-requires
     demand-at-requires
     remainder-at-requires
+    second-price-requires
     capped-limit-requires
     select-requires
     refused-requires-2

@@ -3,8 +3,7 @@ use mathlib.Core.Path.{refl}
 use borrow.Author.Needs.{needs}
 use Rattle.rules.specs.Rounds.{stepAll, ledger}
 use Rattle.levels.specs.Held.{heldLevels}
-use Rattle.history.specs.Held.{heldHistory}
-use Rattle.auction.specs.Holds.{auctionOf}
+use Rattle.auction.specs.Holds.{heldCourse, auctionOf}
 use Rattle.auction.specs.Places.{fresh-places}
 use Rattle.auction.proofs.Auction.new.Statement.{statement}
 use Rattle.auction.proofs.Auction.new.Tie as tie
@@ -28,7 +27,7 @@ returns c = λ i. record {
   days = fresh-places (λ x. x .declared .day) 0 refl i;
   quantities = fresh-places (λ x. x .quantity) 0 refl i;
   declared = fresh-places (λ x. heldLevels (x .declared .levels)) (c .before .none .result) (c .before .none .ensures) i;
-  histories = fresh-places (λ x. heldHistory (x .withdrawals) (x .offer)) (c .new .result) (c .new .ensures) i;
+  histories = fresh-places heldCourse (c .new .result) (c .new .ensures) i;
 }
 
 pub new-spec : {M : Type 1} → statement M

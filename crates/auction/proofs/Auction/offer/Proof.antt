@@ -6,8 +6,8 @@ use native.Mathlib.Omega.{arith}
 use lib.ListN.{getD}
 use borrow.Author.Needs.{needs}
 use borrow.Author.Tests.{not-true, not-false}
-use Rattle.rules.specs.Refusals.{mayOffer}
-use Rattle.rules.specs.CheckLaws.{may-offer-facts}
+use Rattle.rules.specs.Refusals.{isOfKind}
+use Rattle.rules.specs.CheckLaws.{of-kind-facts}
 use Rattle.auction.proofs.Offering.{offer-phase, offer-barred, offer-second, offer-prices, offer-levels, offer-taken}
 use Rattle.auction.proofs.Auction.offer.Statement.{statement}
 use Rattle.auction.proofs.Auction.offer.Tie as tie
@@ -16,11 +16,11 @@ use Rattle.auction.proofs.Auction.offer.Tie as tie
 abbrev in-round : tie.Else2 → tie.Else1
 in-round c = c .before .before .before
 
-allowed : (c : tie.Else2) → let s = in-round c .before .before .before .args in mayOffer (s .developer) (getD (s .t1 .kinds) (s .developer - 1) 0) ≡ true
-allowed c = sym (c .before .may-offer .ensures) ∙ not-false _ (c .if2 .left)
+allowed : (c : tie.Else2) → let s = in-round c .before .before .before .args in isOfKind 2 (s .developer) (getD (s .t1 .kinds) (s .developer - 1) 0) ≡ true
+allowed c = sym (c .before .is-of-kind .ensures) ∙ not-false _ (c .if2 .left)
 
 bounds : (c : tie.Else2) → let n = in-round c .before .before .before .args .developer in (1 ≤ n) × (n ≤ 32)
-bounds c = let f = may-offer-facts _ _ (allowed c) in (f .0, f .1)
+bounds c = let f = of-kind-facts _ _ _ (allowed c) in (f .0, f .1)
 
 -- the ways back to that test, from the test of the prices and from that of the levels
 abbrev priced : tie.Else4 → tie.Else2
@@ -35,14 +35,14 @@ refused-requires c κs = search needs
 returns : tie.Need-returns
 returns c = rw (c .refused .ensures) (offer-phase _ _ _ _ (c .before .if1 .taken))
 
-may-offer-requires : tie.Need-may-offer-requires
-may-offer-requires c κs = search needs
+is-of-kind-requires : tie.Need-is-of-kind-requires
+is-of-kind-requires c κs = search needs
 
 refused-requires-2 : tie.Need-refused-requires-2
 refused-requires-2 c κs = search needs
 
 returns-2 : tie.Need-returns-2
-returns-2 c = rw (c .refused2 .ensures) (offer-barred _ _ _ _ (c .before .before .before .before .if1 .left) (sym (c .before .before .may-offer .ensures) ∙ not-true _ (c .before .if2 .taken)))
+returns-2 c = rw (c .refused2 .ensures) (offer-barred _ _ _ _ (c .before .before .before .before .if1 .left) (sym (c .before .before .is-of-kind .ensures) ∙ not-true _ (c .before .if2 .taken)))
 
 sub-i : tie.Need-sub-i
 sub-i c = let b = bounds c in omega arith
@@ -129,7 +129,7 @@ offer-spec =
     (tie.spec
     refused-requires
     returns
-    may-offer-requires
+    is-of-kind-requires
     refused-requires-2
     returns-2
     sub-i

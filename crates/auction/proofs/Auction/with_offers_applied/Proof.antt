@@ -8,10 +8,10 @@ use Rattle.auction.proofs.Auction.with_offers_applied.Statement.{statem
 use Rattle.auction.proofs.Auction.with_offers_applied.Tie as tie
 
 abbrev Inv-loop : tie.InvT-loop
-Inv-loop next₀ opening i₀ next i = Turn next₀ next i
+Inv-loop next₀ opening closing i₀ next i = Turn next₀ next i
 
 abbrev μ-loop : tie.MeasureT-loop
-μ-loop next₀ opening i₀ next i = 32 - i
+μ-loop next₀ opening closing i₀ next i = 32 - i
 
 loop-holds : tie.Need-loop-holds Inv-loop μ-loop
 loop-holds c = turn-first _
@@ -33,6 +33,9 @@ element-copy-out-withdraws c = omega arith
 
 withdraws-requires : tie.Need-withdraws-requires Inv-loop μ-loop
 withdraws-requires c κs = search needs
+
+reach-requires : tie.Need-reach-requires Inv-loop μ-loop
+reach-requires c κs = search needs
 
 close-requires : tie.Need-close-requires Inv-loop μ-loop
 close-requires c κs = search needs
@@ -59,7 +62,9 @@ loop-less : tie.Need-loop-less Inv-loop μ-loop
 loop-less c = omega arith
 
 loop-again : tie.Need-loop-again Inv-loop μ-loop
-loop-again c = turn-more _ _ _ _ _ _ _ (c .before .before .before .before .before .before .before .loop .inv) (omega arith) (c .before .before .withdraws .ensures) (c .before .close .ensures) (c .last-level .ensures)
+loop-again c =
+    turn-more _ _ _ _ _ _ _ _ (c .before .before .before .before .before .before .before .before .loop .inv) (omega arith) (c .before .before .before .withdraws .ensures)
+    (c .before .before .reach .ensures) (c .before .close .ensures) (c .last-level .ensures)
 
 returns : tie.Need-returns Inv-loop μ-loop
 returns c =
@@ -79,6 +84,7 @@ with-offers-applied-spec =
     element-copy-out-q
     element-copy-out-withdraws
     withdraws-requires
+    reach-requires
     close-requires
     mul-applied
     element-set-from-applied

@@ -1,0 +1,47 @@
+-- What the auction holds of developer n, at place n - 1 of each array.
+use Prim.Native.Nat.{ℕ, _-_, _≤_}
+use mathlib.Core.Path.{_≡_, sym, ap, _∙_}
+use mathlib.Core.List.{List}
+use lib.Dec.{eqb}
+use lib.ListN.{getD}
+use lib.Seq.{take-append-seam}
+use Rattle.rules.specs.Ledger.{Ledger}
+use Rattle.rules.specs.Refusals.{isNumber, isOfKind}
+use Rattle.rules.specs.CheckLaws.{is-number}
+use Rattle.levels.specs.Held.{heldLevels, levelsIn}
+use Rattle.levels.specs.declared.Levels.{Levels}
+use Rattle.history.specs.declared.History.{History}
+use Rattle.auction.specs.declared.Auction.{Auction}
+use Rattle.auction.specs.Holds.{heldCourse, auctionOf}
+use Rattle.auction.specs.Places.{each-at}
+use Rattle.auction.proofs.Calls.{where-true}
+
+-- levels that are held are all there
+pub levels-in : (ls : List ℕ) → levelsIn (heldLevels ls) ≡ ls
+levels-in ls = take-append-seam ls _
+
+module _ (n : ℕ) (a : Auction) where
+  module _ (l : Ledger) (h : a ≡ auctionOf l) (low : 1 ≤ n) (high : n ≤ 32) where
+    kind-at : getD (a .kinds) (n - 1) 0 ≡ l .developers n .declared .kind
+    unfolding auctionOf
+    kind-at = ap (λ (x : Auction). getD (x .kinds) (n - 1) 0) h ∙ each-at (λ x. x .declared .kind) l n 0 low high
+
+    pub quantity-at : getD (a .quantities) (n - 1) 0 ≡ l .developers n .quantity
+    unfolding auctionOf
+    quantity-at = ap (λ (x : Auction). getD (x .quantities) (n - 1) 0) h ∙ each-at (λ x. x .quantity) l n 0 low high
+
+    pub declared-at : (d : Levels) → getD (a .declared) (n - 1) d ≡ heldLevels (l .developers n .declared .levels)
+    unfolding auctionOf
+    declared-at d = ap (λ (x : Auction). getD (x .declared) (n - 1) d) h ∙ each-at (λ x. heldLevels (x .declared .levels)) l n d low high
+
+    pub history-at : (d : History) → getD (a .histories) (n - 1) d ≡ heldCourse (l .developers n)
+    unfolding auctionOf
+    history-at d = ap (λ (x : Auction). getD (x .histories) (n - 1) d) h ∙ each-at heldCourse l n d low high
+
+  -- the kind that the auction holds of developer n
+  abbrev pub kindHeld : ℕ
+  kindHeld = getD (a .kinds) (n - 1) 0
+
+  pub kind-is : (k : ℕ) (l : Ledger) → a ≡ auctionOf l → isOfKind k n (l .developers n .declared .kind) ≡ isOfKind k n kindHeld
+  unfolding isOfKind
+  kind-is k l h = where-true (isNumber n) (λ e. let b = is-number n e in ap (λ (m : ℕ). eqb m k) (sym (kind-at l h (b .0) (b .1))))

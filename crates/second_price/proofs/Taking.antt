@@ -1,0 +1,98 @@
+-- The projects that remain, place by place, and the price and the mark that follow from them.
+use Prim.Native.Nat.{ℕ, suc, _+_, _≤_, _<_}
+use mathlib.Core.Path.{_≡_, refl, sym, ap, ap₂, _∙_, subst}
+use mathlib.Core.Bool.{Bool, true, false, cond, not, _&&_}
+use mathlib.Core.List.{List, [], _∷_}
+use native.Mathlib.Omega.{arith}
+use native.Mathlib.Nat.{le-refl}
+use lib.Dec.{eqb, eqb·suc-zero}
+use lib.ListN.{length, getD, set}
+use Rattle.rules.specs.Ledger.{Step, Developer, Ledger, nobody}
+use Rattle.rules.specs.Clearing.{highest, ofEach, covered, closingPrice}
+use Rattle.rules.specs.Second.{noSteps, lodgedApplied, remaining, short, secondPrice}
+use Rattle.sound.specs.Sound.{Sound, started}
+use Rattle.clearing.specs.Second.{remaining-part, second-price, remaining-is}
+use Rattle.history.specs.declared.History.{History}
+use Rattle.auction.specs.Holds.{heldCourse, auctionOf}
+use Rattle.auction.specs.Places.{Filling, filling-next, filling-all, numbered-at, numbered-length}
+use Rattle.auction.specs.declared.Auction.{Auction}
+use Rattle.price.specs.Prices.{HoldsPart, CoveredAt, ClosingPrice}
+use Rattle.second_price.specs.Taken.{leftOf, Remain, SecondPrice}
+use Rattle.second_price.specs.declared.Second.{Second}
+
+-- ---- one developer
+
+no-steps : (ws : List Step) → noSteps ws ≡ eqb (length ws) 0
+no-steps [] = refl
+no-steps (w ∷ ws) = sym (eqb·suc-zero (length ws))
+
+left-is : (l : Ledger) → Sound l → (n : ℕ) → let x = l .developers n in leftOf (x .declared .project) (x .declared .kind) (length (x .withdrawals)) ≡ remaining l .developers n .declared .project
+unfolding leftOf lodgedApplied
+left-is l s n =
+    let x = l .developers n in
+    ap (λ (b : Bool). cond (eqb (x .declared .kind) 1 && not b) 0 (x .declared .project)) (sym (no-steps (x .withdrawals)))
+    ∙ by-test (eqb (x .declared .kind) 1 && not (noSteps (x .withdrawals)))
+    ∙ ap (λ (y : Developer). y .declared .project) (sym (remaining-is l s n))
+  where
+    by-test : (b : Bool) → cond b 0 (l .developers n .declared .project) ≡ cond b nobody (l .developers n) .declared .project
+    by-test true = refl
+    by-test false = refl
+
+-- ---- the loop
+
+-- the project of number n that remains
+abbrev projectLeft : Ledger → ℕ → ℕ
+projectLeft l n = remaining l .developers n .declared .project
+
+pub record RemainTurn (projects kinds : List ℕ) (histories : List History) (out : List ℕ) (i : ℕ) : Type 0 where
+  pub within : i ≤ 32
+  pub part :
+      (l : Ledger) → Sound l → projects ≡ ofEach (λ x. x .declared .project) l → kinds ≡ ofEach (λ x. x .declared .kind) l → histories ≡ ofEach heldCourse l →
+      Filling (projectLeft l) 0 out i
+
+pub remain-first : (projects kinds : List ℕ) (histories : List History) → RemainTurn projects kinds histories projects 0
+remain-first projects kinds histories = record {
+  within = omega arith;
+  part = λ l s p k h. record { long = ap length p ∙ numbered-length _; done = λ j w. absurd (omega arith) };
+}
+
+pub remain-next :
+    (projects kinds : List ℕ) (histories : List History) (out : List ℕ) (i v : ℕ) (d : History) → RemainTurn projects kinds histories out i → i < 32 →
+    v ≡ leftOf (getD projects i 0) (getD kinds i 0) (getD histories i d .count) → RemainTurn projects kinds histories (set out i v) (i + 1)
+remain-next projects kinds histories out i v d t w e = record {
+  within = omega arith;
+  part = λ l s p k h.
+      let pi : getD projects i 0 ≡ l .developers (suc i) .declared .project = ap (λ (xs : List ℕ). getD xs i 0) p ∙ numbered-at _ i 0 w in
+      let ki : getD kinds i 0 ≡ l .developers (suc i) .declared .kind = ap (λ (xs : List ℕ). getD xs i 0) k ∙ numbered-at _ i 0 w in
+      let hi : getD histories i d ≡ heldCourse (l .developers (suc i)) = ap (λ (xs : List History). getD xs i d) h ∙ numbered-at _ i d w in
+      filling-next (projectLeft l) 0 out i v (t .part l s p k h) w
+      (e ∙ ap (λ (x : History). leftOf (getD projects i 0) (getD kinds i 0) (x .count)) hi
+      ∙ ap₂ (λ (a b : ℕ). leftOf a b (length (l .developers (suc i) .withdrawals))) pi ki ∙ left-is l s (suc i));
+}
+
+pub remain-all : (projects kinds : List ℕ) (histories : List History) (out : List ℕ) (i : ℕ) → RemainTurn projects kinds histories out i → 32 ≤ i → Remain projects kinds histories out
+remain-all projects kinds histories out i t w =
+    let e : i ≡ 32 = let z = t .within in omega arith in
+    record { right = λ l s p k h. filling-all (projectLeft l) 0 out (subst (Filling (projectLeft l) 0 out) e (t .part l s p k h)) }
+
+-- ---- the price and the mark
+
+module _ (a : Auction) (firsts out : List ℕ) (p : ℕ) (c : Bool) where
+  pub second : Remain (a .projects) (a .kinds) (a .histories) out → CoveredAt a out firsts (a .settings .a) c → ClosingPrice a out firsts p → SecondPrice a firsts (record { price = p; short = not c })
+  unfolding short auctionOf
+  second r k q = record {
+    right = λ l s b h f.
+        let holds : HoldsPart a out firsts l (remaining l) = record {
+          sound = s;
+          began = b;
+          held = h;
+          firsts-are = f;
+          part = remaining-part l;
+          projects-are = r .right l s (ap (λ (x : Auction). x .projects) h) (ap (λ (x : Auction). x .kinds) h) (ap (λ (x : Auction). x .histories) h);
+        } in
+        let top : a .settings .a ≡ l .settings .a = ap (λ (x : Auction). x .settings .a) h in
+        let g = s .prices b in (
+          q .right l (remaining l) holds ∙ sym (second-price l s b),
+          ap not (k .right l (remaining l) holds (omega arith) (omega arith) ∙ ap (covered (remaining l)) top),
+        );
+  }

@@ -1,0 +1,52 @@
+// The price for new plants (document 02, 5): the closing price when the projects with an applied lodged step are taken out.
+ghost use mathlib.Core.Path.{_≡_};
+ghost use Rattle.second_price.specs.Taken.{leftOf, Remain, SecondPrice};
+use auction::Auction;
+use history::History;
+
+// The second price, and whether it is short: A is then not covered.
+pub struct Second {
+    pub price: u32,
+    pub short: bool,
+}
+
+// A developer's project, 0 where it is taken out: an existing plant makes no offers, so its withdrawals are applied lodged steps.
+fn left_of(project: u8, kind: u8, withdrawals: usize) -> u8
+    ensures { λ r. ⌜ r ≡ leftOf project kind withdrawals ⌝ }
+{
+    if kind != Auction::EXISTING_PLANT {
+        return project;
+    }
+    if withdrawals == 0 {
+        return project;
+    }
+    0
+}
+
+// The developers' projects, 0 in the place of a developer that is taken out. An existing project has one developer.
+fn remaining_projects(projects: [u8; 32], kinds: [u8; 32], histories: [History; 32]) -> [u8; 32]
+    ensures { λ r. ⌜ Remain projects kinds histories r ⌝ }
+{
+    let mut out = projects;
+    for i in 0..32 {
+        let history = histories[i];
+        out[i] = left_of(projects[i], kinds[i], history.count);
+    }
+    out
+}
+
+// The lowest covered price passed with these projects taken out; A, and short, where A is then not covered.
+pub fn second_price(auction: Auction, highest: [u32; 32]) -> Second
+    ensures { λ r. ⌜ SecondPrice auction highest r ⌝ }
+{
+    let projects = auction.projects;
+    let kinds = auction.kinds;
+    let histories = auction.histories;
+    let remaining = remaining_projects(projects, kinds, histories);
+    let a = auction.settings.a;
+    let covered = price::covered_at(auction, remaining, highest, a);
+    Second {
+        price: price::closing_price(auction, remaining, highest),
+        short: !covered,
+    }
+}
