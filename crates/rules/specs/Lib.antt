@@ -9,3 +9,4 @@ pub mod Sample
 pub mod CheckLaws
 pub mod Projects
 pub mod RoundLaws
+pub mod Preview
