@@ -140,7 +140,7 @@ fn answered(kind: u8, answer: Answer) -> Turn
 }
 
 // The 64 bits of a signed number, in two's complement.
-fn bits_of(x: i64) -> u64
+pub fn bits_of(x: i64) -> u64
     ensures { λ r. ⌜ r ≡ twosComplement x ⌝ }
 {
     if x < 0 {

@@ -8,3 +8,4 @@ mod Offering
 mod Lodging
 mod ApplyingOffers
 mod ClosingRound
+mod Previewing

@@ -4,10 +4,12 @@ use mathlib.Core.Path.{_≡_}
 use mathlib.Core.List.{List, [], _∷_, _++_}
 use Rattle.rules.specs.Ledger.{settingsOf, Call, SetUp, Register, Close, Round, Ledger, withDevelopers}
 use Rattle.rules.specs.Rounds.{ledger, Answered, numberAlone, answer, applied}
+use Rattle.rules.specs.Preview.{Previewed, preview, previewAlone}
 use Rattle.sound.specs.Sound.{Sound}
 use Rattle.auction.specs.declared.Auction.{Auction}
 use Rattle.auction.specs.declared.Answer.{Answer}
 use Rattle.auction.specs.declared.Closing.{Closing}
+use Rattle.auction.specs.declared.Preview.{Preview}
 use Rattle.auction.specs.Holds.{auctionOf}
 
 -- Refused, on every value of the struct: the auction stays, and every other number is 0. And for every list of calls whose ledger the
@@ -32,6 +34,16 @@ AnswersNumber c a r = Called c a (r .auction) (numberIn r)
 -- a closing
 abbrev pub AnswersClosing : Auction → Closing → Type 0
 AnswersClosing a r = Called Close a (r .auction) (closingIn r)
+
+-- what a preview says
+abbrev pub previewIn : Preview → Previewed
+previewIn r = record { answered = record { number = r .number; excess = r .excess; remainder = r .remainder }; closed = r .closed }
+
+-- a preview of closing. Refused, on every value of the struct: every other place is 0, and not closed. And for every list of calls whose
+-- ledger the auction holds it is the ledger's, which is by the definitions of closing
+pub record Previews (a : Auction) (r : Preview) : Type 0 where
+  pub zero : (r .number ≡ 0 → ⊥) → previewIn r ≡ previewAlone (r .number)
+  pub right : (cs : List Call) → a ≡ auctionOf (ledger cs) → previewIn r ≡ preview (ledger cs)
 
 abbrev pub setsUp : ℕ → ℕ → ℕ → ℕ → ℕ → Call
 setsUp ce d m1 m2 a = SetUp (settingsOf ce d m1 m2 a)

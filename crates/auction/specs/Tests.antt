@@ -1,6 +1,6 @@
 -- The rules' tests (`rules`, Refusals and Rounds) over what the auction holds: what the inner functions ensure.
 use Prim.Native.Nat.{ℕ}
-use mathlib.Core.Bool.{Bool, cond, not, _||_}
+use mathlib.Core.Bool.{Bool, cond, not, _&&_, _||_}
 use lib.Dec.{eqb, leb}
 use Rattle.curve.specs.Answer.{demandAnswer}
 use Rattle.supply.specs.ByProject.{supplyOf}
@@ -34,3 +34,7 @@ coveredBy a = not (eqb (a .phase) 1) || leb (demandBy (a .settings) (a .settings
 -- the number of the phase after a round: closed, or between rounds
 abbrev pub phaseNumberAfter : Bool → ℕ
 phaseNumberAfter cleared = cond cleared 4 3
+
+-- a closing answered by this number left the auction closed, by the number of the phase after it (document 02, 6)
+abbrev pub isClosedBy : ℕ → ℕ → Bool
+isClosedBy number phase = eqb number 0 && eqb phase 4

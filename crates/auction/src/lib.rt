@@ -1,4 +1,4 @@
-// The auction: its state, passed by value, and the six calls that change it. Each call's contract is an equation with the ledger of
+// The auction: its state, passed by value, and the six calls that change it, with a preview of closing. Each call's contract is an equation with the ledger of
 // document 01, for every list of calls (specs/Called.antt).
 ghost use mathlib.Core.Path.{_≡_};
 ghost use mathlib.Core.List.{[]};
@@ -6,8 +6,8 @@ ghost use Prim.Native.Nat.{_≤_};
 ghost use Rattle.rules.specs.Ledger.{Open, By, Offer, Lodge};
 ghost use Rattle.rules.specs.Rounds.{ledger};
 ghost use Rattle.auction.specs.Holds.{auctionOf};
-ghost use Rattle.auction.specs.Called.{AnswersNumber, AnswersClosing, setsUp, registers, refusedAnswer, OffersApplied};
-ghost use Rattle.auction.specs.Tests.{demandBy, remainderBy, mayOpenBy, openingBy, coveredBy, phaseNumberAfter};
+ghost use Rattle.auction.specs.Called.{AnswersNumber, AnswersClosing, Previews, setsUp, registers, refusedAnswer, OffersApplied};
+ghost use Rattle.auction.specs.Tests.{demandBy, remainderBy, mayOpenBy, openingBy, coveredBy, phaseNumberAfter, isClosedBy};
 use demand::Demanded;
 use history::History;
 use levels::Levels;
@@ -50,6 +50,14 @@ pub struct Closing {
     pub auction: Auction,
 }
 
+// What a closing would answer, and whether the auction would then be closed. It holds no auction.
+pub struct Preview {
+    pub number: u8,
+    pub excess: i64,
+    pub remainder: u32,
+    pub closed: bool,
+}
+
 // Whether an opening is accepted in this phase.
 fn may_open(phase: u8) -> bool
     ensures { λ r. ⌜ r ≡ mayOpenBy phase ⌝ }
@@ -68,6 +76,16 @@ fn phase_after(cleared: bool) -> u8
         return Auction::CLOSED;
     }
     Auction::BETWEEN
+}
+
+// Whether a closing answered by this number left the auction closed, by the phase after it.
+fn is_closed(number: u8, phase: u8) -> bool
+    ensures { λ r. ⌜ r ≡ isClosedBy number phase ⌝ }
+{
+    if number != 0 {
+        return false;
+    }
+    phase == Auction::CLOSED
 }
 
 impl Auction {
@@ -376,6 +394,21 @@ impl Auction {
             excess: excess,
             remainder: remainder,
             auction: next,
+        }
+    }
+
+    // Looking before closing (document 02, 6): closes a copy. Checks: 2.
+    pub fn preview(self) -> Preview
+        ensures { λ r. ⌜ Previews self r ⌝ }
+    {
+        let closing = self.close();
+        let number = closing.number;
+        let phase = closing.auction.phase;
+        Preview {
+            number: number,
+            excess: closing.excess,
+            remainder: closing.remainder,
+            closed: is_closed(number, phase),
         }
     }
 }

@@ -10,3 +10,4 @@ pub mod LodgingSample
 pub mod CheckLaws
 pub mod Projects
 pub mod RoundLaws
+pub mod Preview

@@ -32,6 +32,7 @@ use Rattle.auction.proofs.Auction.open.Statement as open-states
 use Rattle.auction.proofs.Auction.offer.Statement as offer-states
 use Rattle.auction.proofs.Auction.lodge.Statement as lodge-states
 use Rattle.auction.proofs.Auction.close.Statement as close-states
+use Rattle.auction.proofs.Auction.preview.Statement as preview-states
 use Rattle.auction.proofs.Auction.new.Met as new-met
 use Rattle.auction.proofs.Auction.set_up.Met as set-up-met
 use Rattle.auction.proofs.Auction.register.Met as register-met
@@ -39,6 +40,7 @@ use Rattle.auction.proofs.Auction.open.Met as open-met
 use Rattle.auction.proofs.Auction.offer.Met as offer-met
 use Rattle.auction.proofs.Auction.lodge.Met as lodge-met
 use Rattle.auction.proofs.Auction.close.Met as close-met
+use Rattle.auction.proofs.Auction.preview.Met as preview-met
 
 -- `Made c a r b`: the call c, made on the auction a, is answered r and returns b, as the method's own contract says
 pub data Made : Call → Auction → Answered → Auction → Type 0 where
@@ -92,6 +94,7 @@ pub record EveryList (M : Type 1) : Type 2 where
   pub offer-meets : offer-states.statement M
   pub lodge-meets : lodge-states.statement M
   pub close-meets : close-states.statement M
+  pub preview-meets : preview-states.statement M
   pub held : {cs : List Call} {rs : List Answered} {a : Auction} → Run cs rs a → a ≡ auctionOf (ledger cs)
   pub answered : {cs : List Call} {rs : List Answered} {a : Auction} → Run cs rs a → rs ≡ answers cs
 
@@ -104,6 +107,7 @@ every-list = record {
   offer-meets = offer-met.met;
   lodge-meets = lodge-met.met;
   close-meets = close-met.met;
+  preview-meets = preview-met.met;
   held = λ w. reached w .0;
   answered = λ w. reached w .1;
 }

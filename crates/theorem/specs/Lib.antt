@@ -1,4 +1,5 @@
 pub mod EveryList
+pub mod Previewed
 pub mod ReadBack
 pub mod Runs
 pub mod AwardRecords

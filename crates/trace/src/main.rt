@@ -1,9 +1,10 @@
 // Replays the record on standard input, at most 65,536 bytes, and writes each reply as it comes, below it what it says in words and decimal
-// numbers; FF0B alone where the record is longer.
+// numbers, and before a closing's what a preview says; FF0B alone where the record is longer.
 ghost use mathlib.Core.Path.{_≡_};
 ghost use lib.ListN.{length};
 use answering::Turn;
 use auction::Auction;
+use trace_text::PreviewShown;
 
 // The most bytes of a record (document 01, Frames).
 const LONGEST: usize = 65_536;
@@ -20,12 +21,30 @@ fn step(auction: Auction, line: &[u8]) -> Turn {
     answering::respond(auction, frames::decode(line))
 }
 
-// Writes the reply of a turn and what stands below it.
-fn show(turn: Turn) {
+// What a closing would answer.
+fn look(auction: Auction) -> PreviewShown {
+    let preview = auction.preview();
+    PreviewShown {
+        number: preview.number,
+        excess: answering::bits_of(preview.excess),
+        remainder: preview.remainder,
+        closed: preview.closed,
+    }
+}
+
+// Writes the reply of a turn with what stands before it and below it.
+fn show(preview: PreviewShown, turn: Turn) {
     let reply = turn.reply;
     let settled = turn.settled;
     let mut text = io::buffer();
-    let n = trace_text::put(&mut text, reply, turn.excess, turn.remainder, settled);
+    let n = trace_text::put(
+        &mut text,
+        reply,
+        preview,
+        turn.excess,
+        turn.remainder,
+        settled,
+    );
     io::write_all(libc::STDOUT_FILENO, &text[..n]);
 }
 
@@ -34,8 +53,9 @@ fn trace(bytes: &[u8]) {
     let mut at: usize = 0;
     while at < bytes.len() {
         let line = frames::next_line(bytes, at);
+        let preview = look(auction);
         let turn = step(auction, line);
-        show(turn);
+        show(preview, turn);
         let next = turn.auction;
         auction = next;
         at = at + line.len() + 1;

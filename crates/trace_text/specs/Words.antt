@@ -1,28 +1,15 @@
 -- A reply in words and decimal numbers, an item a line: a name, and its numbers with a blank between them.
-use Prim.Native.Nat.{ℕ, zero, suc, min, _+_, _-_, _*_, _^_}
+use Prim.Native.Nat.{ℕ, zero, suc, min, _+_, _*_}
 use mathlib.Core.Bool.{cond}
-use mathlib.Core.List.{List, [], _∷_, _++_}
-use lib.Dec.{eqb, ltb}
+use mathlib.Core.List.{List, [], _++_}
+use lib.Dec.{eqb}
 use lib.ListN.{getD}
 use Rattle.settling.specs.declared.Settled.{Settled}
 use Rattle.reply_writing.specs.declared.Reply.{Reply}
 use Rattle.reply_writing.specs.Texts.{textOf}
-use Rattle.trace_text.specs.Decimal.{bytesOf, decimal}
-
--- a number and the byte behind it: a blank, or 0A at the line's end
-unfoldable pub number : ℕ → ℕ → List ℕ
-number n behind = decimal n ++ (behind ∷ [])
-
--- the same of the signed number that 64 bits in two's complement stand for
-unfoldable pub signed : ℕ → ℕ → List ℕ
-signed bits behind = cond (ltb bits (2 ^ 63)) (number bits behind) (45 ∷ number (2 ^ 64 - bits) behind)
-
--- a name and a number
-unfoldable pub item : List ℕ → ℕ → List ℕ
-item name n = name ++ number n 10
-
-unfoldable pub signedItem : List ℕ → ℕ → List ℕ
-signedItem name bits = name ++ signed bits 10
+use Rattle.decimal_text.specs.Decimal.{bytesOf}
+use Rattle.decimal_text.specs.Items.{number, signed, item, signedItem}
+use Rattle.trace_text.specs.declared.PreviewShown.{PreviewShown}
 
 -- the award record that starts at place i: project, developer, and the quantity in 4 bytes, high byte first
 unfoldable pub quantityAt : List ℕ → ℕ → ℕ
@@ -62,6 +49,15 @@ wordsOf r excess remainder s =
     (cond (eqb (r .kind) 5) (closedLines excess remainder) (cond (eqb (r .kind) 6) (settledLines s (r .awards)) []))
     []
 
--- a reply's line and what stands below it
-unfoldable pub traceOf : Reply → ℕ → ℕ → Settled → List ℕ
-traceOf r excess remainder s = textOf r ++ wordsOf r excess remainder s
+-- what the preview of a closing says (document 02, 6): its number, excess and remainder, and 1 where the auction would then be closed
+unfoldable pub previewLine : PreviewShown → List ℕ
+previewLine p =
+    bytesOf "preview " ++ number (p .number) 32 ++ signed (p .excess) 32 ++ number (p .remainder) 32 ++ number (cond (p .closed) 1 0) 10
+
+-- before a reply, by its kind: that line where it is a closing's, accepted or refused
+unfoldable pub linesBefore : ℕ → PreviewShown → List ℕ
+linesBefore kind p = cond (eqb kind 5) (previewLine p) []
+
+-- a reply's line, with what stands before it and below it
+unfoldable pub traceOf : Reply → PreviewShown → ℕ → ℕ → Settled → List ℕ
+traceOf r p excess remainder s = linesBefore (r .kind) p ++ textOf r ++ wordsOf r excess remainder s

@@ -4,8 +4,9 @@ use mathlib.Core.Path.{refl}
 use native.Mathlib.Omega.{arith}
 use borrow.Author.Needs.{needs}
 use Rattle.reply_writing.specs.Texts.{textOf}
-use Rattle.trace_text.specs.Puts.{Puts}
-use Rattle.trace_text.proofs.Laws.{line-short, puts-none, laid-puts, whole, words-refused, words-closing, words-settling, words-other}
+use Rattle.decimal_text.specs.Puts.{Puts}
+use Rattle.decimal_text.specs.PutsLaws.{puts-none, laid-puts}
+use Rattle.trace_text.proofs.Laws.{line-short, whole, words-refused, words-closing, words-settling, words-other}
 use Rattle.trace_text.proofs.put.Statement.{statement}
 use Rattle.trace_text.proofs.put.Tie as tie
 

@@ -5,8 +5,8 @@ use native.Mathlib.Numerals.{add-one}
 use native.Mathlib.Omega.{arith}
 use lib.ListN.{length}
 use Rattle.trace_text.specs.Words.{awardLines}
-use Rattle.trace_text.specs.Puts.{Puts}
-use Rattle.trace_text.proofs.Laws.{puts-none, puts-then, puts-as, puts-length}
+use Rattle.decimal_text.specs.Puts.{Puts}
+use Rattle.decimal_text.specs.PutsLaws.{puts-none, puts-then, puts-as, puts-length}
 use Rattle.trace_text.proofs.put_awards.Statement.{statement}
 use Rattle.trace_text.proofs.put_awards.Tie as tie
 

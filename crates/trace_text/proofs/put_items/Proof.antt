@@ -3,7 +3,7 @@ use mathlib.Core.Path.{refl}
 use native.Mathlib.Omega.{arith}
 use borrow.Author.Needs.{needs}
 use Rattle.trace_text.specs.Words.{items}
-use Rattle.trace_text.proofs.Laws.{puts-as, puts-then}
+use Rattle.decimal_text.specs.PutsLaws.{puts-as, puts-then}
 use Rattle.trace_text.proofs.put_items.Statement.{statement}
 use Rattle.trace_text.proofs.put_items.Tie as tie
 

@@ -2,11 +2,11 @@
 use mathlib.Core.Path.{refl}
 use native.Mathlib.Omega.{arith}
 use borrow.Author.Needs.{needs}
-use Rattle.trace_text.specs.DecimalLaws.{decimal-short}
-use Rattle.trace_text.specs.Words.{number}
-use Rattle.trace_text.proofs.Laws.{puts-byte, puts-as, puts-then}
-use Rattle.trace_text.proofs.put_number.Statement.{statement}
-use Rattle.trace_text.proofs.put_number.Tie as tie
+use Rattle.decimal_text.specs.DecimalLaws.{decimal-short}
+use Rattle.decimal_text.specs.Items.{number}
+use Rattle.decimal_text.specs.PutsLaws.{puts-byte, puts-as, puts-then}
+use Rattle.decimal_text.proofs.put_number.Statement.{statement}
+use Rattle.decimal_text.proofs.put_number.Tie as tie
 
 put-decimal-requires : tie.Need-put-decimal-requires
 put-decimal-requires c κs = let s = c .before .before in omega (arith, decimal-short (s .args .n) (s .fits .n .fits))

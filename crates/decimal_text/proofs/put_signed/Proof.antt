@@ -5,10 +5,10 @@ use native.Mathlib.Omega.{arith}
 use borrow.Author.Needs.{needs}
 use borrow.Author.Tests.{lt-ltb, le-ltb}
 use lib.ListN.{length-set}
-use Rattle.trace_text.specs.Words.{signed}
-use Rattle.trace_text.proofs.Laws.{puts-byte, puts-as, puts-then}
-use Rattle.trace_text.proofs.put_signed.Statement.{statement}
-use Rattle.trace_text.proofs.put_signed.Tie as tie
+use Rattle.decimal_text.specs.Items.{signed}
+use Rattle.decimal_text.specs.PutsLaws.{puts-byte, puts-as, puts-then}
+use Rattle.decimal_text.proofs.put_signed.Statement.{statement}
+use Rattle.decimal_text.proofs.put_signed.Tie as tie
 
 put-number-requires : tie.Need-put-number-requires
 put-number-requires c κs = omega arith

@@ -6,14 +6,14 @@ use borrow.Author.Needs.{needs}
 use borrow.Fn.Kinds.{In}
 use borrow.Fn.PlainCycle.{Measures, is, falls, and}
 use lib.ListN.{length}
-use Rattle.trace_text.specs.Decimal.{decimal}
-use Rattle.trace_text.specs.DecimalLaws.{decimal-one, decimal-more, length-one, length-more}
-use Rattle.trace_text.proofs.Laws.{puts-byte, puts-as, puts-then}
-use Rattle.trace_text.proofs.put_decimal.Reads as put-decimal
-use Rattle.trace_text.proofs.put_decimal.Kinds as kinds
-use Rattle.trace_text.proofs.+put_decimal.Lts-put_decimal as lts
-use Rattle.trace_text.proofs.+put_decimal.{statement}
-use Rattle.trace_text.proofs.+put_decimal.Tie.{close}
+use Rattle.decimal_text.specs.Decimal.{decimal}
+use Rattle.decimal_text.specs.DecimalLaws.{decimal-one, decimal-more, length-one, length-more}
+use Rattle.decimal_text.specs.PutsLaws.{puts-byte, puts-as, puts-then}
+use Rattle.decimal_text.proofs.put_decimal.Reads as put-decimal
+use Rattle.decimal_text.proofs.put_decimal.Kinds as kinds
+use Rattle.decimal_text.proofs.+put_decimal.Lts-put_decimal as lts
+use Rattle.decimal_text.proofs.+put_decimal.{statement}
+use Rattle.decimal_text.proofs.+put_decimal.Tie.{close}
 
 abbrev μ-put-decimal : Measures 1 kinds.ps ℕ
 μ-put-decimal κs a = a .1 .1 .0

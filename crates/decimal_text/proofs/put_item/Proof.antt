@@ -2,10 +2,10 @@
 use mathlib.Core.Path.{refl}
 use native.Mathlib.Omega.{arith}
 use borrow.Author.Needs.{needs}
-use Rattle.trace_text.specs.Words.{item}
-use Rattle.trace_text.proofs.Laws.{puts-as, puts-then}
-use Rattle.trace_text.proofs.put_item.Statement.{statement}
-use Rattle.trace_text.proofs.put_item.Tie as tie
+use Rattle.decimal_text.specs.Items.{item}
+use Rattle.decimal_text.specs.PutsLaws.{puts-as, puts-then}
+use Rattle.decimal_text.proofs.put_item.Statement.{statement}
+use Rattle.decimal_text.proofs.put_item.Tie as tie
 
 put-name-requires : tie.Need-put-name-requires
 put-name-requires c κs = omega arith

@@ -5,10 +5,10 @@ use native.Mathlib.Omega.{arith}
 use borrow.Author.Needs.{needs}
 use lib.ListN.{length, take}
 use lib.Seq.{take-all}
-use Rattle.trace_text.specs.Puts.{Puts}
-use Rattle.trace_text.proofs.Laws.{puts-none, puts-as, puts-more, puts-length}
-use Rattle.trace_text.proofs.put_name.Statement.{statement}
-use Rattle.trace_text.proofs.put_name.Tie as tie
+use Rattle.decimal_text.specs.Puts.{Puts}
+use Rattle.decimal_text.specs.PutsLaws.{puts-none, puts-as, puts-more, puts-length}
+use Rattle.decimal_text.proofs.put_name.Statement.{statement}
+use Rattle.decimal_text.proofs.put_name.Tie as tie
 
 abbrev Inv-loop : tie.InvT-loop
 Inv-loop out₀ at name i₀ out i = (i ≤ length name) × (length out ≡ length out₀) × Puts (take i name) i out₀ out at (at + i)

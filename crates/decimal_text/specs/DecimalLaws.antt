@@ -8,7 +8,7 @@ use native.Mathlib.Omega.{arith}
 use borrow.Author.Tests.{lt-ltb, le-ltb, ltb-true, ltb-false}
 use lib.Dec.{ltb}
 use lib.ListN.{length, length-append}
-use Rattle.trace_text.specs.Decimal.{decimalIn, decimal}
+use Rattle.decimal_text.specs.Decimal.{decimalIn, decimal}
 
 -- more places than digits change nothing
 same-in : (j k n : ℕ) → n < j → n < k → decimalIn j n ≡ decimalIn k n

@@ -1,0 +1,5 @@
+pub mod Decimal
+pub mod DecimalLaws
+pub mod Items
+pub mod Puts
+pub mod PutsLaws
