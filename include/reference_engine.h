@@ -36,6 +36,16 @@ extern "C" {
 uint64_t demand(uint64_t ce, uint64_t d, uint64_t m1, uint64_t m2, uint64_t p);
 
 /*
+ * What rounding adds to exact demand at price p, in ce-ths of a kWh per day. The arguments are
+ * those of `demand`. Exact demand is the quantity, m1 to m2, that the curve prices at p itself.
+ *
+ * Returns Dem(p) times ce less exact demand times ce: a whole number, 0 to ce - 1, and 0 exactly
+ * if Dem(p) is exact. So exact demand is Dem(p) less the remainder over ce. Where `demand`
+ * returns REFERENCE_ENGINE_REFUSAL(1), so does this call; all else said of `demand` holds of it.
+ */
+uint64_t demand_remainder(uint64_t ce, uint64_t d, uint64_t m1, uint64_t m2, uint64_t p);
+
+/*
  * Replays a recorded auction from a fresh one: a frame a line in, a reply a line out, as
  * docs/FORMAT.md describes them.
  *

@@ -25,7 +25,13 @@ demand-small : (ce d m1 m2 p : ℕ) → demandAnswer ce d m1 m2 p .value ≤ 100
 unfolding demandAnswer
 demand-small ce d m1 m2 p = go (inBounds ce d m1 m2 && inRange ce p) refl
   where
-    go : (b : Bool) → (inBounds ce d m1 m2 && inRange ce p) ≡ b → _≤_ (cond {A = Answer} b (record { number = 0; value = dem ce d m1 m2 p; remainder = remainder ce d m1 m2 p }) (record { number = 1; value = 0; remainder = 0 }) .value) 100000000000
+    given : Answer
+    given = record { number = 0; value = dem ce d m1 m2 p; remainder = remainder ce d m1 m2 p }
+
+    beyond : Answer
+    beyond = record { number = 1; value = 0; remainder = 0 }
+
+    go : (b : Bool) → (inBounds ce d m1 m2 && inRange ce p) ≡ b → cond b given beyond .value ≤ 100000000000
     go true e =
         let t = and-true (inBounds ce d m1 m2) (inRange ce p) e in
         let s = in-bounds ce d m1 m2 (t .0) in

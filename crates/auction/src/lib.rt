@@ -329,7 +329,8 @@ impl Auction {
     pub fn lodge(self, developer: u8, prices: &[u32], levels: &[u32]) -> Answer
         ensures { λ r. ⌜ AnswersNumber (By developer (Lodge (now (prices .entry)) (now (levels .entry)))) self r ⌝ }
     {
-        if self.phase != Auction::READY {
+        let phase = self.phase;
+        if phase != Auction::READY {
             return self.refused(2);
         }
         let kinds = self.kinds;

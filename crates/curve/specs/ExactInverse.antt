@@ -1,7 +1,7 @@
 -- Exact demand is the curve's exact inverse: a quantity from M1 to M2 is priced at p itself exactly when CE times it is `exactTimesCe`.
 -- Counted in CE-ths of a kWh, so that M1, D and M2 are CE times as many, exact demand is the one whole quantity of that price.
 use Prim.Native.Nat.{ℕ, _+_, _-_, _*_, _≤_, _<_}
-use mathlib.Core.Path.{_≡_, sym, ap, _∙_, subst₂}
+use mathlib.Core.Path.{_≡_, sym, ap, _∙_}
 use mathlib.Core.Logic.{⊎-elim, _↔_}
 use native.Mathlib.Omega.{arith}
 use native.Mathlib.Nat.{mul-comm, mul-sub, mul-pos, mul-le-mul, mul-le-mul-left, mul-le-mul-right, mul-lt-mul-of-pos-right, le-of-mul-le-mul-right}
@@ -168,7 +168,9 @@ module _ (ce d m1 m2 p : ℕ) (s : InBounds ce d m1 m2) (a : InRange ce p) where
       scaled = exact-scaled ce d m1 m2 p ce
 
       at : (q * ce ≡ exactTimesCe ce (d * ce) (m1 * ce) (m2 * ce) p) ↔ PricedAt ce (d * ce) (m1 * ce) (m2 * ce) p q
-      at = exact-inverse ce (d * ce) (m1 * ce) (m2 * ce) p some-ce (mul-lt-mul-of-pos-right (s .m1-d) some-ce) (mul-lt-mul-of-pos-right (s .d-m2) some-ce) (a .high) q l g
+      at =
+          exact-inverse ce (d * ce) (m1 * ce) (m2 * ce) p some-ce
+          (mul-lt-mul-of-pos-right (s .m1-d) some-ce) (mul-lt-mul-of-pos-right (s .d-m2) some-ce) (a .high) q l g
 
       same : (x : ℕ) → q * ce ≡ x * ce → q ≡ x
       same x e =

@@ -27,7 +27,10 @@ divided-up-le n k x h = (
 
 -- so that rounding up adds less than k, times k
 pub divided-up-between : (n k : ℕ) → 0 < k → (n ≤ dividedUp n k * k) × (dividedUp n k * k < n + k)
-divided-up-between n k h = (divided-up-le n k (dividedUp n k) h .0 (omega arith), ⊎-elim (λ z. rw z (omega arith)) (λ s. above (s .0) (s .1)) (zero-or-next (dividedUp n k)))
+divided-up-between n k h = (
+  divided-up-le n k (dividedUp n k) h .0 (omega arith),
+  ⊎-elim (λ z. rw z (omega arith)) (λ s. above (s .0) (s .1)) (zero-or-next (dividedUp n k)),
+)
   where
     zero-or-next : (x : ℕ) → (x ≡ 0) ⊎ ((y : ℕ) × (x ≡ suc y))
     zero-or-next zero = inl refl

@@ -1,10 +1,10 @@
 -- The remainder is from 0 to CE - 1; it is 0 exactly when the curve prices Dem(p) at p itself, and so at 2 CE.
 use Prim.Native.Nat.{ℕ, _+_, _-_, _*_, _≤_, _<_}
-use mathlib.Core.Path.{_≡_, refl}
+use mathlib.Core.Path.{_≡_}
 use mathlib.Core.Logic.{_↔_}
 use native.Mathlib.Omega.{arith}
 use Rattle.curve.specs.Curve.{PricedAt}
-use Rattle.curve.specs.Demand.{dem, dividedUp, InBounds, InRange}
+use Rattle.curve.specs.Demand.{dem, InBounds, InRange}
 use Rattle.curve.specs.Remainder.{exactTimesCe, remainder}
 use Rattle.curve.specs.Range.{divided-up-between, dem-range}
 use Rattle.curve.specs.Order.{dem-top}

@@ -95,16 +95,20 @@ module _ (ce d m1 m2 q p : ℕ) where
 
   module _ (h : m1 < d) (l : m1 ≤ q) (g : q ≤ d) where
     pub priced-upper : (priced ce d m1 m2 p q ≡ true) ↔ (ce * (2 * d - (q + m1)) ≤ p * (d - m1))
-    priced-upper = via (curve-upper ce d m1 m2 q h l g) (rw (← next-less (2 * d) (q + m1) (omega arith), ← next-less d m1 h) (both-negative ce (2 * d - suc (q + m1)) (d - suc m1) p))
+    priced-upper = via (curve-upper ce d m1 m2 q h l g)
+        (rw (← next-less (2 * d) (q + m1) (omega arith), ← next-less d m1 h) (both-negative ce (2 * d - suc (q + m1)) (d - suc m1) p))
 
     pub at-upper : PricedAt ce d m1 m2 p q ↔ (ce * (2 * d - (q + m1)) ≡ p * (d - m1))
     unfolding PricedAt
-    at-upper = of-curve (λ f. Equals f (pos p)) (curve-upper ce d m1 m2 q h l g) (rw (← next-less (2 * d) (q + m1) (omega arith), ← next-less d m1 h) (both-negative-at ce (2 * d - suc (q + m1)) (d - suc m1) p))
+    at-upper = of-curve (λ f. Equals f (pos p)) (curve-upper ce d m1 m2 q h l g)
+        (rw (← next-less (2 * d) (q + m1) (omega arith), ← next-less d m1 h) (both-negative-at ce (2 * d - suc (q + m1)) (d - suc m1) p))
 
   module _ (k : m1 < d) (h : d < m2) (l : d < q) (g : q ≤ m2) where
     pub priced-lower : (priced ce d m1 m2 p q ≡ true) ↔ (ce * (2 * m2 - (q + d)) ≤ p * (2 * (m2 - d)))
-    priced-lower = via (curve-lower ce d m1 m2 q k h l g) (rw (← next-less (2 * m2) (q + d) (omega arith), ← next-twice m2 d h) (both-negative ce (2 * m2 - suc (q + d)) (2 * (m2 - suc d) + 1) p))
+    priced-lower = via (curve-lower ce d m1 m2 q k h l g)
+        (rw (← next-less (2 * m2) (q + d) (omega arith), ← next-twice m2 d h) (both-negative ce (2 * m2 - suc (q + d)) (2 * (m2 - suc d) + 1) p))
 
     pub at-lower : PricedAt ce d m1 m2 p q ↔ (ce * (2 * m2 - (q + d)) ≡ p * (2 * (m2 - d)))
     unfolding PricedAt
-    at-lower = of-curve (λ f. Equals f (pos p)) (curve-lower ce d m1 m2 q k h l g) (rw (← next-less (2 * m2) (q + d) (omega arith), ← next-twice m2 d h) (both-negative-at ce (2 * m2 - suc (q + d)) (2 * (m2 - suc d) + 1) p))
+    at-lower = of-curve (λ f. Equals f (pos p)) (curve-lower ce d m1 m2 q k h l g)
+        (rw (← next-less (2 * m2) (q + d) (omega arith), ← next-twice m2 d h) (both-negative-at ce (2 * m2 - suc (q + d)) (2 * (m2 - suc d) + 1) p))

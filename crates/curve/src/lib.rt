@@ -1,1 +1,1 @@
-// Numeral 3.8: the demand curve and Dem, with their laws. Specifications only: see specs/.
+// Numeral 3.8: the demand curve, Dem and its remainder, with their laws. Specifications only: see specs/.

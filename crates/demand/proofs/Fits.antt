@@ -21,7 +21,8 @@ module _ (ce d m1 m2 p : ℕ) (s : InBounds ce d m1 m2) (a : InRange ce p) where
   rise-fits = mul-le-mul {n₂ = 200000000000} {m₂ = 250000} (omega arith) (omega arith)
 
   -- exact demand rounded up, and what that adds
-  pub accepted : (exact r : ℕ) → exact ≡ exactTimesCe ce d m1 m2 p → r ≡ dividedUp exact ce * ce - exact → record { number = 0; value = dividedUp exact ce; remainder = r } ≡ demandAnswer ce d m1 m2 p
+  pub accepted : (exact r : ℕ) → exact ≡ exactTimesCe ce d m1 m2 p → r ≡ dividedUp exact ce * ce - exact →
+      record { number = 0; value = dividedUp exact ce; remainder = r } ≡ demandAnswer ce d m1 m2 p
   unfolding demandAnswer remainder
   accepted exact r e f = rw (in-bounds-test ce d m1 m2 s, in-range-test ce p a, dem-rounds-up ce d m1 m2 p (omega arith), f, e)
 

@@ -28,7 +28,8 @@ module _ (k : ℕ) (ns old : List ℕ) (room : length (lineOf (call k ns)) ≤ l
       pub fields-room : total ws ≤ length (midOf 2 (length xs - 2) xs)
       fields-room = rw tail-is (omega (arith, length-line (call k ns), ap total e, kind-same, length-drop 2 xs))
 
-      pub line-there : (ys : List ℕ) → ys ≡ laid (textAt ws ns) (midOf 2 (length xs - 2) xs) → putMid 2 (length xs - 2) xs ys ≡ laid (lineOf (call k ns)) old
+      pub line-there : (ys : List ℕ) → ys ≡ laid (textAt ws ns) (midOf 2 (length xs - 2) xs)
+          → putMid 2 (length xs - 2) xs ys ≡ laid (lineOf (call k ns)) old
       unfolding lineOf
       line-there ys f =
           grow (digits 2 k) (textAt ws ns) old xs ys 2 there (sym (length-digits 2 k)) f

@@ -35,7 +35,8 @@ module _ (value width : ℕ) where
         let q : left ≡ value / 16 ^ width = d .quotient ∙ ap (λ (n : ℕ). value / 16 ^ n) m in
         ⊎-elim
         (λ g.
-        let none : left ≡ 0 → ⊥ = λ z. let below : value < 1 * 16 ^ width = div-lt-iff-lt-mul {x = value} {y = 1} (power-pos width) .0 (omega arith) in omega arith in
+        let small : value / 16 ^ width < 1 → value < 1 * 16 ^ width = div-lt-iff-lt-mul {x = value} {y = 1} (power-pos width) .0 in
+        let none : left ≡ 0 → ⊥ = λ z. let below = small (omega arith) in omega arith in
         ne-eqb left 0 none ∙ sym (le-ltb value (16 ^ width) g))
         (λ g. eq-eqb left 0 (q ∙ div-eq-of-lt g) ∙ sym (lt-ltb value (16 ^ width) g))
         (le-or-lt (16 ^ width) value)

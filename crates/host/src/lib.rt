@@ -1,7 +1,7 @@
 // The calls that a C host links: plain numbers and slices of them, no preconditions.
 ghost use mathlib.Core.Path.{_≡_};
 ghost use Rattle.curve.specs.Answer.{demandAnswer};
-ghost use Rattle.rules.specs.Ledger.{settingsOf, Offer, SetUp, Open, By, Close};
+ghost use Rattle.rules.specs.Ledger.{settingsOf, Offer, Lodge, SetUp, Open, By, Close};
 ghost use Rattle.replies.specs.Orders.{Asks, Settle};
 ghost use Rattle.replies.specs.Replies.{replies};
 ghost use Rattle.record_replay.specs.Replayed.{hosted, over};
@@ -116,4 +116,17 @@ pub extern "C" fn write_settling(limit: u64, frame: &mut [u8]) -> u64
     ensures { λ r. ⌜ HostWrites (Settle limit) (now (frame .entry)) (now (frame .exit)) r ⌝ }
 {
     host_bytes(writing::write_settling(limit, frame))
+}
+
+// 07 lodging (document 02, 5).
+#[no_mangle]
+pub extern "C" fn write_lodging(
+    developer: u64,
+    prices: &[u64],
+    levels: &[u64],
+    frame: &mut [u8],
+) -> u64
+    ensures { λ r. ⌜ HostWrites (Asks (By developer (Lodge (now (prices .entry)) (now (levels .entry))))) (now (frame .entry)) (now (frame .exit)) r ⌝ }
+{
+    host_bytes(writing::write_lodging(developer, prices, levels, frame))
 }

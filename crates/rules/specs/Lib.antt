@@ -6,6 +6,7 @@ pub mod Second
 pub mod Award
 pub mod Settling
 pub mod Sample
+pub mod LodgingSample
 pub mod CheckLaws
 pub mod Projects
 pub mod RoundLaws

@@ -42,10 +42,14 @@ items s =
     item (bytesOf "price ") (s .price) ++ item (bytesOf "demand ") (s .demand) ++ item (bytesOf "total ") (s .total)
     ++ item (bytesOf "choices ") (s .choices) ++ item (bytesOf "covering ") (s .covering)
 
--- the items, the awards, what no reply says (document 02, 3): how many choices the search keeps, and the remainder
+-- behind the awards: what no reply says (document 02, 3), how many choices the search keeps; the remainder; the second price and its mark
+unfoldable pub itemsBehind : Settled → List ℕ
+itemsBehind s =
+    item (bytesOf "kept ") (s .kept) ++ item (bytesOf "remainder ") (s .remainder)
+    ++ item (bytesOf "second ") (s .second) ++ item (bytesOf "short ") (cond (s .short) 1 0)
+
 unfoldable pub settledLines : Settled → List ℕ → List ℕ
-settledLines s awards =
-    items s ++ awardLines awards (min (s .records) 32) ++ item (bytesOf "kept ") (s .kept) ++ item (bytesOf "remainder ") (s .remainder)
+settledLines s awards = items s ++ awardLines awards (min (s .records) 32) ++ itemsBehind s
 
 -- below an accepted closing
 unfoldable pub closedLines : ℕ → ℕ → List ℕ

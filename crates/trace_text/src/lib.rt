@@ -1,11 +1,12 @@
 // A reply in words and decimal numbers, an item a line, below the reply's own line. Each writer takes a place in the lent buffer and gives the
 // place behind what it wrote.
 ghost use mathlib.Core.Path.{_≡_};
+ghost use mathlib.Core.Bool.{cond};
 ghost use Prim.Native.Nat.{_+_, _*_, _≤_, _<_, min};
 ghost use lib.ListN.{length, getD};
 ghost use Rattle.numbers.specs.Tails.{laid};
 ghost use Rattle.trace_text.specs.Decimal.{decimal};
-ghost use Rattle.trace_text.specs.Words.{number, signed, item, signedItem, quantityAt, awardLine, awardLines, items, closedLines, settledLines, traceOf};
+ghost use Rattle.trace_text.specs.Words.{number, signed, item, signedItem, quantityAt, awardLine, awardLines, items, itemsBehind, closedLines, settledLines, traceOf};
 ghost use Rattle.trace_text.specs.Puts.{Puts};
 use reply_writing::Reply;
 use settling::Settled;
@@ -133,6 +134,27 @@ fn put_items(out: &mut [u8], at: usize, s: Settled) -> usize
     put_item(out, choices, b"covering ", s.covering)
 }
 
+// Whether a price is short, as a number.
+fn mark(short: bool) -> u64
+    ensures { λ r. ⌜ r ≡ cond short 1 0 ⌝ }
+{
+    if short {
+        return 1;
+    }
+    0
+}
+
+// What it says behind them.
+fn put_items_behind(out: &mut [u8], at: usize, s: Settled) -> usize
+    requires { ⌜ at + 200 ≤ length (now out) ⌝ }
+    ensures { λ r. ⌜ Puts (itemsBehind s) 200 (now (out .entry)) (now (out .exit)) at r ⌝ }
+{
+    let kept = put_item(out, at, b"kept ", s.kept);
+    let remainder = put_item(out, kept, b"remainder ", s.remainder as u64);
+    let second = put_item(out, remainder, b"second ", s.second as u64);
+    put_item(out, second, b"short ", mark(s.short))
+}
+
 // How many award records a reply has: 192 bytes hold 32.
 fn count(s: Settled) -> usize
     ensures { λ r. ⌜ (r ≡ min (s .records) 32) × (r ≤ 32) ⌝ }
@@ -149,8 +171,7 @@ fn put_settled(out: &mut [u8], at: usize, s: Settled, awards: [u8; 192]) -> usiz
 {
     let next = put_items(out, at, s);
     let behind = put_awards(out, next, awards, count(s));
-    let kept = put_item(out, behind, b"kept ", s.kept);
-    put_item(out, kept, b"remainder ", s.remainder as u64)
+    put_items_behind(out, behind, s)
 }
 
 // What an accepted closing says.

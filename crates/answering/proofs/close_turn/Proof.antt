@@ -28,7 +28,8 @@ returns c =
     let b = c .before .before .before .before .blank .ensures .0 in
     let s : SFits w64 (closed .result .excess) = search needs in
     let bits = c .before .before .bits-of .ensures ∙ ap twosComplement (toZ-ofZ s) in
-    takes-close _ _ _ _ (closed .ensures) (record { auction = refl; kind = b .0; number = b .1 }) (c .before .closing-values .ensures (closingIn (closed .result)) bits refl)
+    takes-close _ _ _ _ (closed .ensures) (record { auction = refl; kind = b .0; number = b .1 })
+    (c .before .closing-values .ensures (closingIn (closed .result)) bits refl)
 
 pub close-turn-spec : {M : Type 1} → statement M
 close-turn-spec =

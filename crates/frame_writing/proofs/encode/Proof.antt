@@ -76,7 +76,8 @@ returns-2 c =
     let p = b .before .before .before .before in
     let t = p .before .before in
     let r = room t in
-    let e : t .before .before .frame-size .result - 1 ≡ length (lineOf (call (start t .args .kind) (start t .args .fields .now))) = omega (arith, r .2) in
+    let a = start t .args in
+    let e : t .before .before .frame-size .result - 1 ≡ length (lineOf (call (a .kind) (a .fields .now))) = omega (arith, r .2) in
     encode-written _ _ _ _ _ (t .before .before .frame-size .ensures) (t .before .refusal-of .ensures) _ _ (t .if1 .left) refl refl
     (frame-there _ _ _ _ _ _ e (p .put-line .ensures) (b .put-byte .ensures))
 

@@ -1,4 +1,4 @@
--- The items, the awards behind them, then the number of kept choices and the remainder.
+-- The items, the awards behind them, then the other items.
 use mathlib.Core.Path.{refl}
 use native.Mathlib.Omega.{arith}
 use borrow.Author.Needs.{needs}
@@ -16,20 +16,8 @@ count-requires c κs = search needs
 put-awards-requires : tie.Need-put-awards-requires
 put-awards-requires c κs = (c .count .ensures .1, omega arith)
 
-slice-aggregate-put-item : tie.Need-slice-aggregate-put-item
-slice-aggregate-put-item c = refl
-
-put-item-requires : tie.Need-put-item-requires
-put-item-requires c κs = omega arith
-
-slice-aggregate-put-item-2 : tie.Need-slice-aggregate-put-item-2
-slice-aggregate-put-item-2 c = refl
-
-cast-put-item : tie.Need-cast-put-item
-cast-put-item c = search needs
-
-put-item-requires-2 : tie.Need-put-item-requires-2
-put-item-requires-2 c κs = omega arith
+put-items-behind-requires : tie.Need-put-items-behind-requires
+put-items-behind-requires c κs = omega arith
 
 same-length : tie.Need-same-length
 same-length c = search needs
@@ -37,13 +25,12 @@ same-length c = search needs
 returns : tie.Need-returns
 unfolding settledLines
 returns c =
-    let remainder = c .before .before in
-    let kept = remainder .before .before .before .before .before .before in
-    let awards = kept .before .before .before .before .before in
+    let behind = c .before .before in
+    let awards = behind .before .before .before .before in
     let items = awards .before .before .before .before .before in
     let n = awards .before .count in
-    let behind = puts-then (items .put-items .ensures) (rw (n .ensures .0) at (awards .put-awards .ensures)) in
-    puts-as (puts-then (puts-then behind (kept .put-item .ensures)) (remainder .put-item2 .ensures)) _ _ refl (omega (arith, n .ensures .0, n .ensures .1))
+    let all = puts-then (puts-then (items .put-items .ensures) (rw (n .ensures .0) at (awards .put-awards .ensures))) (behind .put-items-behind .ensures) in
+    puts-as all _ _ refl (omega (arith, n .ensures .0, n .ensures .1))
 
 pub put-settled-spec : {M : Type 1} → statement M
-put-settled-spec = tie.close (tie.spec put-items-requires count-requires put-awards-requires slice-aggregate-put-item put-item-requires slice-aggregate-put-item-2 cast-put-item put-item-requires-2 same-length returns)
+put-settled-spec = tie.close (tie.spec put-items-requires count-requires put-awards-requires put-items-behind-requires same-length returns)

@@ -31,7 +31,8 @@ returns-2 c =
     let a = c .before .before .before .before .before .before .args in
     let e = same (c .before .before) in
     let n = length-paired (a .prices .now) (a .levels .now) e in
-    let many = too-many (a .kind) (a .developer ∷ (length (a .prices .now) ∷ paired (a .prices .now) (a .levels .now))) (omega (arith, n, c .before .if2 .taken)) in
+    let many =
+    too-many (a .kind) (a .developer ∷ (length (a .prices .now) ∷ paired (a .prices .now) (a .levels .now))) (omega (arith, n, c .before .if2 .taken)) in
     equal-lists _ _ _ _ _ (a .prices .now) (a .levels .now) e (not-writable _ _ _ _ _ (c .refused2 .ensures) many refl)
 
 steps-of-requires : tie.Need-steps-of-requires
