@@ -312,13 +312,13 @@ impl Auction {
         if !checks::is_of_kind(kinds, developer, Auction::NEW_PLANT) {
             return self.refused(3);
         }
-        let i = (developer - 1) as usize;
-        let history = self.histories[i];
-        if history.offered < 1 {
+        let place = (developer - 1) as usize;
+        let standing = self.histories[place];
+        if standing.offered < 1 {
             return self.refused(16);
         }
         let mut next = self;
-        next.histories[i] = history.cancel();
+        next.histories[place] = standing.cancel();
         Answer {
             number: 0,
             auction: next,

@@ -154,9 +154,7 @@ moveNumber l n x (Lodge ps qs) =
     (check (pricesOk (floor l) (l .settings .a) ps qs) 6
     (check (lowering (x .declared .levels) (highest x) qs) 7 0)))
 moveNumber l n x Cancel =
-    check (inRound (l .phase)) 2
-    (check (isOfKind 2 n (x .declared .kind)) 3
-    (check (not (isNone (x .offer))) 16 0))
+    check (inRound (l .phase)) 2 (check (isOfKind 2 n (x .declared .kind)) 3 (check (not (isNone (x .offer))) 16 0))
 
 -- set-up 2, 1; registration 2, 3, 4; opening 2, 5, 9; closing 2
 unfoldable pub number : Ledger → Call → ℕ

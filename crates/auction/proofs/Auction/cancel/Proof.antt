@@ -37,17 +37,17 @@ refused-requires-2 c κs = search needs
 returns-2 : tie.Need-returns-2
 returns-2 c = rw (c .refused2 .ensures) (cancel-barred _ _ (c .before .before .before .before .if1 .left) (sym (c .before .before .is-of-kind .ensures) ∙ not-true _ (c .before .if2 .taken)))
 
-sub-i : tie.Need-sub-i
-sub-i c = let b = bounds c in omega arith
+sub-place : tie.Need-sub-place
+sub-place c = let b = bounds c in omega arith
 
-cast-i : tie.Need-cast-i
-cast-i c = search needs
+cast-place : tie.Need-cast-place
+cast-place c = search needs
 
-mul-history : tie.Need-mul-history
-mul-history c = search needs
+mul-standing : tie.Need-mul-standing
+mul-standing c = search needs
 
-element-copy-out-history : tie.Need-element-copy-out-history
-element-copy-out-history c = let b = bounds c in omega arith
+element-copy-out-standing : tie.Need-element-copy-out-standing
+element-copy-out-standing c = let b = bounds c in omega arith
 
 refused-requires-3 : tie.Need-refused-requires-3
 refused-requires-3 c κs = search needs
@@ -80,10 +80,10 @@ cancel-spec =
     is-of-kind-requires
     refused-requires-2
     returns-2
-    sub-i
-    cast-i
-    mul-history
-    element-copy-out-history
+    sub-place
+    cast-place
+    mul-standing
+    element-copy-out-standing
     refused-requires-3
     returns-3
     cancel-requires
