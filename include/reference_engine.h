@@ -64,6 +64,78 @@ uint64_t demand_remainder(uint64_t ce, uint64_t d, uint64_t m1, uint64_t m2, uin
 uint64_t replay(const uint8_t *record, size_t record_length, uint8_t *replies,
                 size_t replies_length);
 
+/*
+ * Writing the record of an auction, a call at a time: each call below writes one frame, the line
+ * of docs/FORMAT.md with its 0A, from the start of the lent buffer. Frames written one behind the
+ * other are a record: lend the rest of the record's buffer to each call.
+ *
+ *   frame    the lent buffer, frame_length bytes; it must not overlap the lists
+ *
+ * Returns the number of bytes written, at most 161; the bytes behind them stay. There are two
+ * refusals, and either leaves every byte of the buffer as it was:
+ *
+ *   REFERENCE_ENGINE_REFUSAL(14), which is 2^64 - 14, tested first: the call is not writable. A
+ *   number does not fit the digits of its field, the two lists of an offer or a lodging are not
+ *   equally long, or the line would have more than 160 characters.
+ *
+ *   REFERENCE_ENGINE_REFUSAL(13), which is 2^64 - 13, tested last: the buffer is too short for the
+ *   frame with its 0A.
+ *
+ * Any numbers may be passed, and any lists in any lengths; a length of 0 goes with any pointer,
+ * NULL too. Whether the auction will accept the call is not asked: project 0 is written, and
+ * replaying it gets its refusal. The calls keep no state and touch no other memory of the host, so
+ * any number of threads may make them at once, each with its own buffer.
+ */
+
+/*
+ * Frame 01, set-up: entrant's cost, target demand, lower and upper margin, opening price. ce and a
+ * fit below 2^32; d, m1 and m2 below 2^40. The frame has 49 bytes.
+ */
+uint64_t write_set_up(uint64_t ce, uint64_t d, uint64_t m1, uint64_t m2, uint64_t a, uint8_t *frame,
+                      size_t frame_length);
+
+/*
+ * Frame 02, a developer's registration with its declared levels. project, developer and kind (1
+ * existing, 2 new) fit below 2^8; study value, start day and each level below 2^32. The frame has
+ * 27 bytes and 8 a level; 16 levels fit a line.
+ */
+uint64_t write_registration(uint64_t project, uint64_t developer, uint64_t kind, uint64_t study,
+                            uint64_t day, const uint64_t *levels, size_t levels_length,
+                            uint8_t *frame, size_t frame_length);
+
+/* Frame 03, opening of a round down to the closing price c, below 2^32. The frame has 11 bytes. */
+uint64_t write_opening(uint64_t c, uint8_t *frame, size_t frame_length);
+
+/*
+ * Frame 04, a developer's offer: the steps' prices, and the level that each step falls to. The
+ * developer fits below 2^8, each price and level below 2^32, and the lists are equally long. The
+ * frame has 7 bytes and 16 a step; 9 steps fit a line.
+ */
+uint64_t write_offer(uint64_t developer, const uint64_t *prices, size_t prices_length,
+                     const uint64_t *levels, size_t levels_length, uint8_t *frame,
+                     size_t frame_length);
+
+/* Frame 05, closing of the round. The frame has 3 bytes. */
+uint64_t write_closing(uint8_t *frame, size_t frame_length);
+
+/* Frame 06, settling, with its limit on admissible choices, below 2^32. The frame has 11 bytes. */
+uint64_t write_settling(uint64_t limit, uint8_t *frame, size_t frame_length);
+
+/*
+ * Frame 07, lodging of an existing plant's withdrawals, before the first round: the steps' prices,
+ * and the level that each step falls to. A list lodged again replaces the one before; an empty one
+ * takes it back. Fields, widths and lengths are those of an offer.
+ */
+uint64_t write_lodging(uint64_t developer, const uint64_t *prices, size_t prices_length,
+                       const uint64_t *levels, size_t levels_length, uint8_t *frame,
+                       size_t frame_length);
+
+/*
+ * Frame 09, cancellation: the developer takes back its offer of the open round. The developer fits
+ * below 2^8. The frame has 5 bytes.
+ */
+uint64_t write_cancellation(uint64_t developer, uint8_t *frame, size_t frame_length);
+
 #ifdef __cplusplus
 }
 #endif
