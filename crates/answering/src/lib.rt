@@ -4,7 +4,7 @@ ghost use Prim.Native.Nat.{ℕ, _+_, _*_, _^_, _≤_, _<_};
 ghost use lib.ListN.{length, take, getD, replicate};
 ghost use Rattle.replies.specs.Orders.{Malformed, Asks, Settle, setUpOf, registrationOf, moveOf, ordered};
 ghost use Rattle.replies.specs.Replies.{twosComplement};
-ghost use Rattle.rules.specs.Ledger.{Offer, Lodge, Open, Close};
+ghost use Rattle.rules.specs.Ledger.{Offer, Lodge, Cancel, Open, By, Close};
 ghost use Rattle.frames.specs.Decoded.{callIn};
 ghost use Rattle.answering.specs.Turns.{fieldsOf, every, Framed, Stepped, StepsIn, Answers, Takes, Reads};
 use auction::Answer;
@@ -228,6 +228,13 @@ fn lodge_turn(auction: Auction, frame: Frame) -> Turn
     )
 }
 
+fn cancel_turn(auction: Auction, frame: Frame) -> Turn
+    requires { ⌜ Framed 9 frame ⌝ }
+    ensures { λ r. ⌜ Takes auction (Asks (By (getD (fieldsOf frame) 0 0) Cancel)) r ⌝ }
+{
+    answered(9, auction.cancel(byte(frame, 0)))
+}
+
 fn close_turn(auction: Auction) -> Turn
     ensures { λ r. ⌜ Takes auction (Asks Close) r ⌝ }
 {
@@ -294,6 +301,9 @@ pub fn respond(auction: Auction, frame: Frame) -> Turn
     }
     if kind == 7 {
         return lodge_turn(auction, frame);
+    }
+    if kind == 9 {
+        return cancel_turn(auction, frame);
     }
     malformed(auction)
 }

@@ -1,15 +1,19 @@
 -- What the auction holds of developer n, at place n - 1 of each array.
 use Prim.Native.Nat.{ℕ, _-_, _≤_}
 use mathlib.Core.Path.{_≡_, sym, ap, _∙_}
-use mathlib.Core.List.{List}
+use mathlib.Core.Logic.{⊎-elim}
+use mathlib.Core.Bool.{true}
+use mathlib.Core.List.{List, []}
 use lib.Dec.{eqb}
 use lib.ListN.{getD}
 use lib.Seq.{take-append-seam}
-use Rattle.rules.specs.Ledger.{Ledger}
+use Rattle.rules.specs.Ledger.{Developer, Ledger}
 use Rattle.rules.specs.Refusals.{isNumber, isOfKind}
-use Rattle.rules.specs.CheckLaws.{is-number}
+use Rattle.rules.specs.CheckLaws.{is-number, of-kind-facts}
+use Rattle.sound.specs.Sound.{Sound}
 use Rattle.levels.specs.Held.{heldLevels, levelsIn}
 use Rattle.levels.specs.declared.Levels.{Levels}
+use Rattle.history.specs.Held.{offeredNumber}
 use Rattle.history.specs.declared.History.{History}
 use Rattle.auction.specs.declared.Auction.{Auction}
 use Rattle.auction.specs.Holds.{heldCourse, auctionOf}
@@ -38,6 +42,9 @@ module _ (n : ℕ) (a : Auction) where
     unfolding auctionOf
     history-at d = ap (λ (x : Auction). getD (x .histories) (n - 1) d) h ∙ each-at heldCourse l n d low high
 
+    pub offered-at : (d : History) → offeredNumber (l .developers n .offer) ≡ getD (a .histories) (n - 1) d .offered
+    offered-at d = ap (λ (x : History). x .offered) (sym (history-at d))
+
   -- the kind that the auction holds of developer n
   abbrev pub kindHeld : ℕ
   kindHeld = getD (a .kinds) (n - 1) 0
@@ -45,3 +52,7 @@ module _ (n : ℕ) (a : Auction) where
   pub kind-is : (k : ℕ) (l : Ledger) → a ≡ auctionOf l → isOfKind k n (l .developers n .declared .kind) ≡ isOfKind k n kindHeld
   unfolding isOfKind
   kind-is k l h = where-true (isNumber n) (λ e. let b = is-number n e in ap (λ (m : ℕ). eqb m k) (sym (kind-at l h (b .0) (b .1))))
+
+-- a new plant has nothing lodged
+pub none-lodged : (l : Ledger) (n : ℕ) → Sound l → isOfKind 2 n (l .developers n .declared .kind) ≡ true → l .developers n .lodged ≡ []
+none-lodged l n s e = ⊎-elim (λ z. ap (λ (x : Developer). x .lodged) z) (λ q. q .lodged .kind (of-kind-facts 2 n _ e .2)) (s .each n)

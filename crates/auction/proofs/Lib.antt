@@ -4,7 +4,9 @@ mod SettingUp
 mod Registering
 mod Opening
 mod DeveloperHeld
+mod Moving
 mod Offering
+mod Cancelling
 mod Lodging
 mod ApplyingOffers
 mod ClosingRound

@@ -12,7 +12,7 @@ use Rattle.rules.specs.Ledger.{Step, Standing, none, made, Developer, Lodge, By
 use Rattle.rules.specs.Clearing.{highest}
 use Rattle.rules.specs.Refusals.{isReady, inRound, isOfKind, floor, pricesOk, lowering, moveNumber, number}
 use Rattle.rules.specs.CheckLaws.{levels-facts, of-kind-facts, prices-facts}
-use Rattle.rules.specs.Rounds.{steps, moved, accepted, numberAlone, granted}
+use Rattle.rules.specs.Rounds.{steps, moved, numberAlone}
 use Rattle.sound.specs.Sound.{started, SoundOffer, Registered, Sound}
 use Rattle.reachable.specs.Held.{is-ready}
 use Rattle.levels.specs.Held.{levelsIn, Highest}
@@ -22,9 +22,9 @@ use Rattle.history.specs.declared.History.{History}
 use Rattle.auction.specs.declared.Auction.{Auction}
 use Rattle.auction.specs.Holds.{heldCourse, auctionOf}
 use Rattle.auction.specs.Called.{Called}
-use Rattle.auction.specs.Parts.{withCourses, courses-held}
-use Rattle.auction.specs.Places.{put-at, put-keeps}
-use Rattle.auction.proofs.Calls.{Refused, refused, taken}
+use Rattle.auction.specs.Parts.{withCourses}
+use Rattle.auction.proofs.Calls.{Refused, refused}
+use Rattle.auction.proofs.Moving.{Moves, move-taken}
 use Rattle.auction.proofs.Phases.{ready-is}
 use Rattle.auction.proofs.DeveloperHeld.{levels-in, declared-at, kindHeld, kind-is}
 
@@ -97,11 +97,10 @@ module _ (n : ℕ) (ps qs : List ℕ) (a : Auction) where
         lodging = withCourses a (a .quantities) (set (a .histories) (n - 1) r)
 
         pub lodge-taken : Called (By n (Lodge ps qs)) a lodging (numberAlone 0)
-        unfolding number moveNumber granted accepted moved auctionOf
-        lodge-taken = taken _ a lodging _ refl (λ l s h. record {
+        unfolding number moveNumber moved
+        lodge-taken = move-taken n (Lodge ps qs) a r low high (λ l s h. record {
           number = simp (ready z l h, kind-is n a 1 l h ∙ w, prices-at l h ∙ f, lowering-at l s h ∙ g);
-          answer = refl;
-          next = courses-held a l n (entry l) h refl
-              (ap (λ (x : Auction). x .quantities) h ∙ sym (put-keeps (λ x. x .quantity) l n (entry l) refl))
-              (ap (λ (x : Auction). set (x .histories) (n - 1) r) h ∙ put-at heldCourse l n (entry l) r low high (history-next l s h));
+          declared = refl;
+          quantity = refl;
+          history = history-next l s h;
         })

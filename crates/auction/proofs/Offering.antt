@@ -10,7 +10,7 @@ use borrow.Author.Tests.{eq-eqb, ne-eqb}
 use Rattle.rules.specs.Ledger.{none, made, Developer, Offer, By, Ledger, nobody, withOffer}
 use Rattle.rules.specs.Refusals.{inRound, isOfKind, isNone, pricesOk, lowering, moveNumber, number}
 use Rattle.rules.specs.CheckLaws.{of-kind-facts, prices-facts}
-use Rattle.rules.specs.Rounds.{steps, moved, accepted, numberAlone, granted}
+use Rattle.rules.specs.Rounds.{steps, moved, accepted, numberAlone}
 use Rattle.sound.specs.Sound.{Sound, Registered}
 use Rattle.reachable.specs.Bounds.{offer-fits}
 use Rattle.reachable.specs.Steps.{step-accepted}
@@ -23,23 +23,20 @@ use Rattle.history.specs.declared.History.{History}
 use Rattle.auction.specs.declared.Auction.{Auction}
 use Rattle.auction.specs.Holds.{heldCourse, auctionOf}
 use Rattle.auction.specs.Called.{Called}
-use Rattle.auction.specs.Parts.{withCourses, courses-held}
-use Rattle.auction.proofs.Calls.{Refused, refused, taken}
-use Rattle.auction.specs.Places.{put-at, put-keeps}
-use Rattle.auction.proofs.Phases.{round-is}
-use Rattle.auction.proofs.DeveloperHeld.{levels-in, quantity-at, declared-at, history-at, kindHeld, kind-is}
+use Rattle.auction.specs.Parts.{withCourses}
+use Rattle.auction.proofs.Calls.{Refused, refused}
+use Rattle.auction.proofs.Moving.{Moves, move-taken}
+use Rattle.auction.proofs.Phases.{round-is, in-round}
+use Rattle.auction.proofs.DeveloperHeld.{levels-in, quantity-at, declared-at, history-at, offered-at, kindHeld, kind-is, none-lodged}
 
 module _ (n : ℕ) (ps qs : List ℕ) (a : Auction) where
-  in-round : a .phase ≡ 2 → (l : Ledger) → a ≡ auctionOf l → inRound (l .phase) ≡ true
-  in-round z l h = round-is a l h ∙ eq-eqb _ 2 z
-
   pub offer-phase : (a .phase ≡ 2 → ⊥) → Refused (By n (Offer ps qs)) a 2
   unfolding number moveNumber
   offer-phase z = refused _ a 2 (omega arith) (λ l s h. simp (round-is a l h ∙ ne-eqb _ 2 z))
 
   pub offer-barred : a .phase ≡ 2 → isOfKind 2 n (kindHeld n a) ≡ false → Refused (By n (Offer ps qs)) a 3
   unfolding number moveNumber
-  offer-barred z f = refused _ a 3 (omega arith) (λ l s h. simp (in-round z l h, kind-is n a 2 l h ∙ f))
+  offer-barred z f = refused _ a 3 (omega arith) (λ l s h. simp (in-round a z l h, kind-is n a 2 l h ∙ f))
 
   module _ (z : a .phase ≡ 2) (w : isOfKind 2 n (kindHeld n a) ≡ true) (d : History) where
     low : 1 ≤ n
@@ -48,19 +45,19 @@ module _ (n : ℕ) (ps qs : List ℕ) (a : Auction) where
     high : n ≤ 32
     high = of-kind-facts 2 n _ w .1
 
-    offered-at : (l : Ledger) → a ≡ auctionOf l → offeredNumber (l .developers n .offer) ≡ getD (a .histories) (n - 1) d .offered
-    offered-at l h = ap (λ (x : History). x .offered) (sym (history-at n a l h low high d))
+    standing-at : (l : Ledger) → a ≡ auctionOf l → offeredNumber (l .developers n .offer) ≡ getD (a .histories) (n - 1) d .offered
+    standing-at l h = offered-at n a l h low high d
 
     pub offer-second : 0 < getD (a .histories) (n - 1) d .offered → Refused (By n (Offer ps qs)) a 8
     unfolding number moveNumber
-    offer-second v = refused _ a 8 (omega arith) (λ l s h. simp (in-round z l h, kind-is n a 2 l h ∙ w, is-none-by-number (l .developers n .offer) ∙ ne-eqb (offeredNumber (l .developers n .offer)) 0 (λ e. let k = offered-at l h in omega arith)))
+    offer-second v = refused _ a 8 (omega arith) (λ l s h. simp (in-round a z l h, kind-is n a 2 l h ∙ w, is-none-by-number (l .developers n .offer) ∙ ne-eqb (offeredNumber (l .developers n .offer)) 0 (λ e. let k = standing-at l h in omega arith)))
 
     module _ (none-yet : getD (a .histories) (n - 1) d .offered ≤ 0) where
       first : getD (a .histories) (n - 1) d .offered ≡ 0
       first = omega arith
 
       first-is : (l : Ledger) → a ≡ auctionOf l → isNone (l .developers n .offer) ≡ true
-      first-is l h = is-none-by-number (l .developers n .offer) ∙ eq-eqb _ 0 (offered-at l h ∙ first)
+      first-is l h = is-none-by-number (l .developers n .offer) ∙ eq-eqb _ 0 (standing-at l h ∙ first)
 
       prices-at : (l : Ledger) → a ≡ auctionOf l → pricesOk (l .closing) (l .opening) ps qs ≡ pricesOk (a .closing) (a .opening) ps qs
       unfolding auctionOf
@@ -68,7 +65,7 @@ module _ (n : ℕ) (ps qs : List ℕ) (a : Auction) where
 
       pub offer-prices : pricesOk (a .closing) (a .opening) ps qs ≡ false → Refused (By n (Offer ps qs)) a 6
       unfolding number moveNumber
-      offer-prices f = refused _ a 6 (omega arith) (λ l s h. simp (in-round z l h, kind-is n a 2 l h ∙ w, first-is l h, prices-at l h ∙ f))
+      offer-prices f = refused _ a 6 (omega arith) (λ l s h. simp (in-round a z l h, kind-is n a 2 l h ∙ w, first-is l h, prices-at l h ∙ f))
 
       module _ (f : pricesOk (a .closing) (a .opening) ps qs ≡ true) (k : Levels) where
         lowering-at : (l : Ledger) → a ≡ auctionOf l → lowering (l .developers n .declared .levels) (l .developers n .quantity) qs ≡ lowering (levelsIn (getD (a .declared) (n - 1) k)) (getD (a .quantities) (n - 1) 0) qs
@@ -76,12 +73,12 @@ module _ (n : ℕ) (ps qs : List ℕ) (a : Auction) where
 
         pub offer-levels : lowering (levelsIn (getD (a .declared) (n - 1) k)) (getD (a .quantities) (n - 1) 0) qs ≡ false → Refused (By n (Offer ps qs)) a 7
         unfolding number moveNumber
-        offer-levels g = refused _ a 7 (omega arith) (λ l s h. simp (in-round z l h, kind-is n a 2 l h ∙ w, first-is l h, prices-at l h ∙ f, lowering-at l h ∙ g))
+        offer-levels g = refused _ a 7 (omega arith) (λ l s h. simp (in-round a z l h, kind-is n a 2 l h ∙ w, first-is l h, prices-at l h ∙ f, lowering-at l h ∙ g))
 
         module _ (g : lowering (levelsIn (getD (a .declared) (n - 1) k)) (getD (a .quantities) (n - 1) 0) qs ≡ true) (r : History) (o : Offered (getD (a .histories) (n - 1) d) ps qs r) where
           passes : (l : Ledger) → a ≡ auctionOf l → number l (By n (Offer ps qs)) ≡ 0
           unfolding number moveNumber
-          passes l h = simp (in-round z l h, kind-is n a 2 l h ∙ w, first-is l h, prices-at l h ∙ f, lowering-at l h ∙ g)
+          passes l h = simp (in-round a z l h, kind-is n a 2 l h ∙ w, first-is l h, prices-at l h ∙ f, lowering-at l h ∙ g)
 
           -- the developer with the offer
           abbrev entry : Ledger → Developer
@@ -107,19 +104,12 @@ module _ (n : ℕ) (ps qs : List ℕ) (a : Auction) where
               fits : Registered (accepted l (By n (Offer ps qs))) n → length (l .developers n .withdrawals) + length (steps ps qs) ≤ 8
               fits q = subst (λ (x : Developer). length (x .withdrawals) + length (steps ps qs) ≤ 8) here (offer-fits q (ap (λ (x : Developer). x .offer) here))
 
-          -- a new plant has nothing lodged
-          none-lodged : (l : Ledger) → Sound l → a ≡ auctionOf l → l .developers n .lodged ≡ []
-          none-lodged l s h = ⊎-elim
-              (λ e. ap (λ (x : Developer). x .lodged) e)
-              (λ q. q .lodged .kind (of-kind-facts 2 n _ (kind-is n a 2 l h ∙ w) .2))
-              (s .each n)
-
           history-next : (l : Ledger) → Sound l → a ≡ auctionOf l → r ≡ heldCourse (entry l)
           history-next l s h =
               let ws = l .developers n .withdrawals in
-              let e = none-lodged l s h in
+              let e = none-lodged l n s (kind-is n a 2 l h ∙ w) in
               o .right ws
-              (history-at n a l h low high d ∙ ap₂ (heldHistory ws) (offered-none (l .developers n .offer) (offered-at l h ∙ first)) e)
+              (history-at n a l h low high d ∙ ap₂ (heldHistory ws) (offered-none (l .developers n .offer) (standing-at l h ∙ first)) e)
               (as-long l h)
               (room l s h)
               ∙ ap (heldHistory ws (made (steps ps qs))) (sym e)
@@ -129,11 +119,5 @@ module _ (n : ℕ) (ps qs : List ℕ) (a : Auction) where
           offering = withCourses a (a .quantities) (set (a .histories) (n - 1) r)
 
           pub offer-taken : Called (By n (Offer ps qs)) a offering (numberAlone 0)
-          unfolding granted accepted moved auctionOf
-          offer-taken = taken _ a offering _ refl (λ l s h. record {
-            number = passes l h;
-            answer = refl;
-            next = courses-held a l n (entry l) h refl
-                (ap (λ (x : Auction). x .quantities) h ∙ sym (put-keeps (λ x. x .quantity) l n (entry l) refl))
-                (ap (λ (x : Auction). set (x .histories) (n - 1) r) h ∙ put-at heldCourse l n (entry l) r low high (history-next l s h));
-          })
+          unfolding moved
+          offer-taken = move-taken n (Offer ps qs) a r low high (λ l s h. record { number = passes l h; declared = refl; quantity = refl; history = history-next l s h })

@@ -3,7 +3,7 @@
 ghost use mathlib.Core.Path.{_≡_};
 ghost use mathlib.Core.List.{[]};
 ghost use Prim.Native.Nat.{_≤_};
-ghost use Rattle.rules.specs.Ledger.{Open, By, Offer, Lodge};
+ghost use Rattle.rules.specs.Ledger.{Open, By, Offer, Lodge, Cancel};
 ghost use Rattle.rules.specs.Rounds.{ledger};
 ghost use Rattle.auction.specs.Holds.{auctionOf};
 ghost use Rattle.auction.specs.Called.{AnswersNumber, AnswersClosing, Previews, setsUp, registers, refusedAnswer, OffersApplied};
@@ -313,6 +313,30 @@ impl Auction {
         }
         let mut next = self;
         next.histories[i] = history.offer(prices, levels);
+        Answer {
+            number: 0,
+            auction: next,
+        }
+    }
+
+    // Taking back an offer (document 02, 7). Checks: 2, 3, 16.
+    pub fn cancel(self, developer: u8) -> Answer
+        ensures { λ r. ⌜ AnswersNumber (By developer Cancel) self r ⌝ }
+    {
+        if self.phase != Auction::ROUND {
+            return self.refused(2);
+        }
+        let kinds = self.kinds;
+        if !checks::is_of_kind(kinds, developer, Auction::NEW_PLANT) {
+            return self.refused(3);
+        }
+        let place = (developer - 1) as usize;
+        let standing = self.histories[place];
+        if standing.offered < 1 {
+            return self.refused(16);
+        }
+        let mut next = self;
+        next.histories[place] = standing.cancel();
         Answer {
             number: 0,
             auction: next,

@@ -1,4 +1,4 @@
--- What the writing functions leave: an offer's steps behind the withdrawals, a lodged list, and the withdrawals once an offer or lodged steps
+-- What the writing functions leave: an offer's steps behind the withdrawals, the withdrawals without them, a lodged list, and the withdrawals once an offer or lodged steps
 -- are applied.
 use Prim.Native.Nat.{ℕ, _+_, _-_, _≤_, _<_}
 use mathlib.Core.Path.{_≡_, refl, sym, ap, _∙_}
@@ -7,7 +7,7 @@ use mathlib.Core.Bool.{Bool, true, false}
 use mathlib.Core.List.{List, [], _∷_, _++_, map, map-append, append-nil, append-assoc}
 use native.Mathlib.Omega.{arith}
 use native.Mathlib.Nat.{le-refl}
-use lib.ListN.{length, getD, take, set, length-append, length-map}
+use lib.ListN.{length, getD, take, set, length-append, length-map, List·getD-map}
 use lib.Seq.{take-all}
 use Rattle.numbers.specs.Lists.{padded}
 use Rattle.rules.specs.Ledger.{Step, Standing, none, made}
@@ -15,9 +15,9 @@ use Rattle.rules.specs.Rounds.{steps, reached, unreached}
 use Rattle.sound.specs.Sound.{pricesOf, levelsOf}
 use Rattle.sound.specs.LodgedLaws.{reached-front}
 use Rattle.history.specs.declared.History.{History}
-use Rattle.history.specs.Held.{heldHistory, pending, additions, Offered, Lodged, ReachedNumber, Reached, Applied}
+use Rattle.history.specs.Held.{heldHistory, pending, additions, Offered, Cancelled, Lodged, ReachedNumber, Reached, Applied}
 use Rattle.history.specs.HeldLaws.{steps-prices, steps-levels, steps-length}
-use Rattle.history.proofs.Places.{same, count-of, offered-of, lodged-of, padded-more, padded-next}
+use Rattle.history.proofs.Places.{same, count-of, offered-of, lodged-of, padded-more, padded-next, noStep, padded-at}
 
 -- a column of the arrays
 column : (f : Step → ℕ) (ws ss : List Step) (xs : List ℕ) → map f ss ≡ xs → padded 8 (map f ws ++ xs) ≡ padded 8 (map f (ws ++ ss))
@@ -33,6 +33,9 @@ column-more f ws s n e h =
 -- nothing behind the last steps
 last : (f : Step → ℕ) (ws ss : List Step) → padded 8 (map f (ws ++ ss)) ≡ padded 8 (map f (ws ++ (ss ++ [])))
 last f ws ss = ap (λ (x : List Step). padded 8 (map f (ws ++ x))) (sym (append-nil ss))
+
+nothing-behind : (f : Step → ℕ) (ws : List Step) → padded 8 (map f ws) ≡ padded 8 (map f (ws ++ []))
+nothing-behind f ws = ap (λ (x : List Step). padded 8 (map f x)) (sym (append-nil ws))
 
 -- ---- offer
 
@@ -63,6 +66,21 @@ store-first ps qs h = record {
 pub no-room : (ps qs : List ℕ) (h r : History) → ((ws : List Step) → h .count ≡ length ws → length ps ≡ length qs → length ws + length ps ≤ 8 → ⊥) → Offered h ps qs r
 no-room ps qs h r z = record { right = λ ws e s w. absurd (z ws (count-of e) s w) }
 
+-- the next step stored, in place j
+stored-next :
+    (ws : List Step) (ps qs : List ℕ) (h : History) (n i : ℕ) → h ≡ storedTo ws ps qs i → n ≡ length ws →
+    (j p q : ℕ) → j ≡ n + i → p ≡ getD ps i 0 → q ≡ getD qs i 0 →
+    i < length ps → length ps ≡ length qs → n + length ps ≤ 8 →
+    record { prices = set (h .prices) j p; levels = set (h .levels) j q; count = h .count; offered = h .offered; lodged = h .lodged } ≡ storedTo ws ps qs (i + 1)
+stored-next ws ps qs h n i g m j p q e f k w s v =
+    rw (e, f, k)
+    (same _ (storedTo ws ps qs (i + 1))
+    (ap (λ (x : History). set (x .prices) (n + i) (getD ps i 0)) g ∙ padded-next 8 (pricesOf ws) ps n i (length-map ws (λ x. x .price) ∙ sym m) w (omega arith))
+    (ap (λ (x : History). set (x .levels) (n + i) (getD qs i 0)) g ∙ padded-next 8 (levelsOf ws) qs n i (length-map ws (λ x. x .level) ∙ sym m) (omega arith) (omega arith))
+    (count-of g)
+    (offered-of g)
+    (lodged-of g))
+
 module _ (ps qs : List ℕ) (h₀ h : History) (n i : ℕ) (t : Storing ps qs h₀ h n i) where
   pub store-next :
       i < length ps →
@@ -77,14 +95,8 @@ module _ (ps qs : List ℕ) (h₀ h : History) (n i : ℕ) (t : Storing ps qs h�
     within = omega arith;
     count = t .count;
     stored = λ ws e s v.
-        let g : h ≡ storedTo ws ps qs i = t .stored ws e s v in
         let m : n ≡ length ws = t .count ∙ count-of e in
-        same _ (storedTo ws ps qs (i + 1))
-        (ap (λ (x : History). set (x .prices) (n + i) (getD ps i 0)) g ∙ padded-next 8 (pricesOf ws) ps n i (length-map ws (λ x. x .price) ∙ sym m) w (omega arith))
-        (ap (λ (x : History). set (x .levels) (n + i) (getD qs i 0)) g ∙ padded-next 8 (levelsOf ws) qs n i (length-map ws (λ x. x .level) ∙ sym m) (omega arith) (omega arith))
-        (count-of g)
-        (offered-of g)
-        (lodged-of g);
+        stored-next ws ps qs h n i (t .stored ws e s v) m (n + i) _ _ refl refl refl w s (omega arith);
   }
 
   -- all steps are stored
@@ -114,6 +126,69 @@ lodge-list ps qs e h z o = record {
       refl
       (sym (steps-length ps qs s));
 }
+
+-- ---- cancel
+
+-- the loop before withdrawal i: `h₀` is the history with the offer, `h` that of now, with the first i withdrawals stored behind none
+pub record Keeping (h₀ h : History) (n i : ℕ) : Type 0 where
+  pub within : i ≤ n
+  pub count : n ≡ h₀ .count
+  pub kept : (ws : List Step) (s : Standing) → h₀ ≡ heldHistory ws s [] → length ws ≤ 8 → h ≡ storedTo [] (pricesOf ws) (levelsOf ws) i
+
+pub keep-first : (h₀ h : History) → h ≡ heldHistory [] none [] → Keeping h₀ h (h₀ .count) 0
+keep-first h₀ h e = record { within = omega arith; count = refl; kept = λ ws s g w. e ∙ same (heldHistory [] none []) (storedTo [] (pricesOf ws) (levelsOf ws) 0) refl refl refl refl refl }
+
+-- an early return is not reached where there is room
+pub keep-no-room : (h₀ r : History) → 8 < h₀ .count → Cancelled h₀ r
+keep-no-room h₀ r v = record { right = λ ws s e w. absurd (omega (arith, count-of e)) }
+
+-- a withdrawal read from the places of the history
+read-at : (f : Step → ℕ) → f noStep ≡ 0 → (ws ss : List Step) (xs : List ℕ) (i : ℕ) → xs ≡ padded 8 (map f (ws ++ ss)) → i < length ws → getD xs i 0 ≡ getD (map f ws) i 0
+read-at f z ws ss xs i e w =
+    ap (λ (ys : List ℕ). getD ys i 0) e
+    ∙ padded-at f z 8 ws ss i w
+    ∙ sym (List·getD-map f ws i noStep)
+    ∙ ap (λ (d : ℕ). getD (map f ws) i d) z
+
+module _ (h₀ h : History) (n i : ℕ) (t : Keeping h₀ h n i) where
+  pub keep-next :
+      i < n →
+      Keeping h₀ (record {
+        prices = set (h .prices) i (getD (h₀ .prices) i 0);
+        levels = set (h .levels) i (getD (h₀ .levels) i 0);
+        count = h .count;
+        offered = h .offered;
+        lodged = h .lodged;
+      }) n (i + 1)
+  keep-next v = record {
+    within = omega arith;
+    count = t .count;
+    kept = λ ws s e w.
+        let m : n ≡ length ws = t .count ∙ count-of e in
+        let lp : length (pricesOf ws) ≡ length ws = length-map ws (λ x. x .price) in
+        let lq : length (levelsOf ws) ≡ length ws = length-map ws (λ x. x .level) in
+        stored-next [] (pricesOf ws) (levelsOf ws) h 0 i (t .kept ws s e w) refl
+        i _ _ (omega arith)
+        (read-at (λ x. x .price) refl ws (pending s ++ []) (h₀ .prices) i (ap (λ (x : History). x .prices) e) (omega arith))
+        (read-at (λ x. x .level) refl ws (pending s ++ []) (h₀ .levels) i (ap (λ (x : History). x .levels) e) (omega arith))
+        (omega arith) (omega arith) (omega arith);
+  }
+
+  -- all withdrawals are stored
+  pub keep-end : n ≤ i → Cancelled h₀ (record { prices = h .prices; levels = h .levels; count = n; offered = h .offered; lodged = h .lodged })
+  keep-end v = record {
+    right = λ ws s e w.
+        let g : h ≡ storedTo [] (pricesOf ws) (levelsOf ws) i = t .kept ws s e w in
+        let m : n ≡ length ws = t .count ∙ count-of e in
+        let lp : length (pricesOf ws) ≡ length ws = length-map ws (λ x. x .price) in
+        let lq : length (levelsOf ws) ≡ length ws = length-map ws (λ x. x .level) in
+        same _ (heldHistory ws none [])
+        (ap (λ (x : History). x .prices) g ∙ column (λ x. x .price) [] ws (take i (pricesOf ws)) (sym (take-all i (pricesOf ws) (omega arith))) ∙ nothing-behind (λ x. x .price) ws)
+        (ap (λ (x : History). x .levels) g ∙ column (λ x. x .level) [] ws (take i (levelsOf ws)) (sym (take-all i (levelsOf ws) (omega arith))) ∙ nothing-behind (λ x. x .level) ws)
+        m
+        (offered-of g)
+        (lodged-of g);
+  }
 
 -- ---- reach
 

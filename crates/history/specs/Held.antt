@@ -38,6 +38,10 @@ heldHistory ws o ls = record {
 pub record Offered (h : History) (ps qs : List ℕ) (r : History) : Type 0 where
   pub right : (ws : List Step) → h ≡ heldHistory ws none [] → length ps ≡ length qs → length ws + length ps ≤ 8 → r ≡ heldHistory ws (made (steps ps qs)) []
 
+-- no offer stands: the withdrawals alone, zeros behind them (document 02, 7)
+pub record Cancelled (h r : History) : Type 0 where
+  pub right : (ws : List Step) (s : Standing) → h ≡ heldHistory ws s [] → length ws ≤ 8 → r ≡ heldHistory ws none []
+
 -- what closing adds: the steps of the offer, or all at the opening price o where an offer is missing
 abbrev pub additions : Bool → ℕ → Standing → List Step
 additions missing o none = cond missing (record { price = o; level = 0 } ∷ []) []

@@ -3,7 +3,7 @@ ghost use mathlib.Core.Path.{_≡_};
 ghost use mathlib.Core.List.{[]};
 ghost use Rattle.rules.specs.Ledger.{none};
 ghost use Rattle.rules.specs.Refusals.{falling};
-ghost use Rattle.history.specs.Held.{heldHistory, Offered, Lodged, ReachedNumber, Reached, Applied, LastLevel, LevelAt};
+ghost use Rattle.history.specs.Held.{heldHistory, Offered, Cancelled, Lodged, ReachedNumber, Reached, Applied, LastLevel, LevelAt};
 
 // A developer's withdrawals, behind them the steps of its standing offer, then its lodged steps that no closing has reached, with zeros behind
 // them. `offered` is 0 for no offer, else 1 more than its steps.
@@ -73,6 +73,25 @@ impl History {
             i += 1;
         }
         h.offered = i + 1;
+        h
+    }
+
+    // The history without its standing offer: the withdrawals alone, zeros behind them (document 02, 7).
+    pub fn cancel(self) -> History
+        ensures { λ r. ⌜ Cancelled self r ⌝ }
+    {
+        let n = self.count;
+        let mut h = History::new();
+        let mut i: usize = 0;
+        while i < n {
+            if 8 <= i {
+                return h;
+            }
+            h.prices[i] = self.prices[i];
+            h.levels[i] = self.levels[i];
+            i += 1;
+        }
+        h.count = n;
         h
     }
 

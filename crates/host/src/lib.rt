@@ -1,7 +1,7 @@
 // The calls that a C host links: plain numbers and slices of them, no preconditions.
 ghost use mathlib.Core.Path.{_≡_};
 ghost use Rattle.curve.specs.Answer.{demandAnswer};
-ghost use Rattle.rules.specs.Ledger.{settingsOf, Offer, Lodge, SetUp, Open, By, Close};
+ghost use Rattle.rules.specs.Ledger.{settingsOf, Offer, Lodge, Cancel, SetUp, Open, By, Close};
 ghost use Rattle.replies.specs.Orders.{Asks, Settle};
 ghost use Rattle.replies.specs.Replies.{replies};
 ghost use Rattle.record_replay.specs.Replayed.{hosted, over};
@@ -129,4 +129,12 @@ pub extern "C" fn write_lodging(
     ensures { λ r. ⌜ HostWrites (Asks (By developer (Lodge (now (prices .entry)) (now (levels .entry))))) (now (frame .entry)) (now (frame .exit)) r ⌝ }
 {
     host_bytes(writing::write_lodging(developer, prices, levels, frame))
+}
+
+// 09 cancellation (document 02, 7).
+#[no_mangle]
+pub extern "C" fn write_cancellation(developer: u64, frame: &mut [u8]) -> u64
+    ensures { λ r. ⌜ HostWrites (Asks (By developer Cancel)) (now (frame .entry)) (now (frame .exit)) r ⌝ }
+{
+    host_bytes(writing::write_cancellation(developer, frame))
 }

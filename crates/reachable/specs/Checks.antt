@@ -1,10 +1,10 @@
 -- What acceptance says: the checks that an accepted call passed. What each of these says stands in the crate `rules`.
 use Prim.Native.Nat.{ℕ, suc}
-use mathlib.Core.Path.{_≡_, refl}
-use mathlib.Core.Bool.{Bool, true, false}
+use mathlib.Core.Path.{_≡_, refl, sym}
+use mathlib.Core.Bool.{Bool, true, false, not}
 use mathlib.Core.List.{List}
 use native.Mathlib.Omega.{arith}
-use Rattle.rules.specs.Ledger.{Settings, Declaration, Offer, Lodge, SetUp, Register, Open, Close, Developer, Ledger}
+use Rattle.rules.specs.Ledger.{Settings, Declaration, Offer, Lodge, Cancel, SetUp, Register, Open, Close, Developer, Ledger}
 use Rattle.rules.specs.Clearing.{highest}
 use Rattle.rules.specs.Refusals.{isFresh, isReady, mayOpen, inRound, settingsOk, numbersOk, declarationOk, floor, closingOk, startCovered, isNone, isOfKind, pricesOk, lowering, check, moveNumber, number}
 pub use Rattle.rules.specs.CheckLaws.{Numbers, numbers-facts, levels-facts, Declared, declaration-facts, closing-facts, of-kind-facts, prices-facts}
@@ -35,6 +35,11 @@ pub record LodgePassed (l : Ledger) (n : ℕ) (x : Developer) (ps qs : List ℕ)
   pub developer : isOfKind 1 n (x .declared .kind) ≡ true
   pub prices : pricesOk (floor l) (l .settings .a) ps qs ≡ true
   pub levels : lowering (x .declared .levels) (highest x) qs ≡ true
+
+pub record CancelPassed (l : Ledger) (n : ℕ) (x : Developer) : Type 0 where
+  pub phase : inRound (l .phase) ≡ true
+  pub developer : isOfKind 2 n (x .declared .kind) ≡ true
+  pub stands : isNone (x .offer) ≡ false
 
 pub record ClosePassed (l : Ledger) : Type 0 where
   pub phase : inRound (l .phase) ≡ true
@@ -84,6 +89,17 @@ lodge-passed l n x ps qs e =
     let s = passed (pricesOk (floor l) (l .settings .a) ps qs) 5 _ (q .1) in
     let t = passed (lowering (x .declared .levels) (highest x) qs) 6 _ (s .1) in
     record { phase = p .0; developer = q .0; prices = s .0; levels = t .0 }
+
+pub cancel-passed : (l : Ledger) (n : ℕ) (x : Developer) → moveNumber l n x Cancel ≡ 0 → CancelPassed l n x
+unfolding moveNumber
+cancel-passed l n x e =
+    let p = passed (inRound (l .phase)) 1 _ e in
+    let q = passed (isOfKind 2 n (x .declared .kind)) 2 _ (p .1) in
+    record { phase = p .0; developer = q .0; stands = not-not (isNone (x .offer)) (passed (not (isNone (x .offer))) 15 _ (q .1) .0) }
+  where
+    not-not : (b : Bool) → not b ≡ true → b ≡ false
+    not-not true h = sym h
+    not-not false h = refl
 
 pub close-passed : (l : Ledger) → number l Close ≡ 0 → ClosePassed l
 unfolding number

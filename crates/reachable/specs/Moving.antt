@@ -6,13 +6,13 @@ use mathlib.Core.Logic.{inr, ⊎-elim}
 use mathlib.Core.Bool.{true, false}
 use mathlib.Core.List.{List, []}
 use native.Mathlib.Omega.{arith}
-use Rattle.rules.specs.Ledger.{Declaration, Step, Move, Offer, Lodge, By, Standing, none, made, Developer, Phase, Ready, Round, Ledger, put, withDeveloper, withOffer, withLodged}
+use Rattle.rules.specs.Ledger.{Declaration, Step, Move, Offer, Lodge, Cancel, By, Standing, none, made, Developer, Phase, Ready, Round, Ledger, put, withDeveloper, withOffer, withLodged}
 use Rattle.rules.specs.Clearing.{highest, high}
-use Rattle.rules.specs.Refusals.{isFresh, inRound, floor, lowering, moveNumber}
+use Rattle.rules.specs.Refusals.{isFresh, inRound, isOfKind, floor, lowering, moveNumber}
 use Rattle.rules.specs.Rounds.{steps, lastLevel, moved, accepted}
-use Rattle.sound.specs.Sound.{started, appliedTo, SoundDeveloper, SoundSteps, SoundOffer, SoundLodged, Stands, Registered, Sound}
+use Rattle.sound.specs.Sound.{started, appliedTo, SoundDeveloper, SoundOffer, SoundLodged, Stands, Registered, Sound}
 use Rattle.sound.specs.StepLaws.{steps-prices, steps-levels, steps-length}
-use Rattle.reachable.specs.Checks.{OfferPassed, offer-passed, LodgePassed, lodge-passed, of-kind-facts, prices-facts}
+use Rattle.reachable.specs.Checks.{OfferPassed, offer-passed, LodgePassed, lodge-passed, CancelPassed, cancel-passed, of-kind-facts, prices-facts}
 use Rattle.reachable.specs.Supplies.{covered-same}
 use Rattle.numbers.specs.Cases.{clash}
 use Rattle.reachable.specs.Held.{is-ready, in-round, Kept, by-put, developer-with, lodged-with, offer-with, kept-with, sound-with}
@@ -53,27 +53,15 @@ registered-kind l n s k e not = ⊎-elim
     (λ g. let z : l .developers n .declared .kind ≡ 0 = ap (λ (d : Developer). d .declared .kind) g in absurd (not (sym e ∙ z)))
     (λ h. h) (s .each n)
 
--- ---- an offer
+-- ---- an offer made or taken back: another one stands, or none
 
-module _ (l : Ledger) (n : ℕ) (ps qs : List ℕ) (s : Sound l) (p : OfferPassed l n (l .developers n) ps qs) where
+module _ (l : Ledger) (n : ℕ) (o : Standing) (s : Sound l) (new : isOfKind 2 n (l .developers n .declared .kind) ≡ true) where
   abbrev offering : Developer
-  offering = withOffer (l .developers n) (made (steps ps qs))
+  offering = withOffer (l .developers n) o
 
-  given : SoundSteps (withDeveloper l n offering) offering (steps ps qs)
-  given =
-      let f = prices-facts _ _ ps qs (p .prices) in
-      record {
-        round = p .phase;
-        kind = of-kind-facts 2 n _ (p .developer) .2;
-        few = omega (arith, steps-length ps qs (f .same));
-        prices = rw (steps-prices ps qs (f .same)) (f .falls);
-        levels = rw (steps-levels ps qs (f .same)) (p .levels);
-      }
-
-  offer-moved : Moved l n offering
-  unfolding SoundOffer
-  offer-moved =
-      let r = registered-kind l n s 2 (of-kind-facts 2 n _ (p .developer) .2) (λ z. omega arith) in
+  offer-moved : SoundOffer (withDeveloper l n offering) offering o → Moved l n offering
+  offer-moved given =
+      let r = registered-kind l n s 2 (of-kind-facts 2 n _ new .2) (λ z. omega arith) in
       let d = developer-with l (put n offering (l .developers)) (l .developers n) (r .developer) in
       let g = lodged-with l (put n offering (l .developers)) (l .developers n) (r .lodged) in
       record {
@@ -87,6 +75,22 @@ module _ (l : Ledger) (n : ℕ) (ps qs : List ℕ) (s : Sound l) (p : OfferPasse
           lodged = record { kind = g .kind; prices = g .prices; levels = g .levels };
         };
       }
+
+made-moved : (l : Ledger) (n : ℕ) (ps qs : List ℕ) → Sound l → OfferPassed l n (l .developers n) ps qs → Moved l n (withOffer (l .developers n) (made (steps ps qs)))
+unfolding SoundOffer
+made-moved l n ps qs s p =
+    let f = prices-facts _ _ ps qs (p .prices) in
+    offer-moved l n (made (steps ps qs)) s (p .developer) (record {
+      round = p .phase;
+      kind = of-kind-facts 2 n _ (p .developer) .2;
+      few = omega (arith, steps-length ps qs (f .same));
+      prices = rw (steps-prices ps qs (f .same)) (f .falls);
+      levels = rw (steps-levels ps qs (f .same)) (p .levels);
+    })
+
+cancel-moved : (l : Ledger) (n : ℕ) → Sound l → CancelPassed l n (l .developers n) → Moved l n (withOffer (l .developers n) none)
+unfolding SoundOffer
+cancel-moved l n s p = offer-moved l n none s (p .developer) tt
 
 -- ---- a lodged list
 
@@ -142,7 +146,10 @@ pub sound-move : (l : Ledger) (n : ℕ) (m : Move) → Sound l → moveNumber l 
 unfolding accepted moved
 sound-move l n (Offer ps qs) s e =
     let p = offer-passed l n (l .developers n) ps qs e in
-    sound-entry l n _ s (ap isFresh (in-round (l .phase) (p .phase))) (offer-moved l n ps qs s p)
+    sound-entry l n _ s (ap isFresh (in-round (l .phase) (p .phase))) (made-moved l n ps qs s p)
 sound-move l n (Lodge ps qs) s e =
     let p = lodge-passed l n (l .developers n) ps qs e in
     sound-entry l n _ s (ap isFresh (is-ready (l .phase) (p .phase))) (lodge-moved l n ps qs s p)
+sound-move l n Cancel s e =
+    let p = cancel-passed l n (l .developers n) e in
+    sound-entry l n _ s (ap isFresh (in-round (l .phase) (p .phase))) (cancel-moved l n s p)

@@ -1,4 +1,4 @@
--- One call more: what a refused and an accepted call make of the ledger and answer, and the ledger and the answers of a list with one call more.
+-- What a refused and an accepted call make of the ledger and answer, and the ledger and the answers of a list with calls behind it.
 use mathlib.Core.Path.{_≡_, refl, ap}
 use mathlib.Core.Bool.{Bool, true, false, cond}
 use mathlib.Core.List.{List, [], _∷_, _++_}
@@ -33,20 +33,28 @@ by-step P l c h g = go (eqb (number l c) 0) refl
     go true e = g (eqb-true (number l c) 0 e)
     go false e = h
 
-step-all-snoc : (l : Ledger) (cs : List Call) (c : Call) → stepAll l (cs ++ (c ∷ [])) ≡ step (stepAll l cs) c
+pub step-all-append : (l : Ledger) (cs ds : List Call) → stepAll l (cs ++ ds) ≡ stepAll (stepAll l cs) ds
 unfolding stepAll
-step-all-snoc l [] c = refl
-step-all-snoc l (d ∷ cs) c = step-all-snoc (step l d) cs c
+step-all-append l [] ds = refl
+step-all-append l (c ∷ cs) ds = step-all-append (step l c) cs ds
+
+pub ledger-append : (cs ds : List Call) → ledger (cs ++ ds) ≡ stepAll (ledger cs) ds
+unfolding ledger
+ledger-append cs ds = step-all-append start cs ds
 
 pub ledger-snoc : (cs : List Call) (c : Call) → ledger (cs ++ (c ∷ [])) ≡ step (ledger cs) c
-unfolding ledger
-ledger-snoc cs c = step-all-snoc start cs c
+unfolding stepAll
+ledger-snoc cs c = ledger-append cs (c ∷ [])
 
-answers-from-snoc : (l : Ledger) (cs : List Call) (c : Call) → answersFrom l (cs ++ (c ∷ [])) ≡ answersFrom l cs ++ (answer (stepAll l cs) c ∷ [])
+pub answers-from-append : (l : Ledger) (cs ds : List Call) → answersFrom l (cs ++ ds) ≡ answersFrom l cs ++ answersFrom (stepAll l cs) ds
 unfolding stepAll answersFrom
-answers-from-snoc l [] c = refl
-answers-from-snoc l (d ∷ cs) c = ap (λ (rs : List Answered). answer l d ∷ rs) (answers-from-snoc (step l d) cs c)
+answers-from-append l [] ds = refl
+answers-from-append l (c ∷ cs) ds = ap (λ (rs : List Answered). answer l c ∷ rs) (answers-from-append (step l c) cs ds)
+
+pub answers-append : (cs ds : List Call) → answers (cs ++ ds) ≡ answers cs ++ answersFrom (ledger cs) ds
+unfolding answers ledger
+answers-append cs ds = answers-from-append start cs ds
 
 pub answers-snoc : (cs : List Call) (c : Call) → answers (cs ++ (c ∷ [])) ≡ answers cs ++ (answer (ledger cs) c ∷ [])
-unfolding answers ledger
-answers-snoc cs c = answers-from-snoc start cs c
+unfolding answersFrom
+answers-snoc cs c = answers-append cs (c ∷ [])

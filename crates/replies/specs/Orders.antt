@@ -6,7 +6,7 @@ use mathlib.Core.Option.{Option, none, some}
 use lib.Dec.{eqb}
 use lib.ListN.{getD, drop}
 use Rattle.format.specs.Fields.{RawCall, read}
-use Rattle.rules.specs.Ledger.{settingsOf, Move, Offer, Lodge, Call, SetUp, Register, Open, By, Close}
+use Rattle.rules.specs.Ledger.{settingsOf, Move, Offer, Lodge, Cancel, Call, SetUp, Register, Open, By, Close}
 
 pub data Order : Type 0 where
   Malformed : Order
@@ -52,7 +52,8 @@ orderOf c =
     (cond (eqb (c .kind) 5) (Asks Close)
     (cond (eqb (c .kind) 6) (Settle (getD (c .fields) 0 0))
     (cond (eqb (c .kind) 7) (Asks (moveOf Lodge (c .fields)))
-    Malformed))))))
+    (cond (eqb (c .kind) 9) (Asks (By (getD (c .fields) 0 0) Cancel))
+    Malformed)))))))
 
 unfoldable pub ordered : Option RawCall → Order
 ordered none = Malformed

@@ -8,7 +8,7 @@ use lib.ListN.{length}
 use Rattle.format.specs.Hex.{digits}
 use Rattle.format.specs.Fields.{textAt}
 use Rattle.format.specs.Lines.{lines}
-use Rattle.rules.specs.Ledger.{Offer, Lodge, Call, SetUp, Register, Open, By, Close, Ledger, start}
+use Rattle.rules.specs.Ledger.{Offer, Lodge, Cancel, Call, SetUp, Register, Open, By, Close, Ledger, start}
 use Rattle.rules.specs.Rounds.{step, Answered, answer}
 use Rattle.rules.specs.Settling.{Settlement, settlement, settlingNumber}
 use Rattle.replies.specs.Orders.{Order, Malformed, Asks, Settle, orderIn}
@@ -19,6 +19,7 @@ kindOf (Register n x) = 2
 kindOf (Open c) = 3
 kindOf (By n (Offer ps qs)) = 4
 kindOf (By n (Lodge ps qs)) = 7
+kindOf (By n Cancel) = 9
 kindOf Close = 5
 
 -- a signed number in two's complement, as a number of 64 bits

@@ -6,7 +6,7 @@ use lib.Dec.{eqb}
 use lib.ListN.{length}
 use Rattle.format.specs.Fields.{RawCall}
 use Rattle.format.specs.Written.{frameOf, writable}
-use Rattle.rules.specs.Ledger.{Offer, Lodge, SetUp, Register, Open, By, Close}
+use Rattle.rules.specs.Ledger.{Offer, Lodge, Cancel, SetUp, Register, Open, By, Close}
 use Rattle.replies.specs.Orders.{Order, Malformed, Asks, Settle}
 
 abbrev pub raw : ℕ → List ℕ → RawCall
@@ -26,6 +26,7 @@ rawOf (Asks (Register n x)) = raw 2 (x .project ∷ n ∷ x .kind ∷ x .study �
 rawOf (Asks (Open c)) = raw 3 (c ∷ [])
 rawOf (Asks (By n (Offer ps qs))) = raw 4 (n ∷ length ps ∷ paired ps qs)
 rawOf (Asks (By n (Lodge ps qs))) = raw 7 (n ∷ length ps ∷ paired ps qs)
+rawOf (Asks (By n Cancel)) = raw 9 (n ∷ [])
 rawOf (Asks Close) = raw 5 []
 rawOf (Settle limit) = raw 6 (limit ∷ [])
 
@@ -37,6 +38,7 @@ listsMatch (Asks (Register n x)) = true
 listsMatch (Asks (Open c)) = true
 listsMatch (Asks (By n (Offer ps qs))) = eqb (length ps) (length qs)
 listsMatch (Asks (By n (Lodge ps qs))) = eqb (length ps) (length qs)
+listsMatch (Asks (By n Cancel)) = true
 listsMatch (Asks Close) = true
 listsMatch (Settle limit) = true
 

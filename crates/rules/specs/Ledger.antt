@@ -39,10 +39,11 @@ pub record Step : Type 0 where
   pub level : ℕ
 
 -- What a registered developer does for itself: it makes an offer, or, an existing plant, lodges a withdrawal list (document 02, 5), of prices
--- and levels, of any lengths
+-- and levels, of any lengths; or it takes back its offer (document 02, 7)
 pub data Move : Type 0 where
   Offer : List ℕ → List ℕ → Move
   Lodge : List ℕ → List ℕ → Move
+  Cancel : Move
 
 -- The calls, with any arguments, absurd ones too. A registration and a move name the developer
 pub data Call : Type 0 where

@@ -7,6 +7,7 @@ pub mod Award
 pub mod Settling
 pub mod Sample
 pub mod LodgingSample
+pub mod CancellingSample
 pub mod CheckLaws
 pub mod Projects
 pub mod RoundLaws

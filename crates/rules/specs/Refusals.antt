@@ -6,7 +6,7 @@ use lib.Dec.{leb, ltb, eqb}
 use lib.ListN.{length}
 use Rattle.numbers.specs.Lists.{all}
 use Rattle.curve.specs.Demand.{inBounds}
-use Rattle.rules.specs.Ledger.{Settings, Declaration, declaredOrZero, Move, Offer, Lodge, Call, SetUp, Register, Open, By, Close, Standing, none, made, Developer, Phase, Fresh, Ready, Round, Between, Closed, Ledger}
+use Rattle.rules.specs.Ledger.{Settings, Declaration, declaredOrZero, Move, Offer, Lodge, Cancel, Call, SetUp, Register, Open, By, Close, Standing, none, made, Developer, Phase, Fresh, Ready, Round, Between, Closed, Ledger}
 use Rattle.rules.specs.Clearing.{highest, developersOf, covered}
 
 -- ---- the phase that accepts a call (document 01, Rounds)
@@ -140,7 +140,7 @@ abbrev pub check : Bool → ℕ → ℕ → ℕ
 check passes n next = cond passes next n
 
 -- of a move of developer n, whose entry is x: no other developer's entry counts. Offer 2, 3, 8, 6, 7; lodging 2, 15, 6, 7, its levels from
--- the highest declared down (document 02, 5)
+-- the highest declared down (document 02, 5); cancellation 2, 3, 16 (document 02, 7)
 unfoldable pub moveNumber : Ledger → ℕ → Developer → Move → ℕ
 moveNumber l n x (Offer ps qs) =
     check (inRound (l .phase)) 2
@@ -153,6 +153,8 @@ moveNumber l n x (Lodge ps qs) =
     (check (isOfKind 1 n (x .declared .kind)) 15
     (check (pricesOk (floor l) (l .settings .a) ps qs) 6
     (check (lowering (x .declared .levels) (highest x) qs) 7 0)))
+moveNumber l n x Cancel =
+    check (inRound (l .phase)) 2 (check (isOfKind 2 n (x .declared .kind)) 3 (check (not (isNone (x .offer))) 16 0))
 
 -- set-up 2, 1; registration 2, 3, 4; opening 2, 5, 9; closing 2
 unfoldable pub number : Ledger → Call → ℕ

@@ -6,7 +6,7 @@ use mathlib.Core.List.{List, [], _∷_, _++_}
 use lib.Dec.{leb, ltb, eqb}
 use lib.IntN.{ℤ, pos, negsuc, _-ℤ_}
 use Rattle.numbers.specs.Lists.{keep}
-use Rattle.rules.specs.Ledger.{Step, Move, Offer, Lodge, Call, SetUp, Register, Open, By, Close, Standing, none, made, Developer, Phase, Ready, Round, Between, Closed, Ledger, start, withPhase, withSettings, withPrices, withDevelopers, withDeveloper, withOffer, withLodged, newcomer}
+use Rattle.rules.specs.Ledger.{Step, Move, Offer, Lodge, Cancel, Call, SetUp, Register, Open, By, Close, Standing, none, made, Developer, Phase, Ready, Round, Between, Closed, Ledger, start, withPhase, withSettings, withPrices, withDevelopers, withDeveloper, withOffer, withLodged, newcomer}
 use Rattle.rules.specs.Clearing.{supply, demandAt, remainderAt}
 use Rattle.rules.specs.Refusals.{floor, openingPrice, number}
 
@@ -74,10 +74,12 @@ clears supply demand c floor = atMostZero (thousandths (pos supply -ℤ pos dema
 unfoldable pub phaseAfter : Ledger → Phase
 phaseAfter l = cond (clears (supplyAfter l) (demandAt l (l .closing)) (l .closing) (floor l)) Closed Between
 
--- a developer after an accepted move of its own: an offer stores its steps; a lodged list replaces the one before (document 02, 5)
+-- a developer after an accepted move of its own: an offer stores its steps; a lodged list replaces the one before (document 02, 5); after a
+-- cancellation no offer stands (document 02, 7)
 unfoldable pub moved : Developer → Move → Developer
 moved x (Offer ps qs) = withOffer x (made (steps ps qs))
 moved x (Lodge ps qs) = withLodged x (steps ps qs)
+moved x Cancel = withOffer x none
 
 -- the ledger after an accepted call
 unfoldable pub accepted : Ledger → Call → Ledger

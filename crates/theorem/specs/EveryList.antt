@@ -7,7 +7,7 @@ use Prim.Native.Nat.{ℕ}
 use contract.Lifetimes.{Lfts}
 use denote.Ref.{now}
 use borrow.Fn.World.{ArgsD}
-use Rattle.rules.specs.Ledger.{Offer, Lodge, Call, Open, By, Close}
+use Rattle.rules.specs.Ledger.{Offer, Lodge, Cancel, Call, Open, By, Close}
 use Rattle.rules.specs.Rounds.{ledger, Answered, answersFrom, answers}
 use Rattle.reachable.specs.Steps.{answers-snoc}
 use Rattle.auction.specs.Holds.{auctionOf}
@@ -21,6 +21,7 @@ use Rattle.auction.proofs.Auction.register.Reads as registration
 use Rattle.auction.proofs.Auction.open.Reads as opening
 use Rattle.auction.proofs.Auction.offer.Reads as offering
 use Rattle.auction.proofs.Auction.lodge.Reads as lodging
+use Rattle.auction.proofs.Auction.cancel.Reads as cancelling
 use Rattle.auction.proofs.Auction.close.Reads as closing
 use Rattle.auction.proofs.Auction.register.{signature as register-signature}
 use Rattle.auction.proofs.Auction.offer.{signature as offer-signature}
@@ -31,6 +32,7 @@ use Rattle.auction.proofs.Auction.register.Statement as register-states
 use Rattle.auction.proofs.Auction.open.Statement as open-states
 use Rattle.auction.proofs.Auction.offer.Statement as offer-states
 use Rattle.auction.proofs.Auction.lodge.Statement as lodge-states
+use Rattle.auction.proofs.Auction.cancel.Statement as cancel-states
 use Rattle.auction.proofs.Auction.close.Statement as close-states
 use Rattle.auction.proofs.Auction.preview.Statement as preview-states
 use Rattle.auction.proofs.Auction.new.Met as new-met
@@ -39,6 +41,7 @@ use Rattle.auction.proofs.Auction.register.Met as register-met
 use Rattle.auction.proofs.Auction.open.Met as open-met
 use Rattle.auction.proofs.Auction.offer.Met as offer-met
 use Rattle.auction.proofs.Auction.lodge.Met as lodge-met
+use Rattle.auction.proofs.Auction.cancel.Met as cancel-met
 use Rattle.auction.proofs.Auction.close.Met as close-met
 use Rattle.auction.proofs.Auction.preview.Met as preview-met
 
@@ -61,6 +64,7 @@ pub data Made : Call → Auction → Answered → Auction → Type 0 where
   lodges :
       (κs : Lfts 2) (x : ArgsD lodge-signature κs) (r : Answer) → lodging.Post κs x r x →
       Made (By (x .1 .0) (Lodge (now (x .1 .1 .0)) (now (x .1 .1 .1 .0)))) (x .0) (numberIn r) (r .auction)
+  cancels : {a : Auction} (n : ℕ) (r : Answer) → cancelling.Post tt (a, (n, tt)) r (a, (n, tt)) → Made (By n Cancel) a (numberIn r) (r .auction)
   closes : {a : Auction} (r : Closing) → closing.Post tt (a, tt) r (a, tt) → Made Close a (closingIn r) (r .auction)
 
 pub by-contract : {c : Call} {a b : Auction} {r : Answered} → Made c a r b → Called c a b r
@@ -69,6 +73,7 @@ by-contract (registers-one κs x r s) = s
 by-contract (opens c r s) = s
 by-contract (offers κs x r s) = s
 by-contract (lodges κs x r s) = s
+by-contract (cancels n r s) = s
 by-contract (closes r s) = s
 
 -- `Run cs rs a`: the calls cs, one after the other from a fresh auction, are answered rs and lead to a
@@ -93,6 +98,7 @@ pub record EveryList (M : Type 1) : Type 2 where
   pub open-meets : open-states.statement M
   pub offer-meets : offer-states.statement M
   pub lodge-meets : lodge-states.statement M
+  pub cancel-meets : cancel-states.statement M
   pub close-meets : close-states.statement M
   pub preview-meets : preview-states.statement M
   pub held : {cs : List Call} {rs : List Answered} {a : Auction} → Run cs rs a → a ≡ auctionOf (ledger cs)
@@ -106,6 +112,7 @@ every-list = record {
   open-meets = open-met.met;
   offer-meets = offer-met.met;
   lodge-meets = lodge-met.met;
+  cancel-meets = cancel-met.met;
   close-meets = close-met.met;
   preview-meets = preview-met.met;
   held = λ w. reached w .0;

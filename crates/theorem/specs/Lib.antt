@@ -12,3 +12,4 @@ pub mod Readable
 pub mod Reading
 pub mod Figures
 pub mod ReadableLaws
+pub mod Cancelled

@@ -9,7 +9,7 @@ use lib.Dec.{eqb}
 use lib.IntN.{pos, _-ℤ_}
 use lib.ListN.{replicate}
 use denote.Ref.{RefT}
-use Rattle.rules.specs.Ledger.{Offer, Lodge, Call, SetUp, Register, Open, By, Close, Ledger}
+use Rattle.rules.specs.Ledger.{Offer, Lodge, Cancel, Call, SetUp, Register, Open, By, Close, Ledger}
 use Rattle.rules.specs.Refusals.{number}
 use Rattle.rules.specs.Rounds.{step, ledger, Answered, numberAlone, granted, answer, answersFrom, answers}
 use Rattle.rules.specs.Sample.{sample, shown-jointly}
@@ -18,7 +18,7 @@ use Rattle.reachable.specs.Steps.{ledger-snoc, step-refused, answer-refused, an
 use Rattle.auction.specs.Holds.{phaseNumber, auctionOf}
 use Rattle.auction.specs.Called.{Called}
 use Rattle.auction.specs.declared.Auction.{Auction}
-use Rattle.theorem.specs.EveryList.{Made, sets-up, registers-one, opens, offers, lodges, closes, Run, fresh, followed}
+use Rattle.theorem.specs.EveryList.{Made, sets-up, registers-one, opens, offers, lodges, cancels, closes, Run, fresh, followed}
 use Rattle.theorem.specs.ReadBack.{auction-determines}
 
 -- ---- every call as its contract says
@@ -93,6 +93,7 @@ made cs (By n (Lodge ps qs)) = by-number cs _ refl (λ p. lodges
     ([], ([], tt))
     (auctionOf (ledger cs), (n, (lent ps, (lent qs, tt))))
     (record { number = _; auction = _ }) p)
+made cs (By n Cancel) = by-number cs _ refl (λ p. cancels n (record { number = _; auction = _ }) p)
 made cs Close =
     let r = answer (ledger cs) Close in
     closes (record { number = r .number; excess = r .excess; remainder = r .remainder; auction = _ }) (called cs Close)

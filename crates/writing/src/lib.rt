@@ -4,7 +4,7 @@ ghost use mathlib.Core.Path.{_≡_};
 ghost use mathlib.Core.List.{_++_};
 ghost use Prim.Native.Nat.{_+_, _*_, _≤_};
 ghost use lib.ListN.{length, take};
-ghost use Rattle.rules.specs.Ledger.{settingsOf, Offer, Lodge, SetUp, Open, By, Close};
+ghost use Rattle.rules.specs.Ledger.{settingsOf, Offer, Lodge, Cancel, SetUp, Open, By, Close};
 ghost use Rattle.replies.specs.Orders.{Asks, Settle};
 ghost use Rattle.replies.specs.WrittenOrders.{raw, paired};
 ghost use Rattle.frame_writing.specs.Lodged.{Encodes};
@@ -140,4 +140,12 @@ pub fn write_lodging(developer: u64, prices: &[u64], levels: &[u64], frame: &mut
     ensures { λ r. ⌜ Writes (Asks (By developer (Lodge (now (prices .entry)) (now (levels .entry))))) (now (frame .entry)) (now (frame .exit)) r ⌝ }
 {
     write_steps(7, developer, prices, levels, frame)
+}
+
+// 09 cancellation (document 02, 7).
+pub fn write_cancellation(developer: u64, frame: &mut [u8]) -> Written
+    ensures { λ r. ⌜ Writes (Asks (By developer Cancel)) (now (frame .entry)) (now (frame .exit)) r ⌝ }
+{
+    let fields = [developer];
+    frame_writing::encode(9, &fields, frame)
 }

@@ -57,23 +57,32 @@ returns-7 : tie.Need-returns-7
 unfolding orderOf
 returns-7 c = ordered-as _ _ _ 7 (omega arith) (c .before .if7 .taken) (c .lodge-turn .ensures)
 
-malformed-requires : tie.Need-malformed-requires
-malformed-requires c κs = tt
+cancel-turn-requires : tie.Need-cancel-turn-requires
+cancel-turn-requires c κs = framed 9 _ (c .before .before .before .before .before .before .before .before .pre) (omega arith) (c .if8 .taken)
 
 returns-8 : tie.Need-returns-8
 unfolding orderOf
-returns-8 c =
-    let k = c .before .before .before .before .before .before .before in
-    let f = k .before .args .frame in
+returns-8 c = ordered-as _ _ _ 9 (omega arith) (c .before .if8 .taken) (c .cancel-turn .ensures)
+
+malformed-requires : tie.Need-malformed-requires
+malformed-requires c κs = tt
+
+returns-9 : tie.Need-returns-9
+unfolding orderOf
+returns-9 c =
+    let f4 = c .before .before .before .before .before in
+    let f1 = f4 .before .before .before in
+    let f = f1 .before .args .frame in
     let none : orderOf (held f) ≡ Malformed =
     rw (
-      ne-eqb (f .kind) 1 (k .if1 .left),
-      ne-eqb (f .kind) 2 (c .before .before .before .before .before .before .if2 .left),
-      ne-eqb (f .kind) 3 (c .before .before .before .before .before .if3 .left),
-      ne-eqb (f .kind) 4 (c .before .before .before .before .if4 .left),
-      ne-eqb (f .kind) 5 (c .before .before .before .if5 .left),
-      ne-eqb (f .kind) 6 (c .before .before .if6 .left),
-      ne-eqb (f .kind) 7 (c .before .if7 .left),
+      ne-eqb (f .kind) 1 (f1 .if1 .left),
+      ne-eqb (f .kind) 2 (f4 .before .before .if2 .left),
+      ne-eqb (f .kind) 3 (f4 .before .if3 .left),
+      ne-eqb (f .kind) 4 (f4 .if4 .left),
+      ne-eqb (f .kind) 5 (c .before .before .before .before .if5 .left),
+      ne-eqb (f .kind) 6 (c .before .before .before .if6 .left),
+      ne-eqb (f .kind) 7 (c .before .before .if7 .left),
+      ne-eqb (f .kind) 9 (c .before .if8 .left),
     ) in
     ordered-none _ f _ none (c .malformed .ensures)
 
@@ -95,5 +104,7 @@ respond-spec =
     returns-6
     lodge-turn-requires
     returns-7
+    cancel-turn-requires
+    returns-8
     malformed-requires
-    returns-8)
+    returns-9)

@@ -1,0 +1,36 @@
+-- An accepted move of a developer's own: the auction changes in that developer's history alone.
+use Prim.Native.Nat.{ℕ, _-_, _≤_}
+use mathlib.Core.Path.{_≡_, refl, sym, ap, _∙_}
+use lib.ListN.{set}
+use Rattle.rules.specs.Ledger.{Move, By, Ledger}
+use Rattle.rules.specs.Refusals.{number}
+use Rattle.rules.specs.Rounds.{moved, accepted, numberAlone, granted}
+use Rattle.history.specs.declared.History.{History}
+use Rattle.auction.specs.declared.Auction.{Auction}
+use Rattle.auction.specs.Holds.{heldCourse, auctionOf, Holding}
+use Rattle.auction.specs.Called.{Called}
+use Rattle.auction.specs.Parts.{withCourses, courses-held}
+use Rattle.auction.specs.Places.{put-at, put-keeps}
+use Rattle.auction.proofs.Calls.{taken}
+
+-- the move m of developer n is accepted, keeps its declaration and its quantity, and r is its history after it
+pub record Moves (n : ℕ) (m : Move) (r : History) (l : Ledger) : Type 0 where
+  pub number : number l (By n m) ≡ 0
+  pub declared : moved (l .developers n) m .declared ≡ l .developers n .declared
+  pub quantity : moved (l .developers n) m .quantity ≡ l .developers n .quantity
+  pub history : r ≡ heldCourse (moved (l .developers n) m)
+
+pub move-taken :
+    (n : ℕ) (m : Move) (a : Auction) (r : History) → 1 ≤ n → n ≤ 32 → Holding a (Moves n m r) →
+    Called (By n m) a (withCourses a (a .quantities) (set (a .histories) (n - 1) r)) (numberAlone 0)
+unfolding granted accepted auctionOf
+move-taken n m a r low high f = taken _ a _ _ refl (λ l s h.
+    let k = f l s h in
+    let entry = moved (l .developers n) m in
+    record {
+      number = k .number;
+      answer = refl;
+      next = courses-held a l n entry h (k .declared)
+          (ap (λ (x : Auction). x .quantities) h ∙ sym (put-keeps (λ x. x .quantity) l n entry (k .quantity)))
+          (ap (λ (x : Auction). set (x .histories) (n - 1) r) h ∙ put-at heldCourse l n entry r low high (k .history));
+    })

@@ -1,0 +1,110 @@
+-- One developer's entry while a round is open: no call of others but the closing reads or changes it. So with another entry in its place they
+-- are answered alike, and leave the same beside it.
+use Prim.Native.Nat.{ℕ}
+use mathlib.Core.Path.{_≡_, refl, sym, ap, fun-ext, _∙_}
+use mathlib.Core.Bool.{Bool, true, false, cond}
+use lib.Dec.{eqb}
+use native.Mathlib.Omega.{arith}
+use borrow.Author.Tests.{eqb-true, eq-eqb}
+use Rattle.numbers.specs.Cases.{not-true, clash}
+use Rattle.rules.specs.Ledger.{Move, Offer, Lodge, Cancel, Call, SetUp, Register, Open, By, Close, Developer, Phase, Round, Ledger, put, withDevelopers, withDeveloper}
+use Rattle.rules.specs.Refusals.{isFresh, isReady, mayOpen, inRound, settingsOk, numbersOk, declarationOk, closingOk, startCovered, check, moveNumber, number}
+use Rattle.rules.specs.Rounds.{moved, accepted, step, Answered, numberAlone, granted, answer}
+use Rattle.reachable.specs.Steps.{step-refused, answer-refused, by-step}
+use Rattle.reachable.specs.Held.{in-round}
+use Rattle.cancelling.specs.TakenBack.{own}
+
+-- ---- entries put one behind the other
+
+pub apart : (k n : ℕ) → eqb k n ≡ false → eqb n k ≡ false
+apart k n e = not-true (eqb n k) (λ t. clash (eq-eqb k n (sym (eqb-true n k t))) e)
+
+pub put-at : (n : ℕ) (x : Developer) (f : ℕ → Developer) → put n x f n ≡ x
+put-at n x f = ap (λ (b : Bool). cond b x (f n)) (eq-eqb n n refl)
+
+pub put-beside : (n k : ℕ) (x : Developer) (f : ℕ → Developer) → eqb k n ≡ false → put n x f k ≡ f k
+put-beside n k x f e = ap (λ (b : Bool). cond b x (f k)) e
+
+pub put-back : (n : ℕ) (x : Developer) (f : ℕ → Developer) → put n (f n) (put n x f) ≡ f
+put-back n x f = fun-ext (λ j. go j (eqb j n) refl)
+  where
+    go : (j : ℕ) (b : Bool) → eqb j n ≡ b → cond b (f n) (cond b x (f j)) ≡ f j
+    go j true e = ap f (sym (eqb-true j n e))
+    go j false e = refl
+
+put-apart : (n k : ℕ) (x y : Developer) (f : ℕ → Developer) → eqb k n ≡ false → put k x (put n y f) ≡ put n y (put k x f)
+put-apart n k x y f e = fun-ext (λ j. go j (eqb j n) refl (eqb j k) refl)
+  where
+    go : (j : ℕ) (b : Bool) → eqb j n ≡ b → (t : Bool) → eqb j k ≡ t → cond t x (cond b y (f j)) ≡ cond b y (cond t x (f j))
+    go j true h true g = absurd (clash (eq-eqb k n (sym (eqb-true j k g) ∙ eqb-true j n h)) e)
+    go j true h false g = refl
+    go j false h t g = refl
+
+-- ---- a call aside of developer n
+
+-- whichever entry y stands in n's place
+pub record Aside (n : ℕ) (l : Ledger) (c : Call) : Type 0 where
+  pub next : (y : Developer) → step (withDeveloper l n y) c ≡ withDeveloper (step l c) n y
+  pub answered : (y : Developer) → answer (withDeveloper l n y) c ≡ answer l c
+  pub entry : step l c .developers n ≡ l .developers n
+  pub round : inRound (step l c .phase) ≡ true
+
+module _ (n : ℕ) (l : Ledger) (r : inRound (l .phase) ≡ true) where
+  -- refused, with or without
+  refused-aside : (c : Call) (k : ℕ) → (k ≡ 0 → ⊥) → ((m : Ledger) → m .phase ≡ l .phase → number m c ≡ k) → Aside n l c
+  refused-aside c k z h =
+      let same : step l c ≡ l = step-refused l c (λ e. z (sym (h l refl) ∙ e)) in
+      record {
+        next = λ y. step-refused (withDeveloper l n y) c (λ e. z (sym (h (withDeveloper l n y) refl) ∙ e)) ∙ ap (λ (m : Ledger). withDeveloper m n y) (sym same);
+        answered = λ y. alike (withDeveloper l n y) refl ∙ sym (alike l refl);
+        entry = ap (λ (m : Ledger). m .developers n) same;
+        round = rw same r;
+      }
+    where
+      alike : (m : Ledger) → m .phase ≡ l .phase → answer m c ≡ numberAlone k
+      alike m e = answer-refused m c (λ g. z (sym (h m e) ∙ g)) ∙ ap numberAlone (h m e)
+
+  module _ (k : ℕ) (m : Move) (e : eqb k n ≡ false) where
+    same-move : (y x : Developer) (o : Move) → moveNumber (withDeveloper l n y) k x o ≡ moveNumber l k x o
+    unfolding moveNumber
+    same-move y x (Offer ps qs) = refl
+    same-move y x (Lodge ps qs) = refl
+    same-move y x Cancel = refl
+
+    same-number : (y : Developer) → number (withDeveloper l n y) (By k m) ≡ number l (By k m)
+    unfolding number
+    same-number y = same-move y _ m ∙ ap (λ (x : Developer). moveNumber l k x m) (put-beside n k y (l .developers) e)
+
+    same-accepted : (y : Developer) → accepted (withDeveloper l n y) (By k m) ≡ withDeveloper (accepted l (By k m)) n y
+    unfolding accepted
+    same-accepted y =
+        ap (λ (x : Developer). withDevelopers l (put k (moved x m) (put n y (l .developers)))) (put-beside n k y (l .developers) e)
+        ∙ ap (withDevelopers l) (put-apart n k (moved (l .developers k) m) y (l .developers) e)
+
+    move-aside : Aside n l (By k m)
+    unfolding step answer granted accepted
+    move-aside = record {
+      next = λ y. ap (λ (v : ℕ). cond (eqb v 0) (accepted (withDeveloper l n y) (By k m)) (withDeveloper l n y)) (same-number y) ∙ go y (eqb (number l (By k m)) 0);
+      answered = λ y. ap (λ (v : ℕ). cond (eqb v 0) (numberAlone 0) (numberAlone v)) (same-number y);
+      entry = by-step (λ q. q .developers n ≡ l .developers n) l (By k m) refl (λ g. entry-stays);
+      round = by-step (λ q. inRound (q .phase) ≡ true) l (By k m) r (λ g. round-stays);
+    }
+      where
+        go : (y : Developer) (b : Bool) → cond b (accepted (withDeveloper l n y) (By k m)) (withDeveloper l n y) ≡ withDeveloper (cond b (accepted l (By k m)) l) n y
+        go y true = same-accepted y
+        go y false = refl
+
+        entry-stays : accepted l (By k m) .developers n ≡ l .developers n
+        entry-stays = put-beside k n (moved (l .developers k) m) (l .developers) (apart k n e)
+
+        round-stays : inRound (accepted l (By k m) .phase) ≡ true
+        round-stays = r
+
+  -- every call of others but the closing
+  pub aside : (c : Call) → own n c ≡ false → (c ≡ Close → ⊥) → Aside n l c
+  unfolding own number
+  aside (SetUp s) o z = refused-aside (SetUp s) 2 (λ e. omega arith) (λ m e. ap (λ (q : Phase). check (isFresh q) 2 (check (settingsOk s) 1 0)) (e ∙ in-round (l .phase) r))
+  aside (Register k x) o z = refused-aside (Register k x) 2 (λ e. omega arith) (λ m e. ap (λ (q : Phase). check (isReady q) 2 (check (numbersOk (x .project) k (m .developers k .declared .project)) 3 (check (declarationOk m x) 4 0))) (e ∙ in-round (l .phase) r))
+  aside (Open c) o z = refused-aside (Open c) 2 (λ e. omega arith) (λ m e. ap (λ (q : Phase). check (mayOpen q) 2 (check (closingOk m c) 5 (check (startCovered m) 9 0))) (e ∙ in-round (l .phase) r))
+  aside (By k m) o z = move-aside k m o
+  aside Close o z = absurd (z refl)

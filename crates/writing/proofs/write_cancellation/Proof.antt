@@ -1,0 +1,21 @@
+-- The order's kind and fields are those that are written.
+use borrow.Author.Needs.{needs}
+use Rattle.replies.specs.WrittenOrders.{rawOf, listsMatch, writableOrder, frameOfOrder}
+use Rattle.writing.proofs.write_cancellation.Statement.{statement}
+use Rattle.writing.proofs.write_cancellation.Tie as tie
+
+slice-aggregate-encode : tie.Need-slice-aggregate-encode
+slice-aggregate-encode c = search needs
+
+encode-requires : tie.Need-encode-requires
+encode-requires c κs = search needs
+
+same-length : tie.Need-same-length
+same-length c = search needs
+
+returns : tie.Need-returns
+unfolding rawOf listsMatch writableOrder frameOfOrder
+returns c = c .before .before .encode .ensures
+
+pub write-cancellation-spec : {M : Type 1} → statement M
+write-cancellation-spec = tie.close (tie.spec slice-aggregate-encode encode-requires same-length returns)
