@@ -2,6 +2,7 @@ pub mod EveryList
 pub mod ReadBack
 pub mod Runs
 pub mod AwardRecords
+pub mod RecordOrder
 pub mod Stated
 pub mod StatedLaws
 pub mod Determined

@@ -1,0 +1,62 @@
+-- The accepted calls of a list, and that its ledger is theirs alone: a refused call changes nothing, so the calls behind it find the same
+-- ledger with and without it.
+use mathlib.Core.Path.{_≡_, refl, sym, ap, _∙_}
+use mathlib.Core.Bool.{Bool, true, false, cond}
+use mathlib.Core.List.{List, [], _∷_}
+use lib.Dec.{eqb}
+use borrow.Author.Tests.{eq-eqb}
+use Rattle.numbers.specs.Cases.{clash}
+use Rattle.rules.specs.Ledger.{Call, Ledger, start}
+use Rattle.rules.specs.Refusals.{number}
+use Rattle.rules.specs.Rounds.{step, stepAll, ledger}
+use Rattle.reachable.specs.Steps.{step-refused}
+
+-- of the calls made from the ledger l on, those accepted, in their order
+unfoldable pub acceptedFrom : Ledger → List Call → List Call
+acceptedFrom l [] = []
+acceptedFrom l (c ∷ cs) = cond (eqb (number l c) 0) (c ∷ acceptedFrom (step l c) cs) (acceptedFrom (step l c) cs)
+
+-- the accepted calls of a list
+unfoldable pub acceptedCalls : List Call → List Call
+acceptedCalls cs = acceptedFrom start cs
+
+unchanged : (l : Ledger) (c : Call) → eqb (number l c) 0 ≡ false → l ≡ step l c
+unchanged l c e = sym (step-refused l c (λ z. clash (eq-eqb (number l c) 0 z) e))
+
+accepted-steps : (l : Ledger) (cs : List Call) → stepAll l (acceptedFrom l cs) ≡ stepAll l cs
+unfolding stepAll acceptedFrom
+accepted-steps l [] = refl
+accepted-steps l (c ∷ cs) = go (eqb (number l c) 0) refl (accepted-steps (step l c) cs)
+  where
+    rest : List Call
+    rest = acceptedFrom (step l c) cs
+
+    go : (b : Bool) → eqb (number l c) 0 ≡ b → stepAll (step l c) rest ≡ stepAll (step l c) cs → stepAll l (cond b (c ∷ rest) rest) ≡ stepAll (step l c) cs
+    go true e h = h
+    go false e h = ap (λ (m : Ledger). stepAll m rest) (unchanged l c e) ∙ h
+
+accepted-from-again : (l : Ledger) (cs : List Call) → acceptedFrom l (acceptedFrom l cs) ≡ acceptedFrom l cs
+unfolding acceptedFrom
+accepted-from-again l [] = refl
+accepted-from-again l (c ∷ cs) = go (eqb (number l c) 0) refl (accepted-from-again (step l c) cs)
+  where
+    rest : List Call
+    rest = acceptedFrom (step l c) cs
+
+    go : (b : Bool) → eqb (number l c) 0 ≡ b → acceptedFrom (step l c) rest ≡ rest → acceptedFrom l (cond b (c ∷ rest) rest) ≡ cond b (c ∷ rest) rest
+    go true e h = rw e (ap (λ (ds : List Call). c ∷ ds) h)
+    go false e h = ap (λ (m : Ledger). acceptedFrom m rest) (unchanged l c e) ∙ h
+
+-- the ledger of a list is that of its accepted calls
+pub ledger-of-accepted : (cs : List Call) → ledger (acceptedCalls cs) ≡ ledger cs
+unfolding ledger acceptedCalls
+ledger-of-accepted cs = accepted-steps start cs
+
+-- so lists with the same accepted calls in the same order have one ledger, whatever was refused between them
+pub same-accepted : (cs ds : List Call) → acceptedCalls cs ≡ acceptedCalls ds → ledger cs ≡ ledger ds
+same-accepted cs ds e = sym (ledger-of-accepted cs) ∙ ap ledger e ∙ ledger-of-accepted ds
+
+-- with the refused calls taken out, none of those left is refused
+pub accepted-again : (cs : List Call) → acceptedCalls (acceptedCalls cs) ≡ acceptedCalls cs
+unfolding acceptedCalls
+accepted-again cs = accepted-from-again start cs
