@@ -2,9 +2,9 @@
 -- ledger with and without it.
 use mathlib.Core.Path.{_≡_, refl, sym, ap, _∙_}
 use mathlib.Core.Bool.{Bool, true, false, cond}
-use mathlib.Core.List.{List, [], _∷_}
+use mathlib.Core.List.{List, [], _∷_, _++_, append-nil}
 use lib.Dec.{eqb}
-use borrow.Author.Tests.{eq-eqb}
+use borrow.Author.Tests.{eq-eqb, ne-eqb}
 use Rattle.numbers.specs.Cases.{clash}
 use Rattle.rules.specs.Ledger.{Call, Ledger, start}
 use Rattle.rules.specs.Refusals.{number}
@@ -46,6 +46,25 @@ accepted-from-again l (c ∷ cs) = go (eqb (number l c) 0) refl (accepted-from-a
     go : (b : Bool) → eqb (number l c) 0 ≡ b → acceptedFrom (step l c) rest ≡ rest → acceptedFrom l (cond b (c ∷ rest) rest) ≡ cond b (c ∷ rest) rest
     go true e h = rw e (ap (λ (ds : List Call). c ∷ ds) h)
     go false e h = ap (λ (m : Ledger). acceptedFrom m rest) (unchanged l c e) ∙ h
+
+accepted-from-snoc : (l : Ledger) (cs : List Call) (c : Call) → acceptedFrom l (cs ++ (c ∷ [])) ≡ acceptedFrom l cs ++ acceptedFrom (stepAll l cs) (c ∷ [])
+unfolding stepAll acceptedFrom
+accepted-from-snoc l [] c = refl
+accepted-from-snoc l (d ∷ cs) c = go (eqb (number l d) 0) _ _ _ (accepted-from-snoc (step l d) cs c)
+  where
+    go : (b : Bool) (xs ys zs : List Call) → xs ≡ ys ++ zs → cond b (d ∷ xs) xs ≡ cond b (d ∷ ys) ys ++ zs
+    go true xs ys zs h = ap (λ (ds : List Call). d ∷ ds) h
+    go false xs ys zs h = h
+
+-- one call more: accepted, it is the last of them; refused, it is left out
+pub accepted-joins : (cs : List Call) (c : Call) → number (ledger cs) c ≡ 0 → acceptedCalls (cs ++ (c ∷ [])) ≡ acceptedCalls cs ++ (c ∷ [])
+unfolding ledger acceptedCalls acceptedFrom
+accepted-joins cs c e = accepted-from-snoc start cs c ∙ ap (λ (b : Bool). acceptedFrom start cs ++ cond b (c ∷ []) []) (eq-eqb _ 0 e)
+
+pub refused-left-out : (cs : List Call) (c : Call) → (number (ledger cs) c ≡ 0 → ⊥) → acceptedCalls (cs ++ (c ∷ [])) ≡ acceptedCalls cs
+unfolding ledger acceptedCalls acceptedFrom
+refused-left-out cs c h =
+    accepted-from-snoc start cs c ∙ ap (λ (b : Bool). acceptedFrom start cs ++ cond b (c ∷ []) []) (ne-eqb _ 0 h) ∙ append-nil (acceptedFrom start cs)
 
 -- the ledger of a list is that of its accepted calls
 pub ledger-of-accepted : (cs : List Call) → ledger (acceptedCalls cs) ≡ ledger cs
