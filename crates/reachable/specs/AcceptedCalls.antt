@@ -11,10 +11,14 @@ use Rattle.rules.specs.Refusals.{number}
 use Rattle.rules.specs.Rounds.{step, stepAll, ledger}
 use Rattle.reachable.specs.Steps.{step-refused}
 
+-- a call in front of the accepted ones behind it, if it is accepted
+abbrev joined : Bool → Call → List Call → List Call
+joined b c cs = cond b (c ∷ cs) cs
+
 -- of the calls made from the ledger l on, those accepted, in their order
 unfoldable pub acceptedFrom : Ledger → List Call → List Call
 acceptedFrom l [] = []
-acceptedFrom l (c ∷ cs) = cond (eqb (number l c) 0) (c ∷ acceptedFrom (step l c) cs) (acceptedFrom (step l c) cs)
+acceptedFrom l (c ∷ cs) = joined (eqb (number l c) 0) c (acceptedFrom (step l c) cs)
 
 -- the accepted calls of a list
 unfoldable pub acceptedCalls : List Call → List Call
@@ -31,7 +35,7 @@ accepted-steps l (c ∷ cs) = go (eqb (number l c) 0) refl (accepted-steps (step
     rest : List Call
     rest = acceptedFrom (step l c) cs
 
-    go : (b : Bool) → eqb (number l c) 0 ≡ b → stepAll (step l c) rest ≡ stepAll (step l c) cs → stepAll l (cond b (c ∷ rest) rest) ≡ stepAll (step l c) cs
+    go : (b : Bool) → eqb (number l c) 0 ≡ b → stepAll (step l c) rest ≡ stepAll (step l c) cs → stepAll l (joined b c rest) ≡ stepAll (step l c) cs
     go true e h = h
     go false e h = ap (λ (m : Ledger). stepAll m rest) (unchanged l c e) ∙ h
 
@@ -43,28 +47,30 @@ accepted-from-again l (c ∷ cs) = go (eqb (number l c) 0) refl (accepted-from-a
     rest : List Call
     rest = acceptedFrom (step l c) cs
 
-    go : (b : Bool) → eqb (number l c) 0 ≡ b → acceptedFrom (step l c) rest ≡ rest → acceptedFrom l (cond b (c ∷ rest) rest) ≡ cond b (c ∷ rest) rest
+    go : (b : Bool) → eqb (number l c) 0 ≡ b → acceptedFrom (step l c) rest ≡ rest → acceptedFrom l (joined b c rest) ≡ joined b c rest
     go true e h = rw e (ap (λ (ds : List Call). c ∷ ds) h)
     go false e h = ap (λ (m : Ledger). acceptedFrom m rest) (unchanged l c e) ∙ h
 
 accepted-from-snoc : (l : Ledger) (cs : List Call) (c : Call) → acceptedFrom l (cs ++ (c ∷ [])) ≡ acceptedFrom l cs ++ acceptedFrom (stepAll l cs) (c ∷ [])
 unfolding stepAll acceptedFrom
 accepted-from-snoc l [] c = refl
-accepted-from-snoc l (d ∷ cs) c = go (eqb (number l d) 0) _ _ _ (accepted-from-snoc (step l d) cs c)
+accepted-from-snoc l (d ∷ cs) c =
+    let b = eqb (number l d) 0 in
+    ap (joined b d) (accepted-from-snoc (step l d) cs c) ∙ in-front b (acceptedFrom (step l d) cs) (acceptedFrom (stepAll (step l d) cs) (c ∷ []))
   where
-    go : (b : Bool) (xs ys zs : List Call) → xs ≡ ys ++ zs → cond b (d ∷ xs) xs ≡ cond b (d ∷ ys) ys ++ zs
-    go true xs ys zs h = ap (λ (ds : List Call). d ∷ ds) h
-    go false xs ys zs h = h
+    in-front : (b : Bool) (xs ys : List Call) → joined b d (xs ++ ys) ≡ joined b d xs ++ ys
+    in-front true xs ys = refl
+    in-front false xs ys = refl
 
 -- one call more: accepted, it is the last of them; refused, it is left out
 pub accepted-joins : (cs : List Call) (c : Call) → number (ledger cs) c ≡ 0 → acceptedCalls (cs ++ (c ∷ [])) ≡ acceptedCalls cs ++ (c ∷ [])
 unfolding ledger acceptedCalls acceptedFrom
-accepted-joins cs c e = accepted-from-snoc start cs c ∙ ap (λ (b : Bool). acceptedFrom start cs ++ cond b (c ∷ []) []) (eq-eqb _ 0 e)
+accepted-joins cs c e = accepted-from-snoc start cs c ∙ ap (λ (b : Bool). acceptedFrom start cs ++ joined b c []) (eq-eqb _ 0 e)
 
 pub refused-left-out : (cs : List Call) (c : Call) → (number (ledger cs) c ≡ 0 → ⊥) → acceptedCalls (cs ++ (c ∷ [])) ≡ acceptedCalls cs
 unfolding ledger acceptedCalls acceptedFrom
 refused-left-out cs c h =
-    accepted-from-snoc start cs c ∙ ap (λ (b : Bool). acceptedFrom start cs ++ cond b (c ∷ []) []) (ne-eqb _ 0 h) ∙ append-nil (acceptedFrom start cs)
+    accepted-from-snoc start cs c ∙ ap (λ (b : Bool). acceptedFrom start cs ++ joined b c []) (ne-eqb _ 0 h) ∙ append-nil (acceptedFrom start cs)
 
 -- the ledger of a list is that of its accepted calls
 pub ledger-of-accepted : (cs : List Call) → ledger (acceptedCalls cs) ≡ ledger cs

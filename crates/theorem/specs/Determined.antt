@@ -2,7 +2,7 @@
 -- the two buffers, byte for byte. So no clause of `Stated` can be lost unseen. And the ledger is determined by the accepted calls, so they
 -- determine all of it too (document 02, 8).
 use Prim.Native.Nat.{ℕ, min}
-use mathlib.Core.Path.{_≡_, refl, sym, ap, _∙_, subst}
+use mathlib.Core.Path.{_≡_, refl, sym, ap, _∙_}
 use mathlib.Core.Logic.{⊎-elim}
 use mathlib.Core.Bool.{Bool, true, false}
 use mathlib.Core.List.{List, flatten}
