@@ -47,7 +47,7 @@ uint64_t demand_remainder(uint64_t ce, uint64_t d, uint64_t m1, uint64_t m2, uin
 
 /*
  * Replays a recorded auction from a fresh one: a frame a line in, a reply a line out, as
- * docs/FORMAT.md describes them.
+ * docs/FORMAT.md describes them. The awards in a settling's reply stand by rising project number.
  *
  *   record   the record's bytes, record_length of them; only read
  *   replies  the lent buffer, replies_length bytes; it must not overlap the record

@@ -3,6 +3,7 @@ pub mod Previewed
 pub mod ReadBack
 pub mod Runs
 pub mod AwardRecords
+pub mod RecordOrder
 pub mod Stated
 pub mod StatedLaws
 pub mod Determined

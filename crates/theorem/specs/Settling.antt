@@ -12,6 +12,7 @@ use borrow.Fn.World.{ArgsD}
 use borrow.Fn.Kinds.{endedOf}
 use Rattle.rules.specs.Ledger.{Call, Ledger}
 use Rattle.rules.specs.Rounds.{ledger, Answered}
+use Rattle.reachable.specs.AcceptedCalls.{acceptedCalls}
 use Rattle.settling.specs.declared.Settled.{Settled}
 use Rattle.settling.proofs.settle.{signature}
 use Rattle.settling.proofs.settle.Kinds as kinds
@@ -20,7 +21,7 @@ use Rattle.settling.proofs.settle.Statement as settle-states
 use Rattle.settling.proofs.settle.Met as settle-met
 use Rattle.theorem.specs.EveryList.{Run, reached, EveryList, every-list}
 use Rattle.theorem.specs.Stated.{Stated}
-use Rattle.theorem.specs.Determined.{SameRecords, determined}
+use Rattle.theorem.specs.Determined.{determined, by-accepted}
 use Rattle.theorem.specs.StatedLaws.{stated}
 
 -- the arguments x: the auction, the limit, the buffer; y: the same at the call's end
@@ -31,15 +32,29 @@ pub record Settling (M : Type 1) : Type 2 where
       {cs : List Call} {rs : List Answered} (κs : Lfts 1) (x : ArgsD signature κs) (r : Settled) (y : AtExit (endedOf 1 kinds.ps kinds.r) κs) →
       Run cs rs (x .0) → settle.Post κs x r y →
       Stated (ledger cs) (x .1 .0) (now (x .1 .1 .0)) (now (y .1 .1 .0)) r
-  -- what is stated leaves nothing free but the order of the award records
+  -- what is stated leaves nothing free
   pub determines :
       (l : Ledger) (limit : ℕ) (old new new′ : List ℕ) (r r′ : Settled) → Stated l limit old new r → Stated l limit old new′ r′ →
-      (r ≡ r′) × SameRecords old new new′
+      (r ≡ r′) × (new ≡ new′)
+  -- DETERMINED BY THE ACCEPTED CALLS (document 02, 8): two lists of calls with the same accepted calls in the same order, whatever was refused
+  -- between them, settled with one limit and buffers of equal bytes, get the same answer and leave the same bytes in the whole buffer
+  pub by-accepted-calls :
+      {cs cs′ : List Call} {rs rs′ : List Answered} (κs κs′ : Lfts 1) (x : ArgsD signature κs) (x′ : ArgsD signature κs′) (r r′ : Settled)
+      (y : AtExit (endedOf 1 kinds.ps kinds.r) κs) (y′ : AtExit (endedOf 1 kinds.ps kinds.r) κs′) →
+      acceptedCalls cs ≡ acceptedCalls cs′ → x .1 .0 ≡ x′ .1 .0 → now (x .1 .1 .0) ≡ now (x′ .1 .1 .0) →
+      Run cs rs (x .0) → settle.Post κs x r y → Run cs′ rs′ (x′ .0) → settle.Post κs′ x′ r′ y′ →
+      (r ≡ r′) × (now (y .1 .1 .0) ≡ now (y′ .1 .1 .0))
+
+module _ {cs : List Call} {rs : List Answered} (κs : Lfts 1) (x : ArgsD signature κs) (r : Settled) (y : AtExit (endedOf 1 kinds.ps kinds.r) κs) where
+  as-stated : Run cs rs (x .0) → settle.Post κs x r y → Stated (ledger cs) (x .1 .0) (now (x .1 .1 .0)) (now (y .1 .1 .0)) r
+  as-stated w s = stated cs (x .0) (x .1 .0) (now (x .1 .1 .0)) (now (y .1 .1 .0)) r (reached w .0) s
 
 pub settling : {M : Type 1} → Settling M
 settling = record {
   calls = every-list;
   settle-meets = settle-met.met;
-  statement = λ {cs} {rs} κs x r y w s. stated cs (x .0) (x .1 .0) (now (x .1 .1 .0)) (now (y .1 .1 .0)) r (reached w .0) s;
+  statement = as-stated;
   determines = determined;
+  by-accepted-calls = λ {cs} {cs′} κs κs′ x x′ r r′ y y′ e f g w s w′ s′.
+      by-accepted cs cs′ _ _ _ _ _ _ r r′ e f g (as-stated κs x r y w s) (as-stated κs′ x′ r′ y′ w′ s′);
 }

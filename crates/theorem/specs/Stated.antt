@@ -4,10 +4,11 @@ use Prim.Native.Nat.{ℕ, min, _*_, _≤_, _<_}
 use mathlib.Core.Path.{_≡_}
 use mathlib.Core.Logic.{_↔_}
 use mathlib.Core.Bool.{true, false}
-use mathlib.Core.List.{List}
+use mathlib.Core.List.{List, flatten}
 use lib.ListN.{length}
 use Rattle.numbers.specs.Lists.{total}
 use Rattle.numbers.specs.Least.{Least}
+use Rattle.numbers.specs.Tails.{laid}
 use Rattle.choices.specs.Choices.{IsBest}
 use Rattle.rules.specs.Ledger.{Ledger}
 use Rattle.rules.specs.Clearing.{low, supply, covered, demandAt, remainderAt, closingPrice}
@@ -17,7 +18,7 @@ use Rattle.rules.specs.Second.{takenOut, remaining, short, secondPrice}
 use Rattle.rules.specs.Settling.{records}
 use Rattle.settling.specs.Settles.{refusedWith}
 use Rattle.settling.specs.declared.Settled.{Settled}
-use Rattle.theorem.specs.AwardRecords.{awardedLevel, Goes, Written}
+use Rattle.theorem.specs.AwardRecords.{awardedLevel, Goes, ByRisingProject}
 
 -- the admissible choices do not outnumber the limit, capped at 65,536
 abbrev pub Within : Ledger → ℕ → Type 0
@@ -56,7 +57,9 @@ pub record Accepted (l : Ledger) (old new : List ℕ) (r : Settled) : Type 0 whe
   -- each level above 0 goes to the preferred developer, and has one record
   pub goes : (k : ℕ) → 1 ≤ k → k ≤ 32 → let v = awardedLevel l (r .price) k in 0 < v → Goes l (r .price) k v (winner l (r .price) k v)
   pub count : r .records ≡ length (records l (r .price))
-  pub written : Written (records l (r .price)) old new
+  -- the whole buffer: the records by rising project number, then the bytes that stood behind them (document 02, 8)
+  pub rising : ByRisingProject (records l (r .price))
+  pub written : new ≡ laid (flatten (records l (r .price))) old
 
 -- all that is stated of settling
 pub record Stated (l : Ledger) (limit : ℕ) (old new : List ℕ) (r : Settled) : Type 0 where

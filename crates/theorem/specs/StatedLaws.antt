@@ -2,7 +2,7 @@
 use Prim.Native.Nat.{ℕ, min, _*_}
 use mathlib.Core.Path.{_≡_, refl, sym, _∙_, subst}
 use mathlib.Core.Bool.{Bool, true, false}
-use mathlib.Core.List.{List, [], _∷_, flatten}
+use mathlib.Core.List.{List, flatten}
 use native.Mathlib.Omega.{arith}
 use lib.Dec.{leb}
 use lib.ListN.{length}
@@ -26,12 +26,8 @@ use Rattle.auction.specs.declared.Auction.{Auction}
 use Rattle.numbers.specs.Tails.{laid}
 use Rattle.settling.specs.Settles.{Settles, settledAs}
 use Rattle.settling.specs.declared.Settled.{Settled}
-use Rattle.theorem.specs.AwardRecords.{InSomeOrder, none, same}
+use Rattle.theorem.specs.RecordOrder.{records-rise}
 use Rattle.theorem.specs.Stated.{Accepted, Within, Fit, Stated}
-
-as-it-is : {A : Type 0} (xs : List A) → InSomeOrder xs xs
-as-it-is [] = none
-as-it-is (x ∷ xs) = same (as-it-is xs)
 
 module _ (l : Ledger) (s : Sound l) (c : isClosed (l .phase) ≡ true) (old new : List ℕ) where
   began : started (l .phase) ≡ true
@@ -66,7 +62,8 @@ module _ (l : Ledger) (s : Sound l) (c : isClosed (l .phase) ≡ true) (old new 
         let n = winner-open l (closingPrice l) k _ o in
         record { developer = n .0; is-open = n .1; preferred = winner-preferred l (closingPrice l) k _ o };
     count = refl;
-    written = record { order = records l (closingPrice l); each-once = as-it-is (records l (closingPrice l)); bytes = w };
+    rising = records-rise l (closingPrice l);
+    written = w;
   })
 
 -- the numbers, by the two tests
