@@ -65,8 +65,8 @@ uint64_t replay(const uint8_t *record, size_t record_length, uint8_t *replies,
  * refusals, and either leaves every byte of the buffer as it was:
  *
  *   REFERENCE_ENGINE_REFUSAL(14), which is 2^64 - 14, tested first: the call is not writable. A
- *   number does not fit the digits of its field, the two lists of an offer are not equally long,
- *   or the line would have more than 160 characters.
+ *   number does not fit the digits of its field, the two lists of an offer or a lodging are not
+ *   equally long, or the line would have more than 160 characters.
  *
  *   REFERENCE_ENGINE_REFUSAL(13), which is 2^64 - 13, tested last: the buffer is too short for the
  *   frame with its 0A.
@@ -110,6 +110,15 @@ uint64_t write_closing(uint8_t *frame, size_t frame_length);
 
 /* Frame 06, settling, with its limit on admissible choices, below 2^32. The frame has 11 bytes. */
 uint64_t write_settling(uint64_t limit, uint8_t *frame, size_t frame_length);
+
+/*
+ * Frame 07, lodging of an existing plant's withdrawals, before the first round: the steps' prices,
+ * and the level that each step falls to. A list lodged again replaces the one before; an empty one
+ * takes it back. Fields, widths and lengths are those of an offer.
+ */
+uint64_t write_lodging(uint64_t developer, const uint64_t *prices, size_t prices_length,
+                       const uint64_t *levels, size_t levels_length, uint8_t *frame,
+                       size_t frame_length);
 
 #ifdef __cplusplus
 }
