@@ -85,8 +85,8 @@ returns-4 c =
 lodge-requires : tie.Need-lodge-requires
 lodge-requires c κs = search needs
 
-mul-t18 : tie.Need-mul-t18
-mul-t18 c = search needs
+mul-t19 : tie.Need-mul-t19
+mul-t19 c = search needs
 
 element-set-from-next : tie.Need-element-set-from-next
 element-set-from-next c = let b = bounds (priced (c .before .before .before .before .before)) in omega arith
@@ -119,6 +119,6 @@ lodge-spec =
     refused-requires-4
     returns-4
     lodge-requires
-    mul-t18
+    mul-t19
     element-set-from-next
     returns-5)
