@@ -25,7 +25,26 @@ _Static_assert(REFERENCE_ENGINE_REFUSAL(11) == UINT64_MAX - 10, "refusal 11 is 2
 #define SAMPLE_REPLIES                                                              \
     "0100\n0200\n0200\n0200\n0200\n0300\n0400\n0400\n0400\n"                     \
     "0500FFFFFFFFFFFFFFC900000000\n"                                               \
-    "06000000659000000003CA00000003FC0000000400000003020101000003340203000000C800000000\n"
+    "06000000659000000003CA00000003FC0000000400000003020101000003340203000000C8"   \
+    "000000000000659000\n"
+
+/* An existing plant of 300 and 700 beside one of 950; the first lodges a fall to 300. */
+#define LODGED                                            \
+    "0100004E2000000003E8000000038400000004B000009C40\n" \
+    "020101010000000000000000020000012C000002BC\n"       \
+    "02020201000000000000000001000003B6\n"               \
+    "070101000075300000012C\n"                           \
+    "0300002710\n"                                       \
+    "05\n"                                               \
+    "0600000001\n"
+
+#define LODGED_REPLIES                     \
+    "0100\n0200\n0200\n0700\n0300\n"       \
+    "0500000000000000003200000000\n"       \
+    "06000000271000000004B000000004E2"     \
+    "000000010000000102"                   \
+    "01010000012C0202000003B6"             \
+    "000000000000753000\n"
 
 struct check {
     const char *name, *record, *replies;
@@ -39,6 +58,8 @@ static const struct check checks[] = {
     {"lone 0A", "\n", "FF0C\n"},
     {"cut frame", "0", "FF0C\n"},
     {"closing before set-up", "05", "0502\n"},
+    {"lodged list", LODGED, LODGED_REPLIES},
+    {"lodging before set-up", "070100", "0702\n"},
 };
 
 static unsigned made, failed;

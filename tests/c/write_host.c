@@ -84,6 +84,21 @@ static const struct check checks[] = {
     {6, {100}, {0}, {0}, "0600000064\n"},
     {6, {MAX32}, {0}, {0}, "06FFFFFFFF\n"},
     {6, {BITS(32)}, {0}, {0}, NULL},
+
+    {7, {1}, {1, {26000}}, {1, {100}}, "0701010000659000000064\n"},
+    {7, {255}, {2, {MAX32, 0}}, {2, {0, MAX32}}, "07FF02FFFFFFFF0000000000000000FFFFFFFF\n"},
+    {7, {0}, {0}, {0}, "070000\n"},
+    {7, {1}, {9, {0}}, {9, {0}},
+     "070109"
+     "000000000000000000000000000000000000000000000000000000000000000000000000"
+     "000000000000000000000000000000000000000000000000000000000000000000000000\n"},
+    {7, {1}, {10, {0}}, {10, {0}}, NULL},
+    {7, {BITS(8)}, {1, {26000}}, {1, {100}}, NULL},
+    {7, {1}, {1, {BITS(32)}}, {1, {100}}, NULL},
+    {7, {1}, {1, {26000}}, {1, {BITS(32)}}, NULL},
+    {7, {1}, {2, {26000, 25000}}, {1, {100}}, NULL},
+    {7, {1}, {1, {26000}}, {2, {100, 0}}, NULL},
+    {7, {1}, {1, {26000}}, {0}, NULL},
 };
 
 static unsigned made, failed;
@@ -106,8 +121,11 @@ static uint64_t write_frame(const struct check *check, const uint64_t *first,
                            length);
     case 5:
         return write_closing(frame, length);
-    default:
+    case 6:
         return write_settling(n[0], frame, length);
+    default:
+        return write_lodging(n[0], first, check->first.length, second, check->second.length, frame,
+                             length);
     }
 }
 
@@ -160,6 +178,7 @@ static void write_null(void)
     if (write_offer(2, NULL, 0, NULL, 0, NULL, 0) != REFERENCE_ENGINE_REFUSAL(13) ||
         write_registration(BITS(8), 1, 1, 0, 0, NULL, 0, NULL, 0) != REFERENCE_ENGINE_REFUSAL(14) ||
         write_closing(NULL, 0) != REFERENCE_ENGINE_REFUSAL(13) ||
+        write_lodging(2, NULL, 0, NULL, 0, NULL, 0) != REFERENCE_ENGINE_REFUSAL(13) ||
         write_offer(2, NULL, 0, NULL, 0, frame, sizeof frame) != sizeof frame ||
         memcmp(frame, "040200\n", sizeof frame) != 0) {
         failed++;

@@ -2,8 +2,9 @@
  * A deliberately wrong engine over the right one, to see that the comparisons report a fault.
  * WRONG in the environment names it: demand (one kWh more), remainder (that of the quotient, which
  * is CE less the right one), digit (the last digit of the replies), behind (the byte behind the
- * replies), step (the last digit of an offer's frame) or width (an opening's price cut to its
- * field); without it the engine is right.
+ * replies), mark (that of the second price is never short), step (the last digit of an offer's
+ * frame), width (an opening's price cut to its field) or kind (a lodging written as an offer);
+ * without it the engine is right.
  */
 #include "reference_engine.h"
 #include <stdlib.h>
@@ -17,6 +18,9 @@ uint64_t right_write_opening(uint64_t c, uint8_t *frame, size_t frame_length);
 uint64_t right_write_offer(uint64_t developer, const uint64_t *prices, size_t prices_length,
                            const uint64_t *levels, size_t levels_length, uint8_t *frame,
                            size_t frame_length);
+uint64_t right_write_lodging(uint64_t developer, const uint64_t *prices, size_t prices_length,
+                             const uint64_t *levels, size_t levels_length, uint8_t *frame,
+                             size_t frame_length);
 
 static int fault(const char *name) {
     const char *wrong = getenv("WRONG");
@@ -33,6 +37,18 @@ uint64_t demand_remainder(uint64_t ce, uint64_t d, uint64_t m1, uint64_t m2, uin
     return answer > 0 && answer < ce && fault("remainder") ? ce - answer : answer;
 }
 
+/* Sets the mark at the end of each accepted settling's reply to 00. */
+static void unmark(uint8_t *replies, uint64_t written) {
+    uint64_t start = 0;
+    for (uint64_t end = 0; end < written; end++) {
+        if (replies[end] != '\n')
+            continue;
+        if (end - start > 6 && memcmp(replies + start, "0600", 4) == 0)
+            replies[end - 1] = '0';
+        start = end + 1;
+    }
+}
+
 uint64_t replay(const uint8_t *record, size_t record_length, uint8_t *replies,
                 size_t replies_length) {
     uint64_t written = right_replay(record, record_length, replies, replies_length);
@@ -40,6 +56,8 @@ uint64_t replay(const uint8_t *record, size_t record_length, uint8_t *replies,
         return written;
     if (fault("digit"))
         replies[written - 2] ^= 1;
+    if (fault("mark"))
+        unmark(replies, written);
     if (fault("behind") && written < replies_length)
         replies[written] ^= 1;
     return written;
@@ -57,4 +75,11 @@ uint64_t write_offer(uint64_t developer, const uint64_t *prices, size_t prices_l
     if (written <= frame_length && prices_length > 0 && fault("step"))
         frame[written - 2] ^= 1;
     return written;
+}
+
+uint64_t write_lodging(uint64_t developer, const uint64_t *prices, size_t prices_length,
+                       const uint64_t *levels, size_t levels_length, uint8_t *frame,
+                       size_t frame_length) {
+    return (fault("kind") ? right_write_offer : right_write_lodging)(
+        developer, prices, prices_length, levels, levels_length, frame, frame_length);
 }

@@ -1,5 +1,5 @@
--- A line of each kind of document 01's sample record (Frames), as bytes, the call that it reads as, and the line that is written for that
--- call. Computed over the definitions, so that the table of field widths is held to the paper here.
+-- A line of each kind, of document 01's sample record (Frames) or in its layout (document 02, 5 and 7), as bytes, the call that it reads as,
+-- and the line that is written for that call. Computed over the definitions, so that the table of field widths is held to the paper here.
 use Prim.Native.Nat.{ℕ, zero, suc}
 use Prim.Native.Char.{code}
 use Prim.Native.String.{String, len, charAt}
@@ -33,6 +33,8 @@ sampleLines =
     ∷ "0402010000659000000064"
     ∷ "05"
     ∷ "0600000064"
+    ∷ "0701010000659000000064"
+    ∷ "0902"
     ∷ []
 
 abbrev sampleCalls : List RawCall
@@ -43,6 +45,8 @@ sampleCalls =
     ∷ call 4 (2 ∷ 1 ∷ 26000 ∷ 100 ∷ [])
     ∷ call 5 []
     ∷ call 6 (100 ∷ [])
+    ∷ call 7 (1 ∷ 1 ∷ 26000 ∷ 100 ∷ [])
+    ∷ call 9 (2 ∷ [])
     ∷ []
 
 sample-lines : map (λ s. read (bytes s)) sampleLines ≡ map some sampleCalls

@@ -1,5 +1,5 @@
-//! The ledger of document 01, which closes by document 02's request 1: what the calls of one
-//! auction leave behind, in order.
+//! The ledger of document 01, which closes by document 02's request 1 and applies the lists lodged
+//! by its request 5: what the calls of one auction leave behind, in order.
 //! Each call makes the paper's checks in the paper's order; a refused one changes nothing.
 //! Numbers come in as wide as a caller can pass them and are held as u64.
 
@@ -7,13 +7,14 @@ mod developer;
 
 use crate::{
     demand, demand_remainder, require, BAD_LEVEL, BAD_NUMBER, BAD_REGISTRATION, BAD_ROUND_PRICE,
-    BAD_STEPS, BEYOND_BOUNDS, NOT_IN_THIS_PHASE, OPENING_NOT_COVERED, SECOND_OFFER,
+    BAD_STEPS, BEYOND_BOUNDS, NOT_IN_THIS_PHASE, NO_EXISTING_PLANT, OPENING_NOT_COVERED,
+    SECOND_OFFER,
 };
 use developer::may_be_declared;
 pub use developer::{Developer, Withdrawal};
-use std::collections::BTreeMap;
+use std::collections::{BTreeMap, BTreeSet};
 use std::iter;
-use std::ops::RangeInclusive;
+use std::ops::{Range, RangeInclusive};
 
 /// The numbers of projects and developers (document 01, Registration).
 pub const NUMBERS: RangeInclusive<u8> = 1..=32;
@@ -25,7 +26,7 @@ pub const NEW: u8 = 2;
 pub const MOST_LEVELS: usize = 8;
 /// Highest level that may be declared (document 01, Registration).
 pub const HIGHEST_LEVEL: u32 = 1_000_000_000;
-/// Most steps of an offer (document 01, Rounds).
+/// Most steps of an offer (document 01, Rounds), and of a lodged list (document 02, request 5).
 pub const MOST_STEPS: usize = 8;
 /// Least excess after which another round may be opened: a thousandth of a GWh per day
 /// (document 02, request 1).
@@ -46,7 +47,7 @@ pub enum Phase {
     /// Accepts set-up.
     #[default]
     Fresh,
-    /// Accepts registrations and the first opening.
+    /// Accepts registrations, lodgings and the first opening.
     Registering,
     /// Accepts offers and closing.
     RoundOpen(Round),
@@ -100,10 +101,9 @@ pub struct Round {
 }
 
 impl Round {
-    /// Prices fall strictly and lie from C to the opening price less 1.
-    fn admits(&self, prices: &[u32]) -> bool {
-        let inside = |&price: &u32| (self.c..self.opening_price).contains(&price.into());
-        prices.iter().all(inside) && prices.is_sorted_by(|before, after| before > after)
+    /// The prices that its closing passes: from C to the opening price less 1.
+    pub fn passes(&self) -> Range<u64> {
+        self.c..self.opening_price
     }
 }
 
@@ -157,6 +157,7 @@ impl Auction {
             quantity: *levels.last().expect("at least one level"),
             levels,
             withdrawals: Vec::new(),
+            lodged: Vec::new(),
         };
         self.developers.insert(developer, registered);
         Ok(())
@@ -168,6 +169,17 @@ impl Auction {
             .values()
             .filter(|other| other.project == project)
             .all(|other| kind == NEW && other.kind == NEW)
+    }
+
+    /// Checks: 2, 15, 6, 7. The list replaces the one lodged before (document 02, request 5).
+    pub fn lodge(&mut self, developer: u8, prices: &[u32], levels: &[u32]) -> Result<(), u8> {
+        require(self.phase == Phase::Registering, NOT_IN_THIS_PHASE)?;
+        let known = self.developers.get_mut(&developer);
+        let lodging = known.filter(|d| d.kind == EXISTING);
+        let lodging = lodging.ok_or(NO_EXISTING_PLANT)?;
+        let from_the_floor = self.settings.floor()..self.settings.a;
+        lodging.lodged = steps(lodging, &from_the_floor, prices, levels)?;
+        Ok(())
     }
 
     /// Checks: 2, 5, 9.
@@ -192,7 +204,7 @@ impl Auction {
         Ok(())
     }
 
-    /// Checks: 2, 3, 8, 6, 7. All prices are tested before any level.
+    /// Checks: 2, 3, 8, 6, 7.
     pub fn offer(&mut self, developer: u8, prices: &[u32], levels: &[u32]) -> Result<(), u8> {
         let Phase::RoundOpen(round) = &mut self.phase else {
             return Err(NOT_IN_THIS_PHASE);
@@ -200,17 +212,8 @@ impl Auction {
         let known = self.developers.get(&developer);
         let offering = known.filter(|d| d.kind == NEW).ok_or(BAD_NUMBER)?;
         require(!round.offers.contains_key(&developer), SECOND_OFFER)?;
-        require(
-            prices.len() == levels.len() && prices.len() <= MOST_STEPS && round.admits(prices),
-            BAD_STEPS,
-        )?;
-        let levels: Vec<u64> = levels.iter().map(|&level| level.into()).collect();
-        require(offering.may_fall_to(&levels), BAD_LEVEL)?;
-        let steps = iter::zip(prices, levels).map(|(&price, level)| Withdrawal {
-            price: price.into(),
-            level,
-        });
-        round.offers.insert(developer, steps.collect());
+        let steps = steps(offering, &round.passes(), prices, levels)?;
+        round.offers.insert(developer, steps);
         Ok(())
     }
 
@@ -219,16 +222,16 @@ impl Auction {
         let Phase::RoundOpen(round) = &self.phase else {
             return Err(NOT_IN_THIS_PHASE);
         };
-        let Round {
-            opening_price,
-            c,
-            offers,
-        } = round.clone();
+        let round = round.clone();
         for developer in self.developers.values_mut() {
-            let offered = offers.get(&developer.number).cloned();
-            let added = offered.unwrap_or_else(|| developer.without_offer(opening_price));
+            let added = match round.offers.get(&developer.number) {
+                Some(offered) => offered.clone(),
+                None if developer.kind == NEW => developer.without_offer(round.opening_price),
+                None => developer.lodged_at(&round.passes()),
+            };
             developer.withdraw(&added);
         }
+        let c = round.c;
         self.last_c = Some(c);
         let excess = self.supply().cast_signed() - self.settings.demand(c).cast_signed();
         self.phase = if excess < LEAST_OPEN_EXCESS || c == self.settings.floor() {
@@ -271,6 +274,14 @@ impl Auction {
         projects
     }
 
+    /// The same auction as if these projects had no developers.
+    pub fn without(&self, projects: &BTreeSet<u8>) -> Auction {
+        let mut auction = self.clone();
+        let stays = |developer: &Developer| !projects.contains(&developer.project);
+        auction.developers.retain(|_, developer| stays(developer));
+        auction
+    }
+
     pub fn phase(&self) -> &Phase {
         &self.phase
     }
@@ -287,4 +298,29 @@ impl Auction {
     pub fn last_c(&self) -> Option<u64> {
         self.last_c
     }
+}
+
+/// Steps at these prices. Checks: 6, 7. All prices are tested before any level.
+fn steps(
+    developer: &Developer,
+    at: &Range<u64>,
+    prices: &[u32],
+    levels: &[u32],
+) -> Result<Vec<Withdrawal>, u8> {
+    let inside = |&price: &u32| at.contains(&price.into());
+    let falling = prices.is_sorted_by(|before, after| before > after);
+    require(
+        prices.len() == levels.len()
+            && prices.len() <= MOST_STEPS
+            && prices.iter().all(inside)
+            && falling,
+        BAD_STEPS,
+    )?;
+    let levels: Vec<u64> = levels.iter().map(|&level| level.into()).collect();
+    require(developer.may_fall_to(&levels), BAD_LEVEL)?;
+    let steps = iter::zip(prices, levels).map(|(&price, level)| Withdrawal {
+        price: price.into(),
+        level,
+    });
+    Ok(steps.collect())
 }

@@ -47,6 +47,15 @@ mod host {
         ) -> u64;
         pub fn write_closing(frame: *mut u8, frame_length: usize) -> u64;
         pub fn write_settling(limit: u64, frame: *mut u8, frame_length: usize) -> u64;
+        pub fn write_lodging(
+            developer: u64,
+            prices: *const u64,
+            prices_length: usize,
+            levels: *const u64,
+            levels_length: usize,
+            frame: *mut u8,
+            frame_length: usize,
+        ) -> u64;
     }
 }
 
@@ -107,6 +116,15 @@ pub fn write(fields: &Fields, frame: &mut [u8]) -> u64 {
             ),
             (5, [], []) => host::write_closing(start, length),
             (6, &[limit], []) => host::write_settling(limit, start, length),
+            (7, &[developer], [prices, levels]) => host::write_lodging(
+                developer,
+                prices.as_ptr(),
+                prices.len(),
+                levels.as_ptr(),
+                levels.len(),
+                start,
+                length,
+            ),
             _ => panic!("no call: {fields:?}"),
         }
     }

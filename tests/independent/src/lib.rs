@@ -58,6 +58,8 @@ pub const MALFORMED_LINE: u8 = 12;
 pub const FRAME_BUFFER_TOO_SHORT: u8 = 13;
 /// Refusal 14: call not writable.
 pub const NOT_WRITABLE: u8 = 14;
+/// Refusal 15: lodging for a developer number that is no registered existing plant.
+pub const NO_EXISTING_PLANT: u8 = 15;
 
 /// The one number of 64 bits that a C host gets: for a refusal, 2^64 less its number.
 pub fn host_number(answer: Answer) -> u64 {

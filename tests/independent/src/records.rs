@@ -9,6 +9,7 @@ mod crowded;
 mod damage;
 pub mod edges;
 pub mod fixed;
+mod lodgings;
 mod long;
 mod offers;
 mod refused;
@@ -110,10 +111,17 @@ impl Writer {
 
     fn auction(&mut self) {
         let book = books::book(&mut self.random);
+        let lodging = self.random.chance(65);
         self.make(&book.set_up);
         for registration in &book.registrations {
             self.early_opening();
             self.make(registration);
+            if lodging && self.random.chance(15) {
+                self.lodging();
+            }
+        }
+        if lodging {
+            (0..self.random.between(1, 6)).for_each(|_| self.lodging());
         }
         let rounds = self.random.one_of(&[1, 2, 3, 3, 4, 6]);
         for left in (0..rounds).rev() {
@@ -136,13 +144,7 @@ impl Writer {
         if *self.auction.phase() == Phase::Closed {
             return;
         }
-        let floor = self.auction.settings().floor();
-        let fall = self.auction.opening_price() - floor;
-        let c = if last {
-            floor
-        } else {
-            floor + fall - self.random.of_any_size(1, fall.div_ceil(2))
-        };
+        let c = self.closing_price_of_round(last);
         self.make(&Call::Open { c: c as u32 });
         for offer in offers::offers(&mut self.random, &self.auction, last) {
             self.make(&offer);
@@ -151,6 +153,23 @@ impl Writer {
             self.aim();
         }
         self.make(&Call::Close);
+    }
+
+    /// The floor in the last round; now and then a price of a lodged step or the next above it.
+    fn closing_price_of_round(&mut self, last: bool) -> u64 {
+        let (floor, opening_price) = (
+            self.auction.settings().floor(),
+            self.auction.opening_price(),
+        );
+        let lodged = lodgings::lodged_prices(&self.auction, &(floor..opening_price - 1));
+        if last {
+            floor
+        } else if !lodged.is_empty() && self.random.chance(20) {
+            self.random.one_of(&lodged) + self.random.between(0, 1)
+        } else {
+            let fall = opening_price - floor;
+            opening_price - self.random.of_any_size(1, fall.div_ceil(2))
+        }
     }
 
     /// Settlings with limits around the number of choices and around 65,536.

@@ -1,5 +1,6 @@
-//! Replay of a recorded auction: frames in, replies out (document 01, Frames; the remainders of
-//! document 02's request 4 at their ends); and frames out (document 02, request 2).
+//! Replay of a recorded auction: frames in, replies out (document 01, Frames; at their ends the
+//! remainders of document 02's request 4 and the second price of its request 5); and frames out
+//! (request 2).
 
 mod frames;
 mod writing;
@@ -89,6 +90,14 @@ pub fn make(auction: &mut Auction, call: &Call) -> Result<Accepted, u8> {
             let answer = auction.offer(*developer, prices, levels);
             answer.map(|()| Accepted::Plain)
         }
+        Call::Lodge {
+            developer,
+            prices,
+            levels,
+        } => {
+            let answer = auction.lodge(*developer, prices, levels);
+            answer.map(|()| Accepted::Plain)
+        }
         Call::Close => auction.close().map(Accepted::Closed),
         &Call::Settle { limit } => {
             let answer = auction.settle(limit.into(), &mut [0; AWARD_BYTES]);
@@ -137,7 +146,7 @@ fn behind_answer(accepted: &Accepted) -> String {
 }
 
 /// P 8, Dem 10, total 10, choices 8, covering 8, awards 2, then project 2, developer 2,
-/// quantity 8, by rising project, then the remainder 8.
+/// quantity 8, by rising project, then the remainder 8, the second price 8 and its mark 2.
 fn settled(settlement: &Settlement) -> String {
     let mut rest = [
         (settlement.closing_price, 8),
@@ -154,5 +163,7 @@ fn settled(settlement: &Settlement) -> String {
         rest += &digits(award.developer.into(), 2);
         rest += &digits(award.quantity, 8);
     }
-    rest + &digits(settlement.remainder, 8)
+    rest += &digits(settlement.remainder, 8);
+    rest += &digits(settlement.second_price, 8);
+    rest + &digits(settlement.short.into(), 2)
 }

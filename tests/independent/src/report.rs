@@ -1,8 +1,10 @@
 //! What a program that compares replies prints: one line a group of records with what their
 //! replies were, and the first difference; how often rounds closed where the closing rule
-//! decides; how often demand had a remainder; how searches went; and what it ends with.
+//! decides; how often demand had a remainder; what lodged lists did; how searches went; and what it
+//! ends with.
 
 mod closings;
+mod lodgings;
 mod remainders;
 mod searches;
 
@@ -10,6 +12,7 @@ use crate::parts::in_parts;
 use crate::replay::lines;
 use crate::settling::Settlement;
 pub use closings::Closings;
+pub use lodgings::Lodgings;
 pub use remainders::Remainders;
 pub use searches::Searches;
 use std::collections::BTreeMap;
@@ -51,6 +54,7 @@ pub struct Group {
     written: u64,
     closings: Closings,
     remainders: Remainders,
+    lodgings: Lodgings,
     searches: Searches,
     /// Words of traces by their names.
     words: BTreeMap<String, u64>,
@@ -67,6 +71,7 @@ impl Group {
             written: 0,
             closings: Closings::default(),
             remainders: Remainders::default(),
+            lodgings: Lodgings::default(),
             searches: Searches::default(),
             words: BTreeMap::new(),
             difference: None,
@@ -97,6 +102,7 @@ impl Group {
         self.written += other.written;
         self.closings.join(other.closings);
         self.remainders.join(&other.remainders);
+        self.lodgings.join(&other.lodgings);
         self.searches.join(&other.searches);
         add(&mut self.words, other.words);
         self.difference = self.difference.take().or(other.difference);
@@ -106,6 +112,7 @@ impl Group {
     pub fn count(&mut self, record: &[u8], replies: &[u8]) {
         self.closings.count(record, replies);
         self.remainders.count(replies);
+        self.lodgings.count(record);
         let replies = lines(replies);
         let settled = replies.iter().any(|reply| reply.starts_with(b"0600"));
         self.records += 1;
@@ -162,6 +169,7 @@ impl Group {
         }
         self.closings.print();
         self.remainders.print();
+        self.lodgings.print();
         if !self.words.is_empty() {
             println!("  words: {}", listed_counts(&self.words));
         }

@@ -1,5 +1,6 @@
-//! Settling a closed auction: document 01, Closing price and award, read literally.
-//! Every admissible choice is looked at; only the closing price is found without trying every
+//! Settling a closed auction: document 01, Closing price and award, and document 02's second price
+//! (request 5), read literally.
+//! Every admissible choice is looked at; only the closing prices are found without trying every
 //! price, and `closing_price_by_walk` stands beside it.
 
 mod search;
@@ -32,6 +33,10 @@ pub struct Settlement {
     pub kept: Vec<u64>,
     /// The remainder of Dem at the closing price (document 02, request 4).
     pub remainder: u64,
+    /// The price for new plants (document 02, request 5).
+    pub second_price: u64,
+    /// Whether A was not covered for it.
+    pub short: bool,
 }
 
 #[derive(Clone, Copy, Debug, PartialEq, Eq)]
@@ -105,6 +110,26 @@ impl Auction {
         lowest.expect("A is covered once a round opened")
     }
 
+    /// The price for new plants and whether it is short (document 02, request 5): the lowest covered
+    /// price passed when projects with an applied lodged step are taken out; A if that is not
+    /// covered then.
+    pub fn second_price(&self) -> (u64, bool) {
+        let a = self.settings().a;
+        let left = self.without_lodged();
+        if left.covered(a) {
+            (left.closing_price(), false)
+        } else {
+            (a, true)
+        }
+    }
+
+    /// The auction with the projects taken out that have an applied lodged step.
+    pub fn without_lodged(&self) -> Auction {
+        let developers = self.developers().values();
+        let withdrew = developers.filter(|developer| developer.withdrew_as_lodged());
+        self.without(&withdrew.map(|developer| developer.project).collect())
+    }
+
     /// Passed, document 01's term: the prices from the last C to A, both included.
     fn passed(&self) -> (u64, u64) {
         let last_c = self.last_c().expect("a round was closed");
@@ -137,6 +162,7 @@ impl Auction {
         let demand = self.settings().demand(p);
         let (covering, award) = award(open, demand);
         let above_0 = std::iter::zip(self.projects(), &award).filter(|(_, &level)| level > 0);
+        let (second_price, short) = self.second_price();
         Settlement {
             closing_price: p,
             demand,
@@ -152,6 +178,8 @@ impl Auction {
                 .collect(),
             kept: kept(open, demand),
             remainder: self.settings().remainder(p),
+            second_price,
+            short,
         }
     }
 }

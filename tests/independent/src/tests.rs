@@ -6,6 +6,7 @@ mod causes;
 mod checks;
 mod fixed;
 mod frames;
+mod lodging;
 mod properties;
 mod rounds;
 mod sample;

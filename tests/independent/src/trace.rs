@@ -42,7 +42,7 @@ fn words(answer: &Result<Accepted, u8>) -> String {
 }
 
 /// The settlement's numbers, then its awards by rising project, then how many complete choices
-/// were not set aside, which no reply says, and the remainder.
+/// were not set aside, which no reply says, the remainder, and the second price with its mark.
 fn settled(settlement: &Settlement) -> String {
     let mut text = [
         ("price", settlement.closing_price),
@@ -60,5 +60,6 @@ fn settled(settlement: &Settlement) -> String {
         text += &format!("award {project} {developer} {quantity}\n");
     }
     let (kept, remainder) = (settlement.kept.len(), settlement.remainder);
-    text + &format!("kept {kept}\nremainder {remainder}\n")
+    let (second, short) = (settlement.second_price, u8::from(settlement.short));
+    text + &format!("kept {kept}\nremainder {remainder}\nsecond {second}\nshort {short}\n")
 }

@@ -1,9 +1,10 @@
-//! A developer in the ledger: its registration, its quantity and its withdrawals.
+//! A developer in the ledger: its registration, its quantity, its withdrawals and what it lodged.
 
-use super::{HIGHEST_LEVEL, MOST_LEVELS, NEW};
+use super::{EXISTING, HIGHEST_LEVEL, MOST_LEVELS};
 use std::iter;
+use std::ops::Range;
 
-/// A step of an offer once its round is closed, or the step of a missing offer.
+/// A step of an offer or of a lodged list, or the step of a missing offer.
 #[derive(Clone, Copy, Debug, PartialEq, Eq)]
 pub struct Withdrawal {
     pub price: u64,
@@ -21,6 +22,8 @@ pub struct Developer {
     pub levels: Vec<u64>,
     pub quantity: u64,
     pub withdrawals: Vec<Withdrawal>,
+    /// The list that an existing plant lodged last, with the steps that closings have applied.
+    pub lodged: Vec<Withdrawal>,
 }
 
 impl Developer {
@@ -36,9 +39,9 @@ impl Developer {
         levels.iter().all(known) && quantities.is_sorted_by(|before, after| before > after)
     }
 
-    /// What the closing adds without an offer: kind 2 withdraws to 0 at the opening price (3.7).
+    /// What the closing adds for kind 2 without an offer: a fall to 0 at the opening price (3.7).
     pub(super) fn without_offer(&self, opening_price: u64) -> Vec<Withdrawal> {
-        if self.kind == NEW && self.quantity > 0 {
+        if self.quantity > 0 {
             vec![Withdrawal {
                 price: opening_price,
                 level: 0,
@@ -46,6 +49,17 @@ impl Developer {
         } else {
             Vec::new()
         }
+    }
+
+    /// What the closing adds for kind 1: those of its lodged steps at these prices, in their order.
+    pub(super) fn lodged_at(&self, prices: &Range<u64>) -> Vec<Withdrawal> {
+        let lodged = self.lodged.iter().copied();
+        lodged.filter(|step| prices.contains(&step.price)).collect()
+    }
+
+    /// Whether a closing applied a lodged step: an existing plant has no other withdrawals.
+    pub fn withdrew_as_lodged(&self) -> bool {
+        self.kind == EXISTING && !self.withdrawals.is_empty()
     }
 
     /// The last level added, if any, becomes the quantity.

@@ -25,7 +25,8 @@ fn numbers(line: &str) -> Vec<u64> {
     parts.map_while(|digits| digits.parse().ok()).collect()
 }
 
-/// Makes a line's call: its kind, or 7 for a fresh auction, and its numbers.
+/// Makes a line's call: its kind and its numbers. A lone 7 is a fresh auction, and 7 with numbers a
+/// lodging.
 fn make(auction: &mut Auction, line: &[u64]) {
     match *line {
         [1, ce, d, m1, m2, a] => answered(1, auction.set_up(ce, d, m1, m2, a)),
@@ -42,6 +43,10 @@ fn make(auction: &mut Auction, line: &[u64]) {
         [5] => answered(5, auction.close().map(|_closing| ())),
         [6, limit, lent] => settle(auction, limit, lent),
         [7] => *auction = Auction::new(),
+        [7, developer, n, m] => {
+            let (prices, levels) = (first(&PRICES, n), first(&FALLS, m));
+            answered(7, auction.lodge(byte(developer), prices, levels));
+        }
         [] => (),
         _ => panic!("no call: {line:?}"),
     }

@@ -4,8 +4,8 @@
 //! again by the engine, which has to give the same bytes, with their 0A.
 //! One line a group of records: their replies by kind and answer, and `ok` or the first
 //! difference; below it, how many lines were written again, how many rounds closed where the
-//! closing rule decides, and how many closings and settlings had a remainder. The exit status is 0
-//! only if no group differs.
+//! closing rule decides, how many closings and settlings had a remainder, and what lodged lists
+//! did. The exit status is 0 only if no group differs.
 
 #[path = "../engine.rs"]
 mod engine;
@@ -30,7 +30,7 @@ fn main() -> ExitCode {
     verdict(stated.iter().chain(&fixed).chain(&compared))
 }
 
-const STATED: [fn() -> Group; 2] = [sample_record, twelve_numbers];
+const STATED: [fn() -> Group; 3] = [sample_record, twelve_numbers, lodged_lists];
 
 const COMPARED: [(&str, Records); 4] = [
     ("edges of lines", edges::lines),
@@ -129,6 +129,15 @@ fn twelve_numbers() -> Group {
     for example in sample::EXAMPLES {
         let (record, stated) = sample::example(example);
         compare_stated(&mut group, &record, &stated);
+    }
+    group
+}
+
+/// Records with lodged lists (document 02, request 5).
+fn lodged_lists() -> Group {
+    let mut group = Group::new("lodged lists");
+    for (record, stated) in sample::LODGED {
+        compare_stated(&mut group, record, stated);
     }
     group
 }

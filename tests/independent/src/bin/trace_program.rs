@@ -44,7 +44,9 @@ const GROUPS: [(&str, Records, usize); 7] = [
 fn sample_and_examples() -> Vec<Vec<u8>> {
     let sample = sample::RECORD.as_bytes().to_vec();
     let examples = sample::EXAMPLES.map(|example| sample::example(example).0.into_bytes());
-    [sample].into_iter().chain(examples).collect()
+    let lodged = sample::LODGED.map(|(record, _)| record.as_bytes().to_vec());
+    let records = [sample].into_iter().chain(examples);
+    records.chain(lodged).collect()
 }
 
 fn compare(group: &mut Group, record: &[u8], output: &Output) {
@@ -62,7 +64,7 @@ fn compare(group: &mut Group, record: &[u8], output: &Output) {
 }
 
 /// Counts the replies, which begin with a digit or a capital, and the words by their names; the
-/// excess by its sign, the remainder by whether it is 0.
+/// excess by its sign, the remainder by whether it is 0, the mark.
 fn count(group: &mut Group, record: &[u8], text: &[u8]) {
     let (below, replies): (Vec<&[u8]>, Vec<&[u8]>) = lines(text)
         .into_iter()
@@ -77,6 +79,8 @@ fn count(group: &mut Group, record: &[u8], text: &[u8]) {
             ("excess", _) => "excess above 0",
             ("remainder", "0") => "remainder 0",
             ("remainder", _) => "remainder above 0",
+            ("short", "0") => "short 0",
+            ("short", _) => "short 1",
             _ => name,
         });
     }

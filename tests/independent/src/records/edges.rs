@@ -50,6 +50,7 @@ fn long_lines() -> Vec<Vec<u8>> {
             "05",
             "0600000064",
             "040208",
+            "070108",
             "020505020000000000000000FF",
         ] {
             let mut line = start.as_bytes().to_vec();
@@ -64,8 +65,10 @@ fn long_lines() -> Vec<Vec<u8>> {
     }
     for count in [8, 9, 10, 255] {
         let steps = (0..count).map(|step| format!("{:08X}{:08X}", 39_999 - step, 0));
-        let line = format!("0402{count:02X}{}", steps.collect::<String>());
-        lines.push(line.into_bytes());
+        let steps: String = steps.collect();
+        for start in ["0402", "0701"] {
+            lines.push(format!("{start}{count:02X}{steps}").into_bytes());
+        }
     }
     lines
 }
@@ -105,7 +108,7 @@ pub fn reply_sizes() -> Vec<Vec<u8>> {
     let around = PROGRAM_BYTES - 6..=PROGRAM_BYTES + 6;
     let mut records: Vec<Vec<u8>> = around.map(replied_by).collect();
     let (book, settling) = (thirty_two_awards(), "06FFFFFFFF\n");
-    for count in [146, 147, 148, 300] {
+    for count in [143, 144, 145, 300] {
         let record = book.clone() + &settling.repeat(count);
         records.push(record.into_bytes());
     }

@@ -5,6 +5,7 @@ mod auctions;
 mod choices;
 mod developers;
 mod limits;
+mod lodgings;
 mod offers;
 mod openings;
 mod phases;
@@ -17,14 +18,14 @@ use crate::replay::{write_call, Call};
 use std::ops::RangeInclusive;
 
 /// Records by what they are about.
-pub fn groups() -> [(&'static str, Vec<Vec<u8>>); 10] {
+pub fn groups() -> [(&'static str, Vec<Vec<u8>>); 11] {
     let records = |scripts: Vec<Script>| scripts.into_iter().map(|script| script.record);
     GROUPS.map(|(name, scripts)| (name, records(scripts()).collect()))
 }
 
 type Group = (&'static str, fn() -> Vec<Script>);
 
-const GROUPS: [Group; 10] = [
+const GROUPS: [Group; 11] = [
     ("whole auctions", auctions::scripts),
     ("phases", phases::scripts),
     ("settings", settings::scripts),
@@ -35,12 +36,13 @@ const GROUPS: [Group; 10] = [
     ("closing prices", prices::scripts),
     ("choices", choices::scripts),
     ("developers", developers::scripts),
+    ("lodgings", lodgings::scripts),
 ];
 
 /// A step of an offer: price and new level.
 type Step = (u32, u32);
 
-/// An offer: developer and steps.
+/// An offer or a lodged list: developer and steps.
 type Offer<'a> = (u8, &'a [Step]);
 
 /// A registration with study value and start day 0: project, developer, kind and levels.
@@ -122,6 +124,17 @@ impl Script {
         offers.iter().fold(self, |script, &(developer, steps)| {
             let (prices, levels): (Vec<u32>, Vec<u32>) = steps.iter().copied().unzip();
             script.call(&Call::Offer {
+                developer,
+                prices,
+                levels: levels_in_kwh(&levels),
+            })
+        })
+    }
+
+    fn lodge(self, lists: &[Offer]) -> Script {
+        lists.iter().fold(self, |script, &(developer, steps)| {
+            let (prices, levels): (Vec<u32>, Vec<u32>) = steps.iter().copied().unzip();
+            script.call(&Call::Lodge {
                 developer,
                 prices,
                 levels: levels_in_kwh(&levels),

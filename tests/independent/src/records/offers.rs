@@ -1,6 +1,7 @@
-//! The offers of a round. Many of them fall at one price, so that the auction often closes
-//! there with many levels open, and some are missing.
+//! The offers of a round. Many of them fall at one price, often one at which a step is lodged, so
+//! that the auction often closes there with many levels open, and some are missing.
 
+use super::lodgings::lodged_prices;
 use crate::auction::{Auction, Developer, Phase, Round, MOST_STEPS, NEW};
 use crate::random::Random;
 use crate::replay::Call;
@@ -32,7 +33,7 @@ pub fn offers(random: &mut Random, auction: &Auction, last: bool) -> Vec<Call> {
     let Phase::RoundOpen(round) = auction.phase() else {
         return Vec::new();
     };
-    let mut plan = plan(random, round, last);
+    let mut plan = plan(random, auction, round, last);
     let mut offering: Vec<&Developer> = auction.developers().values().collect();
     offering.retain(|developer| developer.kind == NEW);
     random.shuffle(&mut offering);
@@ -42,7 +43,7 @@ pub fn offers(random: &mut Random, auction: &Auction, last: bool) -> Vec<Call> {
         .collect()
 }
 
-fn plan(random: &mut Random, round: &Round, last: bool) -> Plan {
+fn plan(random: &mut Random, auction: &Auction, round: &Round, last: bool) -> Plan {
     use Mood::{Abandoned, Crowded, Scattered, Steady};
     let moods: &[Mood] = if last {
         &[Scattered, Crowded, Crowded, Crowded, Crowded, Abandoned]
@@ -53,16 +54,23 @@ fn plan(random: &mut Random, round: &Round, last: bool) -> Plan {
     };
     let (lowest, highest) = prices(round);
     let any = random.between(lowest.into(), highest.into()) as u32;
-    Plan {
+    let lodged = lodged_prices(auction, &round.passes());
+    let mut plan = Plan {
         mood: random.one_of(moods),
-        crowded_price: random.one_of(&[lowest, any, any, highest]),
+        crowded_price: if !lodged.is_empty() && random.chance(50) {
+            random.one_of(&lodged) as u32
+        } else {
+            random.one_of(&[lowest, any, any, highest])
+        },
         // One round in twenty may make more choices than are looked at.
         budget: if random.chance(5) {
             u64::MAX
         } else {
             random.one_of(&[8, 64, 1_024, 16_384, 65_536])
         },
-    }
+    };
+    plan.spend_on_lodged(auction);
+    plan
 }
 
 /// The lowest and the highest price that a step may have.
@@ -111,6 +119,16 @@ impl Plan {
         }
         left > 0
     }
+
+    /// What the steps lodged at the crowded price open, as far as the budget goes.
+    fn spend_on_lodged(&mut self, auction: &Auction) {
+        for plant in auction.developers().values() {
+            let mut steps = plant.lodged.iter();
+            if let Some(step) = steps.find(|step| step.price == self.crowded_price.into()) {
+                self.spend(plant, step.level);
+            }
+        }
+    }
 }
 
 /// Steps (price, level): in a crowded round with one at the crowded price, if the budget
@@ -143,7 +161,11 @@ fn some_prices(random: &mut Random, round: &Round, counts: &[usize]) -> Vec<u32>
 }
 
 /// Sound steps at some of the prices, falling to some of the levels below the quantity.
-fn some_steps(random: &mut Random, developer: &Developer, mut prices: Vec<u32>) -> Vec<(u32, u32)> {
+pub(super) fn some_steps(
+    random: &mut Random,
+    developer: &Developer,
+    mut prices: Vec<u32>,
+) -> Vec<(u32, u32)> {
     prices.sort_unstable();
     prices.dedup();
     let below: Vec<u32> = developer

@@ -19,6 +19,7 @@ pub fn call(random: &mut Random, auction: &Auction) -> Call {
             Call::Offer { .. } => spoil_offer(random, auction, &mut call),
             Call::Close => (),
             Call::Settle { limit } => *limit = limit_below(random, auction),
+            Call::Lodge { .. } => spoil_lodging(random, auction, &mut call),
         }
     }
     call
@@ -28,12 +29,12 @@ pub fn call(random: &mut Random, auction: &Auction) -> Call {
 fn sound(random: &mut Random, auction: &Auction) -> Call {
     let of_phase = match auction.phase() {
         Phase::Fresh => 1,
-        Phase::Registering => random.one_of(&[2, 2, 3]),
+        Phase::Registering => random.one_of(&[2, 2, 3, 7, 7]),
         Phase::RoundOpen(_) => 4,
         Phase::BetweenRounds => 3,
         Phase::Closed => 6,
     };
-    let any = random.between(1, 6);
+    let any = random.between(1, 7);
     match random.one_of(&[of_phase, any]) {
         1 => Call::SetUp {
             ce: 20_000,
@@ -46,9 +47,10 @@ fn sound(random: &mut Random, auction: &Auction) -> Call {
         3 => opening(random, auction),
         4 => offer(random, auction),
         5 => Call::Close,
-        _ => Call::Settle {
+        6 => Call::Settle {
             limit: random.one_of(&[100, 65_536, u32::MAX]),
         },
+        _ => lodging(random, auction),
     }
 }
 
@@ -190,31 +192,80 @@ fn spoil_offer(random: &mut Random, auction: &Auction, call: &mut Call) {
     else {
         return;
     };
+    let between = round_prices(auction);
     match random.between(1, 4) {
-        1 => *developer = bad_developer(random, auction),
+        1 => *developer = bad_developer(random, auction, EXISTING),
         2 => *developer = second_offer(random, auction).unwrap_or(*developer),
-        3 => spoil_prices(random, auction, prices),
+        3 => spoil_prices(random, between, prices),
         _ => spoil_levels(random, &declared(auction, *developer), levels),
     }
-    // A frame has as many prices as levels.
+    make_equally_long(between, prices, levels);
+}
+
+/// A frame has as many prices as levels.
+fn make_equally_long((lowest, _): (u32, u32), prices: &mut Vec<u32>, levels: &mut Vec<u32>) {
     let steps = prices.len().max(levels.len());
-    let (c, _) = round_prices(auction);
-    prices.resize(
-        steps,
-        prices.last().map_or(c, |last| last.saturating_sub(1)),
-    );
+    let next = prices.last().map(|last| last.saturating_sub(1));
+    prices.resize(steps, next.unwrap_or(lowest));
     levels.resize(steps, 0);
 }
 
-/// Outside the numbers, of kind 1, or perhaps not registered.
-fn bad_developer(random: &mut Random, auction: &Auction) -> u8 {
-    let developers = auction.developers().values();
-    let mut numbers: Vec<u8> = developers
-        .filter(|developer| developer.kind == EXISTING)
-        .map(|developer| developer.number)
-        .collect();
+/// A step of an existing plant, if there is one, at a price that may be lodged.
+fn lodging(random: &mut Random, auction: &Auction) -> Call {
+    let existing = numbers_of(auction, EXISTING);
+    let developer = if existing.is_empty() {
+        1
+    } else {
+        random.one_of(&existing)
+    };
+    let (floor, a) = lodged_between(auction);
+    Call::Lodge {
+        developer,
+        prices: vec![random.one_of(&[floor, a - 1])],
+        levels: vec![random.one_of(&declared(auction, developer))],
+    }
+}
+
+/// The floor and A, or those of an auction that could be.
+fn lodged_between(auction: &Auction) -> (u32, u32) {
+    let settings = auction.settings();
+    if *auction.phase() == Phase::Fresh {
+        (10_000, 40_000)
+    } else {
+        (settings.floor() as u32, settings.a as u32)
+    }
+}
+
+fn spoil_lodging(random: &mut Random, auction: &Auction, call: &mut Call) {
+    let Call::Lodge {
+        developer,
+        prices,
+        levels,
+    } = call
+    else {
+        return;
+    };
+    let between = lodged_between(auction);
+    match random.between(1, 3) {
+        1 => *developer = bad_developer(random, auction, NEW),
+        2 => spoil_prices(random, between, prices),
+        _ => spoil_levels(random, &declared(auction, *developer), levels),
+    }
+    make_equally_long(between, prices, levels);
+}
+
+/// Outside the numbers, of the wrong kind, or perhaps not registered.
+fn bad_developer(random: &mut Random, auction: &Auction, wrong_kind: u8) -> u8 {
+    let mut numbers = numbers_of(auction, wrong_kind);
     numbers.extend([0, 33, 255, random.between(1, 32) as u8]);
     random.one_of(&numbers)
+}
+
+/// The developers of the kind.
+fn numbers_of(auction: &Auction, kind: u8) -> Vec<u8> {
+    let developers = auction.developers().values();
+    let of_kind = developers.filter(|developer| developer.kind == kind);
+    of_kind.map(|developer| developer.number).collect()
 }
 
 fn second_offer(random: &mut Random, auction: &Auction) -> Option<u8> {
@@ -225,18 +276,18 @@ fn second_offer(random: &mut Random, auction: &Auction) -> Option<u8> {
     (!made.is_empty()).then(|| random.one_of(&made))
 }
 
-/// Below C, from the opening price on, not falling, or too many steps for a call or a line.
-fn spoil_prices(random: &mut Random, auction: &Auction, prices: &mut Vec<u32>) {
-    let (c, opening_price) = round_prices(auction);
+/// Below the lowest, from the price above the highest on, not falling, or too many steps for a call
+/// or a line.
+fn spoil_prices(random: &mut Random, (lowest, above): (u32, u32), prices: &mut Vec<u32>) {
     match random.between(1, 5) {
-        1 => prices.push(c.saturating_sub(1)),
-        2 => prices.insert(0, opening_price),
-        3 => prices.push(opening_price - 1),
+        1 => prices.push(lowest.saturating_sub(1)),
+        2 => prices.insert(0, above),
+        3 => prices.push(above - 1),
         4 => prices.extend(prices.last().copied()),
         _ => {
             let steps = random.one_of(&[9, 9, 10]);
             *prices = (0..steps)
-                .map(|step| opening_price.saturating_sub(1 + step))
+                .map(|step| above.saturating_sub(1 + step))
                 .collect();
         }
     }

@@ -1,4 +1,4 @@
-//! The lines of a record and the calls they hold (document 01, Frames).
+//! The lines of a record and the calls they hold (document 01, Frames; document 02, request 5).
 //! Fields, their order and widths stand in one table; reading and writing go by it.
 
 /// A call of the auction, each number as wide as its field.
@@ -31,6 +31,11 @@ pub enum Call {
     Settle {
         limit: u32,
     },
+    Lodge {
+        developer: u8,
+        prices: Vec<u32>,
+        levels: Vec<u32>,
+    },
 }
 
 pub(super) const SET_UP: u8 = 1;
@@ -39,6 +44,7 @@ pub(super) const OPEN: u8 = 3;
 pub(super) const OFFER: u8 = 4;
 pub(super) const CLOSE: u8 = 5;
 pub(super) const SETTLE: u8 = 6;
+pub(super) const LODGE: u8 = 7;
 
 /// The fields of one kind of frame. Those of an item stand as often as the count says, which
 /// is then the last field before them.
@@ -51,7 +57,7 @@ pub(crate) struct Row {
 /// A field's name and its width in hexadecimal digits.
 type Field = (&'static str, usize);
 
-pub(crate) const ROWS: [Row; 6] = [
+pub(crate) const ROWS: [Row; 7] = [
     Row {
         kind: SET_UP,
         fields: &[("CE", 8), ("D", 10), ("M1", 10), ("M2", 10), ("A", 8)],
@@ -88,6 +94,12 @@ pub(crate) const ROWS: [Row; 6] = [
         kind: SETTLE,
         fields: &[("limit", 8)],
         item: &[],
+    },
+    // In the layout of an offer.
+    Row {
+        kind: LODGE,
+        fields: &[("developer", 2), ("count", 2)],
+        item: &[("price", 8), ("level", 8)],
     },
 ];
 
@@ -182,20 +194,32 @@ fn call(kind: u8, numbers: &[u64]) -> Call {
             }
         }
         (OPEN, &[c]) => Call::Open { c: narrow(c) },
-        (OFFER, [developer, _count, steps @ ..]) => Call::Offer {
-            developer: narrow(*developer),
-            prices: steps.iter().step_by(2).map(|&n| narrow(n)).collect(),
-            levels: steps
-                .iter()
-                .skip(1)
-                .step_by(2)
-                .map(|&n| narrow(n))
-                .collect(),
-        },
+        (OFFER, [developer, _count, steps @ ..]) => {
+            let (prices, levels) = prices_and_levels(steps);
+            Call::Offer {
+                developer: narrow(*developer),
+                prices,
+                levels,
+            }
+        }
+        (LODGE, [developer, _count, steps @ ..]) => {
+            let (prices, levels) = prices_and_levels(steps);
+            Call::Lodge {
+                developer: narrow(*developer),
+                prices,
+                levels,
+            }
+        }
         (CLOSE, []) => Call::Close,
         (SETTLE, &[limit]) => Call::Settle {
             limit: narrow(limit),
         },
         _ => unreachable!("the numbers are those of the table"),
     }
+}
+
+/// The lists of steps that stand one behind the other.
+fn prices_and_levels(steps: &[u64]) -> (Vec<u32>, Vec<u32>) {
+    let step = |step: &[u64]| (narrow::<u32>(step[0]), narrow::<u32>(step[1]));
+    steps.chunks(2).map(step).unzip()
 }

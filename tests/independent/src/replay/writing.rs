@@ -1,7 +1,7 @@
 //! Calls to frames (document 02, request 2), by the table that the reader goes by.
 
 use super::frames::{
-    row, Call, CLOSE, KIND_WIDTH, LONGEST_LINE, OFFER, OPEN, REGISTRATION, SETTLE, SET_UP,
+    row, Call, CLOSE, KIND_WIDTH, LODGE, LONGEST_LINE, OFFER, OPEN, REGISTRATION, SETTLE, SET_UP,
 };
 use crate::{host_number, require, FRAME_BUFFER_TOO_SHORT, NOT_WRITABLE};
 
@@ -136,6 +136,14 @@ pub fn fields(call: &Call) -> Fields {
         } => {
             let lists = vec![wide(prices), wide(levels)];
             (OFFER, vec![(*developer).into()], lists)
+        }
+        Call::Lodge {
+            developer,
+            prices,
+            levels,
+        } => {
+            let lists = vec![wide(prices), wide(levels)];
+            (LODGE, vec![(*developer).into()], lists)
         }
         Call::Close => (CLOSE, vec![], vec![]),
         &Call::Settle { limit } => (SETTLE, vec![limit.into()], vec![]),

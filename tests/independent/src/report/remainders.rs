@@ -9,14 +9,21 @@ pub struct Remainders {
     at_p: [u64; 2],
 }
 
+/// Digits behind the remainder of a settling: the second price and its mark.
+const BEHIND: usize = 10;
+
+/// 1 if the number at the end of a reply is above 0.
+fn above_0(reply: &[u8]) -> usize {
+    usize::from(!reply.ends_with(b"00000000"))
+}
+
 impl Remainders {
     /// Counts the accepted closings and settlings among the replies.
     pub fn count(&mut self, replies: &[u8]) {
         for reply in lines(replies) {
-            let above = usize::from(!reply.ends_with(b"00000000"));
             match reply.get(..4) {
-                Some(b"0500") => self.at_c[above] += 1,
-                Some(b"0600") => self.at_p[above] += 1,
+                Some(b"0500") => self.at_c[above_0(reply)] += 1,
+                Some(b"0600") => self.at_p[above_0(&reply[..reply.len() - BEHIND])] += 1,
                 _ => (),
             }
         }

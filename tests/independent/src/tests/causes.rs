@@ -2,7 +2,7 @@
 //! others say, and the answer has to be the first in the paper's order that fails.
 
 use super::{each_step, Step, RECORDS};
-use crate::auction::{Auction, Phase, EXISTING, NEW};
+use crate::auction::{Auction, Developer, Phase, EXISTING, NEW};
 use crate::demand;
 use crate::replay::{kind_of, Call};
 use crate::settling::number_of_choices;
@@ -13,7 +13,7 @@ fn failing(auction: &Auction, call: &Call) -> Vec<(u8, bool)> {
     let phase = auction.phase();
     let out_of_phase = match call {
         Call::SetUp { .. } => *phase != Phase::Fresh,
-        Call::Register { .. } => *phase != Phase::Registering,
+        Call::Register { .. } | Call::Lodge { .. } => *phase != Phase::Registering,
         Call::Open { .. } => !matches!(phase, Phase::Registering | Phase::BetweenRounds),
         Call::Offer { .. } | Call::Close => !matches!(phase, Phase::RoundOpen(_)),
         Call::Settle { .. } => *phase != Phase::Closed,
@@ -28,6 +28,7 @@ fn failing(auction: &Auction, call: &Call) -> Vec<(u8, bool)> {
         Call::Offer { .. } => offer(auction, call),
         Call::Close => Vec::new(),
         &Call::Settle { limit } => vec![(10, choices(auction) > u64::from(limit.min(65_536)))],
+        Call::Lodge { .. } => lodging(auction, call),
     });
     checks
 }
@@ -92,23 +93,48 @@ fn offer(auction: &Auction, call: &Call) -> Vec<(u8, bool)> {
         ),
         _ => (0, u64::MAX, false),
     };
-    let outside = |price: &u32| u64::from(*price) < c || u64::from(*price) >= opening_price;
-    let falling = |numbers: &[u32]| numbers.windows(2).all(|pair| pair[0] > pair[1]);
-    let declared = |level: u32| known.is_some_and(|d| d.levels.contains(&level.into()));
-    let too_high = |level: &u32| known.is_some_and(|d| u64::from(*level) >= d.quantity);
-    let unknown = levels.iter().any(|&level| level != 0 && !declared(level));
     vec![
         (3, known.is_none_or(|d| d.kind == EXISTING)),
         (8, second),
-        (
-            6,
-            prices.len() > 8 || prices.iter().any(outside) || !falling(prices),
-        ),
-        (
-            7,
-            unknown || !falling(levels) || levels.first().is_some_and(too_high),
-        ),
+        (6, bad_prices(prices, c, opening_price)),
+        (7, bad_falls(levels, known)),
     ]
+}
+
+fn lodging(auction: &Auction, call: &Call) -> Vec<(u8, bool)> {
+    let Call::Lodge {
+        developer,
+        prices,
+        levels,
+    } = call
+    else {
+        return Vec::new();
+    };
+    let known = auction.developers().get(developer);
+    let settings = auction.settings();
+    vec![
+        (15, known.is_none_or(|d| d.kind == NEW)),
+        (6, bad_prices(prices, settings.floor(), settings.a)),
+        (7, bad_falls(levels, known)),
+    ]
+}
+
+/// More than 8, not falling, or not from the lowest to the one before `above`.
+fn bad_prices(prices: &[u32], lowest: u64, above: u64) -> bool {
+    let outside = |price: &u32| u64::from(*price) < lowest || u64::from(*price) >= above;
+    prices.len() > 8 || prices.iter().any(outside) || !falling(prices)
+}
+
+/// Not all declared or 0, not falling, or not from below the developer's quantity.
+fn bad_falls(levels: &[u32], known: Option<&Developer>) -> bool {
+    let declared = |level: u32| known.is_some_and(|d| d.levels.contains(&level.into()));
+    let too_high = |level: &u32| known.is_some_and(|d| u64::from(*level) >= d.quantity);
+    let unknown = levels.iter().any(|&level| level != 0 && !declared(level));
+    unknown || !falling(levels) || levels.first().is_some_and(too_high)
+}
+
+fn falling(numbers: &[u32]) -> bool {
+    numbers.windows(2).all(|pair| pair[0] > pair[1])
 }
 
 /// Before the auction is closed, at least one.
@@ -137,6 +163,12 @@ const MEETING: &[(u8, u8, u8)] = &[
     (4, 8, 6),
     (4, 8, 7),
     (6, 2, 10),
+    (7, 2, 6),
+    (7, 2, 7),
+    (7, 2, 15),
+    (7, 6, 7),
+    (7, 15, 6),
+    (7, 15, 7),
 ];
 
 #[test]

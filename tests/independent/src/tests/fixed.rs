@@ -5,9 +5,9 @@ use crate::replay::{lines, replay};
 use std::collections::BTreeSet;
 
 /// The refusals of each group, by kind and number.
-const REFUSED: [(&str, &[&str]); 10] = [
+const REFUSED: [(&str, &[&str]); 11] = [
     ("whole auctions", &["0203", "0302", "0305", "0407", "0502"]),
-    ("phases", &["0102", "0202", "0302", "0402", "0502"]),
+    ("phases", &["0102", "0202", "0302", "0402", "0502", "0702"]),
     ("settings", &["0101", "0102"]),
     ("registrations", &["0203", "0204"]),
     ("openings", &["0302", "0305", "0309"]),
@@ -16,6 +16,10 @@ const REFUSED: [(&str, &[&str]); 10] = [
     ("closing prices", &[]),
     ("choices", &[]),
     ("developers", &[]),
+    (
+        "lodgings",
+        &["0309", "060A", "0702", "0706", "0707", "070F"],
+    ),
 ];
 
 #[test]

@@ -129,6 +129,7 @@ fn widest_fields() {
 fn malformed_lines() {
     let registration = "0203040200000000000000000100000096";
     let offer = "0402010000659000000064";
+    let lodging = "0702010000659000000064";
     let mut malformed: Vec<String> = [
         "",
         "0",
@@ -140,6 +141,8 @@ fn malformed_lines() {
         "0505",
         "00",
         "07",
+        "08",
+        "09",
         "0A",
         "10",
         "FF",
@@ -157,10 +160,14 @@ fn malformed_lines() {
         "0402",
         "040201",
         "0402010000659000000064FF",
+        "0701",
+        "070101",
+        "0701010000659000000064FF",
+        "0802010000659000000064",
     ]
     .map(str::to_owned)
     .to_vec();
-    for frame in [registration, offer] {
+    for frame in [registration, offer, lodging] {
         malformed.push(frame[..frame.len() - 1].to_owned());
         malformed.push(frame[..frame.len() - 8].to_owned());
         malformed.push(frame.to_owned() + "0");
@@ -204,8 +211,12 @@ fn counts() {
         (10, "FF0C"),
     ] {
         let steps = (0..count).map(|step| format!("{:08X}{:08X}", 39_999 - step, 7));
-        let line = format!("0402{count:02X}{}", steps.collect::<String>());
+        let steps: String = steps.collect();
+        let line = format!("0402{count:02X}{steps}");
         assert_eq!(reply_behind(OPENED, &line), reply, "{count} steps");
+        let line = format!("0701{count:02X}{steps}");
+        let reply = reply.replace("04", "07");
+        assert_eq!(reply_behind(REGISTERED, &line), reply, "{count} steps");
     }
     // The count says one item less or more than there are.
     let line = "02050502000000000000000002000000010000000200000003";
@@ -235,6 +246,7 @@ fn refusals() {
         ("040200", "0402"),
         ("05", "0502"),
         ("0600000064", "0602"),
+        ("070100", "0702"),
     ] {
         assert_eq!(reply_behind(0, line), reply);
     }

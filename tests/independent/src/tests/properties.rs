@@ -1,7 +1,7 @@
 //! What document 01's rules imply for the ledger and the replies, on generated records.
 
 use super::{each_step, Step, RECORDS};
-use crate::auction::{Closing, Phase, NEW};
+use crate::auction::{Closing, Phase, EXISTING};
 use crate::records::{edges, record};
 use crate::replay::{lines, replay, replay_into, Accepted, Call, PROGRAM_BYTES};
 use crate::{host_number, BUFFER_TOO_SHORT};
@@ -20,10 +20,12 @@ fn each_line(mut visit: impl FnMut(Step)) {
 fn refused_calls_and_settlings_change_nothing() {
     each_line(|step| {
         let settling = matches!(step.call, Some(Call::Settle { .. }));
+        // A list may be lodged in place of the same one.
+        let lodging = matches!(step.call, Some(Call::Lodge { .. }));
         if settling || step.answer.is_err() {
-            assert_eq!(step.before, step.after);
+            assert!(step.before == step.after);
         } else {
-            assert_ne!(step.before, step.after);
+            assert!(lodging || step.before != step.after);
         }
     });
 }
@@ -69,7 +71,8 @@ fn excess_and_phase_agree() {
 }
 
 /// At most eight withdrawals; prices that the clock passed and do not rise, levels that fall
-/// from the highest and are declared or 0; the quantity is the last.
+/// from the highest and are declared or 0; the quantity is the last. Those of an existing plant are
+/// the lodged steps that the clock passed.
 #[test]
 fn histories() {
     each_line(|step| {
@@ -78,7 +81,13 @@ fn histories() {
             let lowest = step.after.last_c().unwrap_or(u64::MAX);
             let passed = lowest..=step.after.settings().a;
             assert!(withdrawals.len() <= 8);
-            assert!(withdrawals.is_empty() || developer.kind == NEW);
+            if developer.kind == EXISTING {
+                let lodged = developer.lodged.iter().copied();
+                let reached: Vec<_> = lodged.filter(|step| passed.contains(&step.price)).collect();
+                assert_eq!(*withdrawals, reached);
+            } else {
+                assert!(developer.lodged.is_empty());
+            }
             assert!(withdrawals.iter().all(|w| passed.contains(&w.price)));
             assert!(withdrawals.is_sorted_by(|before, after| before.price >= after.price));
             let mut quantities = developer.levels[developer.levels.len() - 1..].to_vec();

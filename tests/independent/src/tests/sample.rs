@@ -1,13 +1,22 @@
-//! Document 01's sample record and its whole reply, with the remainders of document 02's request 4.
+//! Document 01's sample record and its whole reply, with what document 02's requests 4 and 5 add;
+//! the records with lodged lists.
 
 use super::sample_closed;
 use crate::replay::{lines, replay, replay_into};
-use crate::sample::{RECORD, REPLY};
+use crate::sample::{LODGED, RECORD, REPLY};
 use crate::settling::Award;
 
 #[test]
 fn whole_reply() {
     assert_eq!(replay(RECORD.as_bytes()), REPLY.as_bytes());
+}
+
+#[test]
+fn lodged_lists() {
+    for (record, reply) in LODGED {
+        let replies = String::from_utf8(replay(record.as_bytes())).expect("digits");
+        assert_eq!(replies, reply);
+    }
 }
 
 /// A last line may lack its 0A; the reply has it all the same.
@@ -56,6 +65,7 @@ fn settled_by_calls() {
     assert_eq!(settlement.total, 1_020);
     assert_eq!((settlement.choices, settlement.covering), (4, 3));
     assert_eq!(settlement.remainder, 0);
+    assert_eq!((settlement.second_price, settlement.short), (26_000, false));
     let award = |project, developer, quantity| Award {
         project,
         developer,

@@ -5,7 +5,7 @@ use super::{each_step, Step, RECORDS};
 use crate::auction::Auction;
 use crate::records::DECISIVE;
 use crate::replay::{lines, replay, Accepted, Call};
-use crate::report::{Closings, Remainders};
+use crate::report::{Closings, Lodgings, Remainders};
 use crate::settling::{Award, Settlement};
 use std::collections::BTreeMap;
 
@@ -21,6 +21,7 @@ struct Shares {
     replies: BTreeMap<(u8, u8), u64>,
     closings: Closings,
     remainders: Remainders,
+    lodgings: Lodgings,
 }
 
 impl Shares {
@@ -28,6 +29,7 @@ impl Shares {
         let replies = replay(record);
         self.closings.count(record, &replies);
         self.remainders.count(&replies);
+        self.lodgings.count(record);
         let replies = lines(&replies);
         assert_eq!(replies.len(), lines(record).len(), "one reply a line");
         self.records += 1;
@@ -57,7 +59,7 @@ impl Shares {
             self.bytes as u64 / self.records,
             self.longest
         );
-        for number in 0..=12 {
+        for number in 0..=15 {
             println!("answer {number}: {} replies", self.answers(number));
         }
         for ((kind, answer), count) in &self.replies {
@@ -65,6 +67,7 @@ impl Shares {
         }
         self.closings.print();
         self.remainders.print();
+        self.lodgings.print();
     }
 }
 
@@ -77,6 +80,7 @@ const REPLIES: &[(u8, &[u8])] = &[
     (0x04, &[0, 2, 3, 8, 6, 7]),
     (0x05, &[0, 2]),
     (0x06, &[0, 2, 10]),
+    (0x07, &[0, 2, 15, 6, 7]),
     (0xFF, &[12]),
 ];
 
@@ -102,6 +106,12 @@ fn shares_of_replies() {
     }
     let remainders = shares.remainders.counts();
     assert!(remainders.iter().flatten().all(|&count| count >= 1_000));
+    let refused = [2, 15, 6, 7].map(|number| shares.replies[&(7, number)]);
+    assert!(refused.iter().all(|&count| count >= 500), "{refused:?}");
+    for (place, (name, count)) in shares.lodgings.counts().enumerate() {
+        let least = if place == 0 { shares.records / 3 } else { 500 };
+        assert!(count >= least, "{count} records with lodgings: {name}");
+    }
 }
 
 /// A settled record: its auction at the end, the last settlement, and the rounds opened.

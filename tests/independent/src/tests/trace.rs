@@ -2,7 +2,7 @@
 
 use crate::records::edges;
 use crate::replay::{lines, replay, PROGRAM_BYTES};
-use crate::sample::{RECORD, TRACE};
+use crate::sample::{LODGED, RECORD, TRACE};
 use crate::trace::traced;
 
 #[test]
@@ -44,9 +44,9 @@ fn remainders() {
         format!("{SET_UP}02010101000000000000000001000003B7\n030000752F\n05\n0600000001\n");
     let trace = "0100\n0200\n0300\n\
         0500000000000000000000004DBC\nexcess 0\nremainder 19900\n\
-        06000000752F00000003B700000003B70000000100000001010101000003B700004DBC\n\
+        06000000752F00000003B700000003B70000000100000001010101000003B700004DBC0000752F00\n\
         price 29999\ndemand 951\ntotal 951\nchoices 1\ncovering 1\naward 1 1 951\nkept 1\n\
-        remainder 19900\n";
+        remainder 19900\nsecond 29999\nshort 0\n";
     assert_eq!(traced(record.as_bytes()), trace.as_bytes());
     let record = format!(
         "{SET_UP}02010102000000000000000001000003B6\n030000752F\n04010100007531\
@@ -54,10 +54,21 @@ fn remainders() {
     );
     let trace = "0100\n0200\n0300\n0400\n\
         0500FFFFFFFFFFFFFC4900004DBC\nexcess -951\nremainder 19900\n\
-        06000000753100000003B600000003B60000000200000001010101000003B600000064\n\
+        06000000753100000003B600000003B60000000200000001010101000003B6000000640000753100\n\
         price 30001\ndemand 950\ntotal 950\nchoices 2\ncovering 1\naward 1 1 950\nkept 1\n\
-        remainder 100\n";
+        remainder 100\nsecond 30001\nshort 0\n";
     assert_eq!(traced(record.as_bytes()), trace.as_bytes());
+}
+
+/// The last words of the records with lodged lists.
+#[test]
+fn second_prices() {
+    let ends = [(30_000, 0), (40_000, 1), (26_000, 0)];
+    for ((record, _), (second, short)) in LODGED.into_iter().zip(ends) {
+        let trace = traced(record.as_bytes());
+        let end = format!("\nremainder 0\nsecond {second}\nshort {short}\n");
+        assert!(trace.ends_with(end.as_bytes()));
+    }
 }
 
 #[test]

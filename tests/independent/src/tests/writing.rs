@@ -49,6 +49,7 @@ fn refused_calls_are_writable() {
     assert_eq!(text(&of(1, &[0; 5], &[])), format!("01{:046}\n", 0));
     assert_eq!(text(&of(2, &[0; 5], &[&[]])), format!("02{:024}\n", 0));
     assert_eq!(text(&of(4, &[0], &[&[], &[]])), "040000\n");
+    assert_eq!(text(&of(7, &[0], &[&[], &[]])), "070000\n");
 }
 
 /// Each field holds the highest number of its width and none above; widths as the paper has them.
@@ -60,6 +61,7 @@ fn widths() {
         (of(3, &[0], &[]), &[8]),
         (of(4, &[0], &[&[0, 0], &[0, 0]]), &[2, 8, 8, 8, 8]),
         (of(6, &[0], &[]), &[8]),
+        (of(7, &[0], &[&[0, 0], &[0, 0]]), &[2, 8, 8, 8, 8]),
     ] {
         for (place, width) in widths.iter().enumerate() {
             let with = |number: u64| {
@@ -87,6 +89,7 @@ fn lengths() {
         for (call, head, item, most) in [
             (of(2, &[1; 5], &[list]), 26, 8, 16),
             (of(4, &[1], &[list, list]), 6, 16, 9),
+            (of(7, &[1], &[list, list]), 6, 16, 9),
         ] {
             if count <= most {
                 assert_eq!(text(&call).len(), head + item * count + 1);
@@ -101,9 +104,11 @@ fn lengths() {
 #[test]
 fn unequal_lists() {
     for (prices, levels) in [(0, 1), (1, 0), (1, 2), (9, 8), (9, 10), (10, 9), (256, 0)] {
-        let call = of(4, &[1], &[&vec![7; prices], &vec![7; levels]]);
-        assert_eq!(causes(&call), [Cause::UnequalLists]);
-        assert_eq!(frame(&call), Err(14));
+        for kind in [4, 7] {
+            let call = of(kind, &[1], &[&vec![7; prices], &vec![7; levels]]);
+            assert_eq!(causes(&call), [Cause::UnequalLists]);
+            assert_eq!(frame(&call), Err(14));
+        }
     }
 }
 

@@ -17,6 +17,7 @@ pub(super) fn scripts() -> Vec<Script> {
 fn before_set_up() -> Script {
     Script::fresh()
         .then(registrations_refused)
+        .then(lodgings_refused)
         .then(openings_refused)
         .then(offers_refused)
         .close()
@@ -35,6 +36,7 @@ fn in_a_round() -> Script {
     opened()
         .then(set_ups_refused)
         .then(registrations_refused)
+        .then(lodgings_refused)
         .then(openings_refused)
         .offer(&[(2, &[]), (3, &[]), (4, &[])])
         .close()
@@ -44,6 +46,7 @@ fn in_between_rounds() -> Script {
     between_rounds()
         .then(set_ups_refused)
         .then(registrations_refused)
+        .then(lodgings_refused)
         .then(offers_refused)
         .close()
         .open(25_000)
@@ -53,6 +56,7 @@ fn once_closed() -> Script {
     closed()
         .then(set_ups_refused)
         .then(registrations_refused)
+        .then(lodgings_refused)
         .then(openings_refused)
         .then(offers_refused)
         .close()
@@ -69,6 +73,16 @@ fn registrations_refused(script: Script) -> Script {
         (5, 5, NEW, &[10]),
         (5, 33, NEW, &[10]),
         (5, 5, NEW, &[5, 5]),
+    ])
+}
+
+/// 2 over 15, 6 and 7.
+fn lodgings_refused(script: Script) -> Script {
+    script.lodge(&[
+        (1, &[(26_000, 0)]),
+        (2, &[(26_000, 0)]),
+        (1, &[(40_000, 0)]),
+        (1, &[(26_000, 1)]),
     ])
 }
 
