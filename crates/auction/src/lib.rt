@@ -1,5 +1,5 @@
-// The auction: its state, passed by value, and the six calls that change it, with a preview of closing. Each call's contract is an equation with the ledger of
-// document 01, for every list of calls (specs/Called.antt).
+// The auction: its state, passed by value, the seven calls that change it, and a preview of closing. Each call's contract is an equation with the
+// ledger of document 01, for every list of calls (specs/Called.antt).
 ghost use mathlib.Core.Path.{_≡_};
 ghost use mathlib.Core.List.{[]};
 ghost use Prim.Native.Nat.{_≤_};
