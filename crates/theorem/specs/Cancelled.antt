@@ -36,18 +36,15 @@ heard n ds ps qs between rest =
     answers ds ++ (answersFrom (ledger ds) (passage n ps qs between) ++ answersFrom (ledger (ds ++ passage n ps qs between)) rest)
 
 -- the arguments x, x′ of settling: the auction, the limit, the buffer; y, y′: the same at the call's end
-pub record Cancelled : Type 1 where
-  pub auctions :
-      {n : ℕ} {ds between rest : List Call} {ps qs : List ℕ} {rs rs′ : List Answered} {a a′ : Auction} → TakenBack n ds ps qs between →
-      Run (taken n ds ps qs between rest) rs a → Run (neverMade n ds ps qs between rest) rs′ a′ → a ≡ a′
+pub record Cancelled (n : ℕ) (ds : List Call) (ps qs : List ℕ) (between rest : List Call) : Type 1 where
+  pub auctions : {rs rs′ : List Answered} {a a′ : Auction} → Run (taken n ds ps qs between rest) rs a → Run (neverMade n ds ps qs between rest) rs′ a′ → a ≡ a′
   pub answered :
-      {n : ℕ} {ds between rest : List Call} {ps qs : List ℕ} {rs rs′ : List Answered} {a a′ : Auction} → TakenBack n ds ps qs between →
-      Run (taken n ds ps qs between rest) rs a → Run (neverMade n ds ps qs between rest) rs′ a′ →
+      {rs rs′ : List Answered} {a a′ : Auction} → Run (taken n ds ps qs between rest) rs a → Run (neverMade n ds ps qs between rest) rs′ a′ →
       (rs ≡ heard n ds ps qs between rest) × (rs′ ≡ heardByOthers n ds ps qs between rest)
   pub settled :
-      {n : ℕ} {ds between rest : List Call} {ps qs : List ℕ} {rs rs′ : List Answered} (κs κs′ : Lfts 1) (x : ArgsD signature κs)
-      (x′ : ArgsD signature κs′) (r r′ : Settled) (y : AtExit (endedOf 1 kinds.ps kinds.r) κs) (y′ : AtExit (endedOf 1 kinds.ps kinds.r) κs′) →
-      TakenBack n ds ps qs between → Run (taken n ds ps qs between rest) rs (x .0) → Run (neverMade n ds ps qs between rest) rs′ (x′ .0) →
+      {rs rs′ : List Answered} (κs κs′ : Lfts 1) (x : ArgsD signature κs) (x′ : ArgsD signature κs′) (r r′ : Settled)
+      (y : AtExit (endedOf 1 kinds.ps kinds.r) κs) (y′ : AtExit (endedOf 1 kinds.ps kinds.r) κs′) →
+      Run (taken n ds ps qs between rest) rs (x .0) → Run (neverMade n ds ps qs between rest) rs′ (x′ .0) →
       x .1 .0 ≡ x′ .1 .0 → now (x .1 .1 .0) ≡ now (x′ .1 .1 .0) → settle.Post κs x r y → settle.Post κs′ x′ r′ y′ →
       (r ≡ r′) × (now (y .1 .1 .0) ≡ now (y′ .1 .1 .0))
 
@@ -83,17 +80,19 @@ in-three ds cs rest =
     answers-append ds (cs ++ rest)
     ∙ ap (λ (xs : List Answered). answers ds ++ xs) (answers-from-append (ledger ds) cs rest ∙ ap (λ (l : Ledger). answersFrom (ledger ds) cs ++ answersFrom l rest) (sym (ledger-append ds cs)))
 
-pub cancelled : Cancelled
-cancelled = record {
-  auctions = λ {n} {ds} {between} {rest} {ps} {qs} t w v. same-auction _ _ (as-if-never-made n ds ps qs between t rest .ledgers) _ _ (reached w .0) (reached v .0);
-  answered = λ {n} {ds} {between} {rest} {ps} {qs} t w v.
-      let k = as-if-never-made n ds ps qs between t rest in
-      let all = passage n ps qs between in (
+pub cancelled : (n : ℕ) (ds : List Call) (ps qs : List ℕ) (between : List Call) → TakenBack n ds ps qs between → (rest : List Call) → Cancelled n ds ps qs between rest
+cancelled n ds ps qs between t rest =
+    let k = as-if-never-made n ds ps qs between t rest in
+    let all = passage n ps qs between in
+    record {
+      auctions = λ w v. same-auction _ _ (k .ledgers) _ _ (reached w .0) (reached v .0);
+      answered = λ w v. (
         reached w .1 ∙ in-three ds all rest,
-        reached v .1 ∙ in-three ds (others n all) rest
+        reached v .1
+            ∙ in-three ds (others n all) rest
             ∙ ap₂ (λ (xs ys : List Answered). answers ds ++ (xs ++ ys)) (sym (k .meanwhile)) (sym (k .later)),
       );
-  settled = λ {n} {ds} {between} {rest} {ps} {qs} κs κs′ x x′ r r′ y y′ t w v e f s u.
-      same-settled _ _ (as-if-never-made n ds ps qs between t rest .ledgers) _ _ (reached w .0) (reached v .0) _ _ _ _ _ _ s
-      (subst₂ (λ (limit : ℕ) (old : List ℕ). Settles (x′ .0) limit old (now (y′ .1 .1 .0)) r′) (sym e) (sym f) u);
-}
+      settled = λ κs κs′ x x′ r r′ y y′ w v e f s u.
+          same-settled _ _ (k .ledgers) _ _ (reached w .0) (reached v .0) _ _ _ _ _ _ s
+          (subst₂ (λ (limit : ℕ) (old : List ℕ). Settles (x′ .0) limit old (now (y′ .1 .1 .0)) r′) (sym e) (sym f) u);
+    }
