@@ -6,10 +6,10 @@ use mathlib.Core.Bool.{Bool, true, false, cond}
 use native.Mathlib.Omega.{arith}
 use borrow.Author.Tests.{eq-eqb, ne-eqb}
 use lib.Dec.{eqb}
-use lib.ListN.{length, take, drop, length-append, length-take, take-append-drop}
+use lib.ListN.{length, take, drop, length-append, length-take, length-drop, take-append-drop}
 use lib.Seq.{length-take-le}
 use borrow.Rule.Slice.PartMut.{putMid, midOf}
-use Rattle.numbers.specs.Tails.{laid, grow}
+use Rattle.numbers.specs.Tails.{laid, tail-is, grow}
 use Rattle.settling.specs.declared.Settled.{Settled}
 use Rattle.reply_writing.specs.declared.Reply.{Reply}
 use Rattle.format.specs.WidthLaws.{length-text}
@@ -18,7 +18,7 @@ use Rattle.reply_writing.specs.Texts.{addedText, shownText, textOf}
 use Rattle.reply_writing.specs.TextLaws.{small, text-length}
 use Rattle.decimal_text.specs.Puts.{Puts}
 use Rattle.decimal_text.specs.PutsLaws.{puts-then, puts-laid}
-use Rattle.trace_text.specs.Words.{closedLines, settledLines, wordsOf, linesBefore, traceOf}
+use Rattle.trace_text.specs.Words.{closedLines, settledLines, wordsOf, previewLine, linesBefore, traceOf}
 use Rattle.trace_text.specs.declared.PreviewShown.{PreviewShown}
 
 -- ---- a reply's line
@@ -40,21 +40,36 @@ line-short r = omega (arith, text-length r, shown-short r)
 
 -- ---- a text laid over the tail behind a place
 
-pub tail-puts : (t xs ys : List ℕ) (m a : ℕ) → ys ≡ laid t (midOf a (length xs - a) xs) → length t ≤ m → a + length t ≤ length xs →
-    Puts t m xs (putMid a (length xs - a) xs ys) a (a + length t)
-unfolding laid
-tail-puts t xs ys m a e h g =
-    let n : length (take a xs) ≡ a = length-take-le a xs (omega arith) in
-    let start : xs ≡ laid (take a xs) xs = sym (take-append-drop a xs) ∙ ap (λ (k : ℕ). take a xs ++ drop k xs) (sym n) in
-    let k : length (take a xs ++ t) ≡ a + length t = length-append (take a xs) t ∙ ap (λ (j : ℕ). j + length t) n in
-    record {
-      holds = grow (take a xs) t xs xs ys a start (sym n) e ∙ ap (λ (j : ℕ). (take a xs ++ t) ++ drop j xs) k;
-      next = refl;
-      short = h;
-      inside = g;
-    }
+module _ (t xs : List ℕ) (a : ℕ) where
+  pub tail-room : a + length t ≤ length xs → length t ≤ length (midOf a (length xs - a) xs)
+  tail-room h = rw tail-is (omega (arith, length-drop a xs))
 
--- ---- what stands below a reply, by its answer and its kind
+  pub tail-puts :
+      (ys : List ℕ) (m n : ℕ) → ys ≡ laid t (midOf a (length xs - a) xs) → n ≡ length t → length t ≤ m → a + length t ≤ length xs →
+      Puts t m xs (putMid a (length xs - a) xs ys) a (a + n)
+  unfolding laid
+  tail-puts ys m n e d h g =
+      let k : length (take a xs) ≡ a = length-take-le a xs (omega arith) in
+      let start : xs ≡ laid (take a xs) xs = sym (take-append-drop a xs) ∙ ap (λ (j : ℕ). take a xs ++ drop j xs) (sym k) in
+      let all : length (take a xs ++ t) ≡ a + n = omega (arith, length-append (take a xs) t) in
+      record {
+        holds = grow (take a xs) t xs xs ys a start (sym k) e ∙ ap (λ (j : ℕ). (take a xs ++ t) ++ drop j xs) all;
+        next = ap (λ (j : ℕ). a + j) d;
+        short = h;
+        inside = omega arith;
+      }
+
+-- ---- what stands before and below a reply, by its answer and its kind
+
+-- before a reply
+module _ (kind : ℕ) (p : PreviewShown) where
+  pub before-closing : kind ≡ 5 → linesBefore kind p ≡ previewLine p
+  unfolding linesBefore
+  before-closing h = rw (eq-eqb kind 5 h)
+
+  pub before-other : (kind ≡ 5 → ⊥) → linesBefore kind p ≡ []
+  unfolding linesBefore
+  before-other h = rw (ne-eqb kind 5 h)
 
 module _ (r : Reply) (excess remainder : ℕ) (s : Settled) where
   pub words-refused : (r .number ≡ 0 → ⊥) → wordsOf r excess remainder s ≡ []

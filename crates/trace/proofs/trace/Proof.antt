@@ -29,6 +29,9 @@ loop-holds c = omega arith
 next-line-requires : tie.Need-next-line-requires Inv-loop μ-loop
 next-line-requires c κs = tt
 
+look-requires : tie.Need-look-requires Inv-loop μ-loop
+look-requires c κs = tt
+
 step-requires : tie.Need-step-requires Inv-loop μ-loop
 step-requires c κs = tt
 
@@ -36,16 +39,16 @@ show-requires : tie.Need-show-requires Inv-loop μ-loop
 show-requires c κs = tt
 
 add-at : tie.Need-add-at Inv-loop μ-loop
-add-at c = omega (arith, inside (c .before .before .before))
+add-at c = omega (arith, inside (c .before .before .before .before))
 
 add-at-2 : tie.Need-add-at-2 Inv-loop μ-loop
-add-at-2 c = omega (arith, inside (c .before .before .before))
+add-at-2 c = omega (arith, inside (c .before .before .before .before))
 
 loop-less : tie.Need-loop-less Inv-loop μ-loop
-loop-less c = omega (arith, c .before .before .before .before .loop-test .taken)
+loop-less c = omega (arith, c .before .before .before .before .before .loop-test .taken)
 
 loop-again : tie.Need-loop-again Inv-loop μ-loop
-loop-again c = omega (arith, inside (c .before .before .before))
+loop-again c = omega (arith, inside (c .before .before .before .before))
 
 returns : tie.Need-returns Inv-loop μ-loop
 returns c = tt
@@ -59,6 +62,7 @@ trace-spec =
     new-requires
     loop-holds
     next-line-requires
+    look-requires
     step-requires
     show-requires
     add-at
