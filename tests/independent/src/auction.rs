@@ -92,6 +92,14 @@ pub struct Closing {
     pub remainder: u64,
 }
 
+/// The answer of an accepted preview (document 02, request 6): that of closing a copy, and whether
+/// the copy is then closed.
+#[derive(Clone, Copy, Debug, PartialEq, Eq)]
+pub struct Preview {
+    pub closing: Closing,
+    pub closed: bool,
+}
+
 /// An open round: its prices and the offers accepted so far, by developer.
 #[derive(Clone, Debug, PartialEq, Eq)]
 pub struct Round {
@@ -242,6 +250,16 @@ impl Auction {
         Ok(Closing {
             excess,
             remainder: self.settings.remainder(c),
+        })
+    }
+
+    /// Checks: those of closing, which a copy makes.
+    pub fn preview(&self) -> Result<Preview, u8> {
+        let mut copy = self.clone();
+        let closing = copy.close()?;
+        Ok(Preview {
+            closing,
+            closed: copy.phase == Phase::Closed,
         })
     }
 

@@ -71,9 +71,11 @@ impl Writer {
     }
 
     fn write(&mut self, line: &[u8]) {
-        if let Some(call) = read_call(line) {
+        match read_call(line) {
+            // It changes nothing, and many take long.
+            Some(Call::Settle { .. }) | None => (),
             // Refused or not, the auction is then as the record leaves it.
-            let _ = make(&mut self.auction, &call);
+            Some(call) => drop(make(&mut self.auction, &call)),
         }
         self.record.extend_from_slice(line);
         self.record.push(b'\n');

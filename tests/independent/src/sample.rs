@@ -31,7 +31,8 @@ pub const REPLY: &str = "\
 06000000659000000003CA00000003FC0000000400000003020101000003340203000000C8000000000000659000
 ";
 
-/// What the program `trace` prints of the sample: the reply with its words and decimal numbers.
+/// What the program `trace` prints of the sample: the reply with its words and decimal numbers, and
+/// the preview (document 02, request 6).
 pub const TRACE: &str = "\
 0100
 0200
@@ -42,6 +43,7 @@ pub const TRACE: &str = "\
 0400
 0400
 0400
+preview 0 -55 0 1
 0500FFFFFFFFFFFFFFC900000000
 excess -55
 remainder 0

@@ -1,8 +1,8 @@
 //! The program `trace` (docs/FORMAT.md): each reply and, below it, what it says in words and
-//! decimal numbers, an item a line.
+//! decimal numbers, an item a line; above that to a closing, what a preview says.
 
-use crate::auction::{Auction, Closing};
-use crate::replay::{answer, lines, reply_of, Accepted, PROGRAM_BYTES};
+use crate::auction::{Auction, Closing, Preview};
+use crate::replay::{answer, lines, read_call, reply_of, Accepted, Call, PROGRAM_BYTES};
 use crate::settling::Settlement;
 
 /// What the program prints for its standard input: as much as there is, unless the record is
@@ -19,6 +19,9 @@ pub fn traced_with_settlement(input: &[u8]) -> (Vec<u8>, Option<Settlement>) {
     let mut auction = Auction::new();
     let (mut text, mut settlement) = (Vec::new(), None);
     for line in lines(input) {
+        if read_call(line) == Some(Call::Close) {
+            text.extend(previewed(&auction).into_bytes());
+        }
         let (kind, answer) = answer(&mut auction, line);
         text.extend(reply_of(kind, &answer));
         text.extend(words(&answer).into_bytes());
@@ -27,6 +30,18 @@ pub fn traced_with_settlement(input: &[u8]) -> (Vec<u8>, Option<Settlement>) {
         }
     }
     (text, settlement)
+}
+
+/// What stands above the reply to a closing: the preview's number, excess, remainder and whether the
+/// auction would then be closed (document 02, request 6).
+fn previewed(auction: &Auction) -> String {
+    match auction.preview() {
+        Ok(Preview { closing, closed }) => {
+            let Closing { excess, remainder } = closing;
+            format!("preview 0 {excess} {remainder} {}\n", u8::from(closed))
+        }
+        Err(number) => format!("preview {number} 0 0 0\n"),
+    }
 }
 
 /// What stands below a reply: nothing below a refusal and the other calls.

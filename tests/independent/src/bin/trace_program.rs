@@ -64,7 +64,7 @@ fn compare(group: &mut Group, record: &[u8], output: &Output) {
 }
 
 /// Counts the replies, which begin with a digit or a capital, and the words by their names; the
-/// excess by its sign, the remainder by whether it is 0, the mark.
+/// excess by its sign, the remainder by whether it is 0, the mark, previews by what they say.
 fn count(group: &mut Group, record: &[u8], text: &[u8]) {
     let (below, replies): (Vec<&[u8]>, Vec<&[u8]>) = lines(text)
         .into_iter()
@@ -72,8 +72,8 @@ fn count(group: &mut Group, record: &[u8], text: &[u8]) {
     group.count(record, &replies.join(&b'\n'));
     for line in below {
         let line = String::from_utf8_lossy(line);
-        let (name, number) = line.split_once(' ').expect("a name and a number");
-        group.count_word(match (name, number) {
+        let (name, numbers) = line.split_once(' ').expect("a name and numbers");
+        group.count_word(match (name, numbers) {
             ("excess", "0") => "excess 0",
             ("excess", number) if number.starts_with('-') => "excess below 0",
             ("excess", _) => "excess above 0",
@@ -81,6 +81,9 @@ fn count(group: &mut Group, record: &[u8], text: &[u8]) {
             ("remainder", _) => "remainder above 0",
             ("short", "0") => "short 0",
             ("short", _) => "short 1",
+            ("preview", "2 0 0 0") => "preview refused",
+            ("preview", numbers) if numbers.ends_with(" 1") => "preview closed",
+            ("preview", _) => "preview open",
             _ => name,
         });
     }

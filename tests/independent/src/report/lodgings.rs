@@ -9,14 +9,23 @@ pub struct Lodgings {
     showing: [u64; SHOWN.len()],
 }
 
-/// The lodgings of a record: those replaced, the closings that applied a step, the auction at last.
+/// The lodgings of a record: those replaced, how many closings applied a step, and the auction at
+/// last, if it is closed.
 #[derive(Default)]
 struct Seen {
     lodged: bool,
     replaced: bool,
     replaced_by_none: bool,
     applied_in: u64,
+    closed: Option<Closed>,
+}
+
+/// A closed auction with its two prices.
+struct Closed {
     auction: Auction,
+    first: u64,
+    second: u64,
+    short: bool,
 }
 
 /// What a record's lodgings show, and the test of it.
@@ -33,76 +42,87 @@ const SHOWN: [Shown; 11] = [
         seen.closed_with(not_reached) && seen.applied_in == 0
     }),
     ("at the closing price", |seen| {
-        seen.closed_with(|plant, auction| {
-            let p = auction.closing_price();
-            plant.withdrawals.iter().any(|step| step.price == p) && plant.withdrew_as_lodged()
+        seen.closed_with(|plant, closed| {
+            let mut withdrawals = plant.withdrawals.iter();
+            plant.withdrew_as_lodged() && withdrawals.any(|step| step.price == closed.first)
         })
     }),
     ("taken out with a level above 0", |seen| {
         seen.closed_with(|plant, _| plant.withdrew_as_lodged() && plant.quantity > 0)
     }),
     ("second price above the first", |seen| {
-        let auction = &seen.auction;
-        seen.closed() && auction.second_price() > (auction.closing_price(), false)
+        let closed = seen.closed.as_ref();
+        closed.is_some_and(|closed| closed.second > closed.first)
     }),
     ("short", |seen| {
-        seen.closed() && seen.auction.second_price().1
+        seen.closed.as_ref().is_some_and(|closed| closed.short)
     }),
 ];
 
 /// Whether a lodged step lies below the prices that the clock passed.
-fn not_reached(plant: &Developer, auction: &Auction) -> bool {
-    let last_c = auction.last_c();
-    let mut lodged = plant.lodged.iter();
-    lodged.any(|step| last_c.is_some_and(|last_c| step.price < last_c))
+fn not_reached(plant: &Developer, closed: &Closed) -> bool {
+    let last_c = closed.auction.last_c().expect("a closed round");
+    plant.lodged.iter().any(|step| step.price < last_c)
 }
 
 impl Seen {
     fn in_record(record: &[u8]) -> Seen {
-        let mut seen = Seen::default();
+        let (mut seen, mut auction) = (Seen::default(), Auction::new());
         for call in lines(record).into_iter().filter_map(read_call) {
             if !matches!(call, Call::Settle { .. }) {
-                seen.make(&call);
+                seen.make(&mut auction, &call);
             }
+        }
+        if *auction.phase() == Phase::Closed {
+            let (first, (second, short)) = (auction.closing_price(), auction.second_price());
+            seen.closed = Some(Closed {
+                auction,
+                first,
+                second,
+                short,
+            });
         }
         seen
     }
 
     /// Makes a call that is not a settling.
-    fn make(&mut self, call: &Call) {
-        let before = self.applied();
-        let lodged = match call {
-            Call::Lodge { developer, .. } => self.auction.developers().get(developer),
-            _ => None,
-        };
-        let replaces = lodged.is_some_and(|plant| !plant.lodged.is_empty());
-        if make(&mut self.auction, call).is_err() {
-            return;
+    fn make(&mut self, auction: &mut Auction, call: &Call) {
+        match call {
+            Call::Lodge {
+                developer, prices, ..
+            } => {
+                let lodged = auction.developers().get(developer);
+                let replaces = lodged.is_some_and(|plant| !plant.lodged.is_empty());
+                if make(auction, call).is_ok() {
+                    self.lodged = true;
+                    self.replaced |= replaces;
+                    self.replaced_by_none |= replaces && prices.is_empty();
+                }
+            }
+            Call::Close => {
+                let before = applied(auction);
+                // Refused, it applies nothing.
+                drop(make(auction, call));
+                self.applied_in += u64::from(applied(auction) > before);
+            }
+            _ => drop(make(auction, call)),
         }
-        if let Call::Lodge { prices, .. } = call {
-            self.lodged = true;
-            self.replaced |= replaces;
-            self.replaced_by_none |= replaces && prices.is_empty();
-        }
-        self.applied_in += u64::from(self.applied() > before);
-    }
-
-    /// How many lodged steps closings have applied.
-    fn applied(&self) -> usize {
-        let developers = self.auction.developers().values();
-        let withdrew = developers.filter(|developer| developer.withdrew_as_lodged());
-        withdrew.map(|developer| developer.withdrawals.len()).sum()
-    }
-
-    fn closed(&self) -> bool {
-        *self.auction.phase() == Phase::Closed
     }
 
     /// Whether the auction is closed, with such a developer.
-    fn closed_with(&self, holds: impl Fn(&Developer, &Auction) -> bool) -> bool {
-        let mut developers = self.auction.developers().values();
-        self.closed() && developers.any(|developer| holds(developer, &self.auction))
+    fn closed_with(&self, holds: impl Fn(&Developer, &Closed) -> bool) -> bool {
+        self.closed.as_ref().is_some_and(|closed| {
+            let mut developers = closed.auction.developers().values();
+            developers.any(|developer| holds(developer, closed))
+        })
     }
+}
+
+/// How many lodged steps closings have applied.
+fn applied(auction: &Auction) -> usize {
+    let developers = auction.developers().values();
+    let withdrew = developers.filter(|developer| developer.withdrew_as_lodged());
+    withdrew.map(|developer| developer.withdrawals.len()).sum()
 }
 
 impl Lodgings {

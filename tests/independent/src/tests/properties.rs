@@ -1,7 +1,7 @@
 //! What document 01's rules imply for the ledger and the replies, on generated records.
 
 use super::{each_step, Step, RECORDS};
-use crate::auction::{Closing, Phase, EXISTING};
+use crate::auction::{Auction, Closing, Phase, EXISTING};
 use crate::records::{edges, record};
 use crate::replay::{lines, replay, replay_into, Accepted, Call, PROGRAM_BYTES};
 use crate::{host_number, BUFFER_TOO_SHORT};
@@ -68,6 +68,31 @@ fn excess_and_phase_agree() {
         };
         assert_eq!(*after.phase(), phase);
     });
+}
+
+/// A preview says what the closing made next answers, and whether the auction is then closed; it is
+/// refused where that is, with its number (document 02, request 6). It holds before each call.
+#[test]
+fn previews_are_closings() {
+    let (mut closed, mut open, mut lodged) = (0, 0, 0);
+    each_line(|step| {
+        let preview = step.before.preview();
+        let mut next = step.before.clone();
+        let closing = next.close();
+        assert_eq!(preview.map(|preview| preview.closing), closing);
+        if let Ok(preview) = preview {
+            assert_eq!(preview.closed, *next.phase() == Phase::Closed);
+            closed += u64::from(preview.closed);
+            open += u64::from(!preview.closed);
+            let withdrawals = |auction: &Auction| -> usize {
+                let existing = auction.developers().values().filter(|d| d.kind == EXISTING);
+                existing.map(|developer| developer.withdrawals.len()).sum()
+            };
+            lodged += u64::from(withdrawals(&next) > withdrawals(step.before));
+        }
+    });
+    let counts = [closed, open, lodged];
+    assert!(counts.iter().all(|&count| count > 1_000), "{counts:?}");
 }
 
 /// At most eight withdrawals; prices that the clock passed and do not rise, levels that fall
