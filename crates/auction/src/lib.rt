@@ -1,4 +1,4 @@
-// The auction: its state, passed by value, and the six calls that change it. Each call's contract is an equation with the ledger of
+// The auction: its state, passed by value, and the seven calls that change it. Each call's contract is an equation with the ledger of
 // document 01, for every list of calls (specs/Called.antt).
 ghost use mathlib.Core.Path.{_≡_};
 ghost use mathlib.Core.List.{[]};

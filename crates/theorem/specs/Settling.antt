@@ -1,7 +1,7 @@
--- THE STATEMENT ON SETTLING (demand 3), about every list of set-up, registration, opening, offer and closing calls from a fresh auction,
--- refused ones included, each call getting the auction that the last one returned (`Run`, in EveryList). Whatever the limit and the lent
--- buffer, settling the auction that the list reaches is as `Stated` says of the ledger of the list. The engine's calls are tied in
--- through their contracts, which each of them meets.
+-- THE STATEMENT ON SETTLING (demand 3), about every list of set-up, registration, lodging, opening, offer, cancellation and closing calls
+-- from a fresh auction, refused ones included, each call getting the auction that the last one returned (`Run`, in EveryList). Whatever the
+-- limit and the lent buffer, settling the auction that the list reaches is as `Stated` says of the ledger of the list. The engine's calls are
+-- tied in through their contracts, which each of them meets.
 use Prim.Native.Nat.{ℕ}
 use mathlib.Core.Path.{_≡_}
 use mathlib.Core.List.{List}
