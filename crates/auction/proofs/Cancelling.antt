@@ -5,6 +5,7 @@ use mathlib.Core.Logic.{⊎-elim}
 use mathlib.Core.Bool.{true, false}
 use mathlib.Core.List.{[]}
 use native.Mathlib.Omega.{arith}
+use lib.Dec.{eqb}
 use lib.ListN.{length, getD, set}
 use borrow.Author.Tests.{eq-eqb, ne-eqb}
 use Rattle.rules.specs.Ledger.{none, Developer, Cancel, By, Ledger}
@@ -13,7 +14,7 @@ use Rattle.rules.specs.CheckLaws.{of-kind-facts}
 use Rattle.rules.specs.Rounds.{moved, numberAlone}
 use Rattle.sound.specs.Sound.{Sound}
 use Rattle.reachable.specs.Bounds.{withdrawals-few}
-use Rattle.history.specs.Held.{heldHistory, offeredNumber, Cancelled}
+use Rattle.history.specs.Held.{heldHistory, Cancelled}
 use Rattle.history.specs.HeldLaws.{is-none-by-number}
 use Rattle.history.specs.declared.History.{History}
 use Rattle.auction.specs.declared.Auction.{Auction}
@@ -41,19 +42,23 @@ module _ (n : ℕ) (a : Auction) where
     high : n ≤ 32
     high = of-kind-facts 2 n _ w .1
 
-    pub cancel-none : getD (a .histories) (n - 1) d .offered < 1 → Refused (By n Cancel) a 16
-    unfolding number moveNumber
-    cancel-none v = refused _ a 16 (omega arith) (λ l s h.
-        simp (in-round a z l h, kind-is n a 2 l h ∙ w, is-none-by-number (l .developers n .offer) ∙ eq-eqb (offeredNumber (l .developers n .offer)) 0 (let k = offered-at n a l h low high d in omega arith)))
+    abbrev offered : ℕ
+    offered = getD (a .histories) (n - 1) d .offered
 
-    module _ (v : 1 ≤ getD (a .histories) (n - 1) d .offered) (r : History) (o : Cancelled (getD (a .histories) (n - 1) d) r) where
+    none-is : (l : Ledger) → a ≡ auctionOf l → isNone (l .developers n .offer) ≡ eqb offered 0
+    none-is l h = is-none-by-number (l .developers n .offer) ∙ ap (λ (k : ℕ). eqb k 0) (offered-at n a l h low high d)
+
+    pub cancel-none : offered < 1 → Refused (By n Cancel) a 16
+    unfolding number moveNumber
+    cancel-none v = refused _ a 16 (omega arith) (λ l s h. simp (in-round a z l h, kind-is n a 2 l h ∙ w, none-is l h ∙ eq-eqb offered 0 (omega arith)))
+
+    module _ (v : 1 ≤ offered) (r : History) (o : Cancelled (getD (a .histories) (n - 1) d) r) where
       passes : (l : Ledger) → a ≡ auctionOf l → number l (By n Cancel) ≡ 0
       unfolding number moveNumber
-      passes l h =
-          simp (in-round a z l h, kind-is n a 2 l h ∙ w, is-none-by-number (l .developers n .offer) ∙ ne-eqb (offeredNumber (l .developers n .offer)) 0 (λ e. let k = offered-at n a l h low high d in omega arith))
+      passes l h = simp (in-round a z l h, kind-is n a 2 l h ∙ w, none-is l h ∙ ne-eqb offered 0 (λ e. omega arith))
 
       few : (l : Ledger) → Sound l → length (l .developers n .withdrawals) ≤ 8
-      few l s = ⊎-elim (λ e. let k : length (l .developers n .withdrawals) ≡ 0 = ap (λ (x : Developer). length (x .withdrawals)) e in omega arith) (λ q. withdrawals-few (q .developer)) (s .each n)
+      few l s = ⊎-elim (λ e. omega (arith, ap (λ (x : Developer). length (x .withdrawals)) e)) (λ q. withdrawals-few (q .developer)) (s .each n)
 
       history-next : (l : Ledger) → Sound l → a ≡ auctionOf l → r ≡ heldHistory (l .developers n .withdrawals) none (l .developers n .lodged)
       history-next l s h =
@@ -68,4 +73,5 @@ module _ (n : ℕ) (a : Auction) where
 
       pub cancel-taken : Called (By n Cancel) a cancelling (numberAlone 0)
       unfolding moved
-      cancel-taken = move-taken n Cancel a r low high (λ l s h. record { number = passes l h; declared = refl; quantity = refl; history = history-next l s h })
+      cancel-taken =
+          move-taken n Cancel a r low high (λ l s h. record { number = passes l h; declared = refl; quantity = refl; history = history-next l s h })

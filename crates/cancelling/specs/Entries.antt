@@ -55,7 +55,9 @@ module _ (n : ℕ) (l : Ledger) (r : inRound (l .phase) ≡ true) where
   refused-aside c k z h =
       let same : step l c ≡ l = step-refused l c (λ e. z (sym (h l refl) ∙ e)) in
       record {
-        next = λ y. step-refused (withDeveloper l n y) c (λ e. z (sym (h (withDeveloper l n y) refl) ∙ e)) ∙ ap (λ (m : Ledger). withDeveloper m n y) (sym same);
+        next = λ y.
+            step-refused (withDeveloper l n y) c (λ e. z (sym (h (withDeveloper l n y) refl) ∙ e))
+            ∙ ap (λ (m : Ledger). withDeveloper m n y) (sym same);
         answered = λ y. alike (withDeveloper l n y) refl ∙ sym (alike l refl);
         entry = ap (λ (m : Ledger). m .developers n) same;
         round = rw same r;
@@ -84,7 +86,9 @@ module _ (n : ℕ) (l : Ledger) (r : inRound (l .phase) ≡ true) where
     move-aside : Aside n l (By k m)
     unfolding step answer granted accepted
     move-aside = record {
-      next = λ y. ap (λ (v : ℕ). cond (eqb v 0) (accepted (withDeveloper l n y) (By k m)) (withDeveloper l n y)) (same-number y) ∙ go y (eqb (number l (By k m)) 0);
+      next = λ y.
+          ap (λ (v : ℕ). cond (eqb v 0) (accepted (withDeveloper l n y) (By k m)) (withDeveloper l n y)) (same-number y)
+          ∙ go y (eqb (number l (By k m)) 0);
       answered = λ y. ap (λ (v : ℕ). cond (eqb v 0) (numberAlone 0) (numberAlone v)) (same-number y);
       entry = by-step (λ q. q .developers n ≡ l .developers n) l (By k m) refl (λ g. entry-stays);
       round = by-step (λ q. inRound (q .phase) ≡ true) l (By k m) r (λ g. round-stays);
@@ -100,11 +104,17 @@ module _ (n : ℕ) (l : Ledger) (r : inRound (l .phase) ≡ true) where
         round-stays : inRound (accepted l (By k m) .phase) ≡ true
         round-stays = r
 
+  -- one that no phase but others accepts
+  barred : (c : Call) (t : Phase → Bool) (next : Ledger → ℕ) → t Round ≡ false → ((m : Ledger) → number m c ≡ check (t (m .phase)) 2 (next m)) → Aside n l c
+  barred c t next e f =
+      refused-aside c 2 (λ z. omega arith) (λ m g. f m ∙ ap (λ (b : Bool). check b 2 (next m)) (ap t (g ∙ in-round (l .phase) r) ∙ e))
+
   -- every call of others but the closing
   pub aside : (c : Call) → own n c ≡ false → (c ≡ Close → ⊥) → Aside n l c
   unfolding own number
-  aside (SetUp s) o z = refused-aside (SetUp s) 2 (λ e. omega arith) (λ m e. ap (λ (q : Phase). check (isFresh q) 2 (check (settingsOk s) 1 0)) (e ∙ in-round (l .phase) r))
-  aside (Register k x) o z = refused-aside (Register k x) 2 (λ e. omega arith) (λ m e. ap (λ (q : Phase). check (isReady q) 2 (check (numbersOk (x .project) k (m .developers k .declared .project)) 3 (check (declarationOk m x) 4 0))) (e ∙ in-round (l .phase) r))
-  aside (Open c) o z = refused-aside (Open c) 2 (λ e. omega arith) (λ m e. ap (λ (q : Phase). check (mayOpen q) 2 (check (closingOk m c) 5 (check (startCovered m) 9 0))) (e ∙ in-round (l .phase) r))
+  aside (SetUp s) o z = barred (SetUp s) isFresh (λ m. check (settingsOk s) 1 0) refl (λ m. refl)
+  aside (Register k x) o z =
+      barred (Register k x) isReady (λ m. check (numbersOk (x .project) k (m .developers k .declared .project)) 3 (check (declarationOk m x) 4 0)) refl (λ m. refl)
+  aside (Open c) o z = barred (Open c) mayOpen (λ m. check (closingOk m c) 5 (check (startCovered m) 9 0)) refl (λ m. refl)
   aside (By k m) o z = move-aside k m o
   aside Close o z = absurd (z refl)

@@ -70,8 +70,15 @@ module _ (n : ℕ) (l : Ledger) (c : Call) (cs : List Call) (t : Through n (step
   own-first : own n c ≡ true → step l c ≡ l → Through n l (c ∷ cs)
   unfolding reduced heard stepAll others keep answersFrom answersToOthers
   own-first o same = record {
-    next = λ y. ap (λ (b : Bool). stepAll (withDeveloper l n y) (reduced b)) o ∙ ap (λ (m : Ledger). stepAll (withDeveloper m n y) (others n cs)) (sym same) ∙ t .next y;
-    answered = λ y. ap (λ (b : Bool). answersFrom (withDeveloper l n y) (reduced b)) o ∙ ap (λ (m : Ledger). answersFrom (withDeveloper m n y) (others n cs)) (sym same) ∙ t .answered y ∙ ap heard (sym o);
+    next = λ y.
+        ap (λ (b : Bool). stepAll (withDeveloper l n y) (reduced b)) o
+        ∙ ap (λ (m : Ledger). stepAll (withDeveloper m n y) (others n cs)) (sym same)
+        ∙ t .next y;
+    answered = λ y.
+        ap (λ (b : Bool). answersFrom (withDeveloper l n y) (reduced b)) o
+        ∙ ap (λ (m : Ledger). answersFrom (withDeveloper m n y) (others n cs)) (sym same)
+        ∙ t .answered y
+        ∙ ap heard (sym o);
     entry = t .entry ∙ ap (λ (m : Ledger). m .developers n) same;
   }
 
@@ -120,7 +127,9 @@ module _ (n : ℕ) (m : Move) where
 module _ (n : ℕ) (ps qs : List ℕ) (bs : List Call) where
   others-passage : others n (passage n ps qs bs) ≡ others n bs
   unfolding others keep
-  others-passage = ap (λ (b : Bool). cond (not b) (By n (Offer ps qs) ∷ others n (bs ++ (By n Cancel ∷ []))) (others n (bs ++ (By n Cancel ∷ [])))) (own-move n (Offer ps qs)) ∙ others-last n Cancel bs
+  others-passage =
+      let rest = others n (bs ++ (By n Cancel ∷ [])) in
+      ap (λ (b : Bool). cond (not b) (By n (Offer ps qs) ∷ rest) rest) (own-move n (Offer ps qs)) ∙ others-last n Cancel bs
 
   answers-passage : (l : Ledger) → answersToOthers n l (passage n ps qs bs) ≡ answersToOthers n (step l (By n (Offer ps qs))) bs
   unfolding answersToOthers
@@ -169,7 +178,8 @@ module _ (n : ℕ) (ds : List Call) (ps qs : List ℕ) (bs : List Call) (t : Tak
   cancelling-is : step ending (By n Cancel) ≡ withDeveloper ending n x
   unfolding number stepAll accepted moved
   cancelling-is =
-      let entry : ending .developers n ≡ withOffer x (made (steps ps qs)) = through-all .entry ∙ ap (λ (m : Ledger). m .developers n) offering-is ∙ put-at n _ (l .developers) in
+      let entry : ending .developers n ≡ withOffer x (made (steps ps qs)) =
+      through-all .entry ∙ ap (λ (m : Ledger). m .developers n) offering-is ∙ put-at n _ (l .developers) in
       step-accepted ending (By n Cancel) (t .cancelled)
       ∙ ap (λ (z : Developer). withDeveloper ending n (withOffer z none)) entry
       ∙ ap (withDeveloper ending n) (same-offer x (x .offer) (offer-passed l n x ps qs (t .offered) .first) refl)

@@ -1,5 +1,5 @@
--- What the writing functions leave: an offer's steps behind the withdrawals, the withdrawals without them, a lodged list, and the withdrawals once an offer or lodged steps
--- are applied.
+-- What the writing functions leave: an offer's steps behind the withdrawals, the withdrawals alone, a lodged list, and the withdrawals once an
+-- offer or lodged steps are applied.
 use Prim.Native.Nat.{ℕ, _+_, _-_, _≤_, _<_}
 use mathlib.Core.Path.{_≡_, refl, sym, ap, _∙_}
 use mathlib.Core.Logic.{_⊎_, ⊎-elim}
@@ -136,14 +136,20 @@ pub record Keeping (h₀ h : History) (n i : ℕ) : Type 0 where
   pub kept : (ws : List Step) (s : Standing) → h₀ ≡ heldHistory ws s [] → length ws ≤ 8 → h ≡ storedTo [] (pricesOf ws) (levelsOf ws) i
 
 pub keep-first : (h₀ h : History) → h ≡ heldHistory [] none [] → Keeping h₀ h (h₀ .count) 0
-keep-first h₀ h e = record { within = omega arith; count = refl; kept = λ ws s g w. e ∙ same (heldHistory [] none []) (storedTo [] (pricesOf ws) (levelsOf ws) 0) refl refl refl refl refl }
+keep-first h₀ h e = record {
+  within = omega arith;
+  count = refl;
+  kept = λ ws s g w. e ∙ same (heldHistory [] none []) (storedTo [] (pricesOf ws) (levelsOf ws) 0) refl refl refl refl refl;
+}
 
 -- an early return is not reached where there is room
 pub keep-no-room : (h₀ r : History) → 8 < h₀ .count → Cancelled h₀ r
 keep-no-room h₀ r v = record { right = λ ws s e w. absurd (omega (arith, count-of e)) }
 
 -- a withdrawal read from the places of the history
-read-at : (f : Step → ℕ) → f noStep ≡ 0 → (ws ss : List Step) (xs : List ℕ) (i : ℕ) → xs ≡ padded 8 (map f (ws ++ ss)) → i < length ws → getD xs i 0 ≡ getD (map f ws) i 0
+read-at :
+    (f : Step → ℕ) → f noStep ≡ 0 → (ws ss : List Step) (xs : List ℕ) (i : ℕ) → xs ≡ padded 8 (map f (ws ++ ss)) → i < length ws →
+    getD xs i 0 ≡ getD (map f ws) i 0
 read-at f z ws ss xs i e w =
     ap (λ (ys : List ℕ). getD ys i 0) e
     ∙ padded-at f z 8 ws ss i w

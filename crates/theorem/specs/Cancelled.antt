@@ -37,7 +37,9 @@ heard n ds ps qs between rest =
 
 -- the arguments x, x′ of settling: the auction, the limit, the buffer; y, y′: the same at the call's end
 pub record Cancelled (n : ℕ) (ds : List Call) (ps qs : List ℕ) (between rest : List Call) : Type 1 where
-  pub auctions : {rs rs′ : List Answered} {a a′ : Auction} → Run (taken n ds ps qs between rest) rs a → Run (neverMade n ds ps qs between rest) rs′ a′ → a ≡ a′
+  pub auctions :
+      {rs rs′ : List Answered} {a a′ : Auction} → Run (taken n ds ps qs between rest) rs a → Run (neverMade n ds ps qs between rest) rs′ a′ →
+      a ≡ a′
   pub answered :
       {rs rs′ : List Answered} {a a′ : Auction} → Run (taken n ds ps qs between rest) rs a → Run (neverMade n ds ps qs between rest) rs′ a′ →
       (rs ≡ heard n ds ps qs between rest) × (rs′ ≡ heardByOthers n ds ps qs between rest)
@@ -78,9 +80,12 @@ module _ (cs ds : List Call) (same : ledger cs ≡ ledger ds) (a a′ : Auction)
 in-three : (ds cs rest : List Call) → answers (ds ++ (cs ++ rest)) ≡ answers ds ++ (answersFrom (ledger ds) cs ++ answersFrom (ledger (ds ++ cs)) rest)
 in-three ds cs rest =
     answers-append ds (cs ++ rest)
-    ∙ ap (λ (xs : List Answered). answers ds ++ xs) (answers-from-append (ledger ds) cs rest ∙ ap (λ (l : Ledger). answersFrom (ledger ds) cs ++ answersFrom l rest) (sym (ledger-append ds cs)))
+    ∙ ap (λ (xs : List Answered). answers ds ++ xs)
+    (answers-from-append (ledger ds) cs rest ∙ ap (λ (l : Ledger). answersFrom (ledger ds) cs ++ answersFrom l rest) (sym (ledger-append ds cs)))
 
-pub cancelled : (n : ℕ) (ds : List Call) (ps qs : List ℕ) (between : List Call) → TakenBack n ds ps qs between → (rest : List Call) → Cancelled n ds ps qs between rest
+pub cancelled :
+    (n : ℕ) (ds : List Call) (ps qs : List ℕ) (between : List Call) → TakenBack n ds ps qs between →
+    (rest : List Call) → Cancelled n ds ps qs between rest
 cancelled n ds ps qs between t rest =
     let k = as-if-never-made n ds ps qs between t rest in
     let all = passage n ps qs between in
