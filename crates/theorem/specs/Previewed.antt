@@ -32,7 +32,9 @@ pub record Foretells (p : Preview) (r : Answered) (b : Auction) : Type 0 where
   pub closed : (p .closed ≡ true) ↔ ((r .number ≡ 0) × (b .phase ≡ 4))
 
 pub record PreviewStated : Type 1 where
-  pub foretells : {cs : List Call} {rs : List Answered} {a b : Auction} {r : Answered} (p : Preview) → Run cs rs a → Looks a p → Made Close a r b → Foretells p r b
+  pub foretells :
+      {cs : List Call} {rs : List Answered} {a b : Auction} {r : Answered} (p : Preview) →
+      Run cs rs a → Looks a p → Made Close a r b → Foretells p r b
   -- "closed" in words: closing is accepted, and the excess after the withdrawals at C is below 1,000 kWh or C is the floor
   pub closed :
       {cs : List Call} {rs : List Answered} {a : Auction} (p : Preview) → Run cs rs a → Looks a p → let l = ledger cs in
@@ -47,7 +49,9 @@ preview-stated = record {
   refused = λ p q. q .zero;
 }
   where
-    foretells : {cs : List Call} {rs : List Answered} {a b : Auction} {r : Answered} (p : Preview) → Run cs rs a → Looks a p → Made Close a r b → Foretells p r b
+    foretells :
+        {cs : List Call} {rs : List Answered} {a b : Auction} {r : Answered} (p : Preview) →
+        Run cs rs a → Looks a p → Made Close a r b → Foretells p r b
     foretells {cs} {rs} {a} {b} {r} p w q m =
         let e = previewed cs a b r (by-contract m) (reached w .0) p q in
         record {

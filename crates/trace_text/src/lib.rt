@@ -1,5 +1,5 @@
-// A reply in words and decimal numbers, an item a line, below the reply's own line; before a closing's line, its preview. Each writer takes a place in the lent buffer and gives the
-// place behind what it wrote.
+// A reply in words and decimal numbers, an item a line, below the reply's own line; before a closing's line, its preview. Each writer takes a
+// place in the lent buffer and gives the place behind what it wrote.
 ghost use mathlib.Core.Path.{_≡_};
 ghost use mathlib.Core.Bool.{cond};
 ghost use Prim.Native.Nat.{_+_, _*_, _≤_, _<_, min};
