@@ -120,6 +120,12 @@ uint64_t write_lodging(uint64_t developer, const uint64_t *prices, size_t prices
                        const uint64_t *levels, size_t levels_length, uint8_t *frame,
                        size_t frame_length);
 
+/*
+ * Frame 09, cancellation of the offer that a developer made in the open round. The developer fits
+ * below 2^8. The frame has 5 bytes. No call writes frame 08.
+ */
+uint64_t write_cancellation(uint64_t developer, uint8_t *frame, size_t frame_length);
+
 #ifdef __cplusplus
 }
 #endif
