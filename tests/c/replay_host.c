@@ -60,6 +60,8 @@ static const struct check checks[] = {
     {"closing before set-up", "05", "0502\n"},
     {"lodged list", LODGED, LODGED_REPLIES},
     {"lodging before set-up", "070100", "0702\n"},
+    {"cancellation before set-up", "0902", "0902\n"},
+    {"kind 08", "0802", "FF0C\n"},
 };
 
 static unsigned made, failed;

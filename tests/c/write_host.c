@@ -99,6 +99,12 @@ static const struct check checks[] = {
     {7, {1}, {2, {26000, 25000}}, {1, {100}}, NULL},
     {7, {1}, {1, {26000}}, {2, {100, 0}}, NULL},
     {7, {1}, {1, {26000}}, {0}, NULL},
+
+    {9, {2}, {0}, {0}, "0902\n"},
+    {9, {0}, {0}, {0}, "0900\n"},
+    {9, {255}, {0}, {0}, "09FF\n"},
+    {9, {BITS(8)}, {0}, {0}, NULL},
+    {9, {BITS(32) + 2}, {0}, {0}, NULL},
 };
 
 static unsigned made, failed;
@@ -123,9 +129,11 @@ static uint64_t write_frame(const struct check *check, const uint64_t *first,
         return write_closing(frame, length);
     case 6:
         return write_settling(n[0], frame, length);
-    default:
+    case 7:
         return write_lodging(n[0], first, check->first.length, second, check->second.length, frame,
                              length);
+    default:
+        return write_cancellation(n[0], frame, length);
     }
 }
 
@@ -179,6 +187,7 @@ static void write_null(void)
         write_registration(BITS(8), 1, 1, 0, 0, NULL, 0, NULL, 0) != REFERENCE_ENGINE_REFUSAL(14) ||
         write_closing(NULL, 0) != REFERENCE_ENGINE_REFUSAL(13) ||
         write_lodging(2, NULL, 0, NULL, 0, NULL, 0) != REFERENCE_ENGINE_REFUSAL(13) ||
+        write_cancellation(2, NULL, 0) != REFERENCE_ENGINE_REFUSAL(13) ||
         write_offer(2, NULL, 0, NULL, 0, frame, sizeof frame) != sizeof frame ||
         memcmp(frame, "040200\n", sizeof frame) != 0) {
         failed++;

@@ -7,8 +7,8 @@ mod developer;
 
 use crate::{
     demand, demand_remainder, require, BAD_LEVEL, BAD_NUMBER, BAD_REGISTRATION, BAD_ROUND_PRICE,
-    BAD_STEPS, BEYOND_BOUNDS, NOT_IN_THIS_PHASE, NO_EXISTING_PLANT, OPENING_NOT_COVERED,
-    SECOND_OFFER,
+    BAD_STEPS, BEYOND_BOUNDS, NOT_IN_THIS_PHASE, NO_EXISTING_PLANT, NO_STANDING_OFFER,
+    OPENING_NOT_COVERED, SECOND_OFFER,
 };
 use developer::may_be_declared;
 pub use developer::{Developer, Withdrawal};
@@ -49,7 +49,7 @@ pub enum Phase {
     Fresh,
     /// Accepts registrations, lodgings and the first opening.
     Registering,
-    /// Accepts offers and closing.
+    /// Accepts offers, cancellations and closing.
     RoundOpen(Round),
     /// Accepts a further opening.
     BetweenRounds,
@@ -217,12 +217,21 @@ impl Auction {
         let Phase::RoundOpen(round) = &mut self.phase else {
             return Err(NOT_IN_THIS_PHASE);
         };
-        let known = self.developers.get(&developer);
-        let offering = known.filter(|d| d.kind == NEW).ok_or(BAD_NUMBER)?;
+        let offering = may_offer(&self.developers, developer)?;
         require(!round.offers.contains_key(&developer), SECOND_OFFER)?;
         let steps = steps(offering, &round.passes(), prices, levels)?;
         round.offers.insert(developer, steps);
         Ok(())
+    }
+
+    /// Checks: 2, 3, 16. The offer is as if it had never been made (document 02, request 7).
+    pub fn cancel(&mut self, developer: u8) -> Result<(), u8> {
+        let Phase::RoundOpen(round) = &mut self.phase else {
+            return Err(NOT_IN_THIS_PHASE);
+        };
+        may_offer(&self.developers, developer)?;
+        let standing = round.offers.remove(&developer);
+        standing.map(|_steps| ()).ok_or(NO_STANDING_OFFER)
     }
 
     /// Checks: 2. The answer is the excess at C, with demand's remainder there.
@@ -316,6 +325,12 @@ impl Auction {
     pub fn last_c(&self) -> Option<u64> {
         self.last_c
     }
+}
+
+/// The developer, if it is one that makes offers. Checks: 3.
+fn may_offer(developers: &BTreeMap<u8, Developer>, number: u8) -> Result<&Developer, u8> {
+    let known = developers.get(&number);
+    known.filter(|d| d.kind == NEW).ok_or(BAD_NUMBER)
 }
 
 /// Steps at these prices. Checks: 6, 7. All prices are tested before any level.

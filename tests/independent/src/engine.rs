@@ -56,6 +56,7 @@ mod host {
             frame: *mut u8,
             frame_length: usize,
         ) -> u64;
+        pub fn write_cancellation(developer: u64, frame: *mut u8, frame_length: usize) -> u64;
     }
 }
 
@@ -125,6 +126,7 @@ pub fn write(fields: &Fields, frame: &mut [u8]) -> u64 {
                 start,
                 length,
             ),
+            (9, &[developer], []) => host::write_cancellation(developer, start, length),
             _ => panic!("no call: {fields:?}"),
         }
     }

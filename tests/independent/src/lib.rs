@@ -5,6 +5,7 @@
 
 pub mod auction;
 pub mod calls;
+pub mod cutting;
 mod demand;
 pub mod lent;
 pub mod parts;
@@ -60,6 +61,8 @@ pub const FRAME_BUFFER_TOO_SHORT: u8 = 13;
 pub const NOT_WRITABLE: u8 = 14;
 /// Refusal 15: lodging for a developer number that is no registered existing plant.
 pub const NO_EXISTING_PLANT: u8 = 15;
+/// Refusal 16: cancellation by a developer of whom no offer stands in the round.
+pub const NO_STANDING_OFFER: u8 = 16;
 
 /// The one number of 64 bits that a C host gets: for a refusal, 2^64 less its number.
 pub fn host_number(answer: Answer) -> u64 {

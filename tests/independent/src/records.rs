@@ -4,6 +4,7 @@
 
 mod aimed;
 mod books;
+mod cancellations;
 mod counted;
 mod crowded;
 mod damage;
@@ -57,6 +58,8 @@ struct Writer {
     record: Vec<u8>,
     /// How many of a hundred lines have a refused one before them.
     disturbed: u64,
+    /// Whether some offers are taken back.
+    cancelling: bool,
 }
 
 impl Writer {
@@ -64,6 +67,7 @@ impl Writer {
         let mut random = Random::new(seed);
         Writer {
             disturbed: random.one_of(&[0, 0, 5, 20, 50]),
+            cancelling: random.chance(50),
             random,
             auction: Auction::new(),
             record: Vec::new(),
@@ -148,9 +152,7 @@ impl Writer {
         }
         let c = self.closing_price_of_round(last);
         self.make(&Call::Open { c: c as u32 });
-        for offer in offers::offers(&mut self.random, &self.auction, last) {
-            self.make(&offer);
-        }
+        self.offers(last);
         if self.random.chance(15) {
             self.aim();
         }

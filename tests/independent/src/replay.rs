@@ -98,6 +98,7 @@ pub fn make(auction: &mut Auction, call: &Call) -> Result<Accepted, u8> {
             let answer = auction.lodge(*developer, prices, levels);
             answer.map(|()| Accepted::Plain)
         }
+        &Call::Cancel { developer } => auction.cancel(developer).map(|()| Accepted::Plain),
         Call::Close => auction.close().map(Accepted::Closed),
         &Call::Settle { limit } => {
             let answer = auction.settle(limit.into(), &mut [0; AWARD_BYTES]);

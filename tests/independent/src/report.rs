@@ -1,9 +1,11 @@
 //! What a program that compares replies prints: one line a group of records with what their
 //! replies were, and the first difference; how often rounds closed where the closing rule
-//! decides; how often demand had a remainder; what lodged lists did; how searches went; and what it
-//! ends with.
+//! decides; how often demand had a remainder; what lodged lists and cancellations did; how searches
+//! went; and what it ends with.
 
+mod cancellations;
 mod closings;
+mod features;
 mod lodgings;
 mod remainders;
 mod searches;
@@ -11,10 +13,12 @@ mod searches;
 use crate::parts::in_parts;
 use crate::replay::lines;
 use crate::settling::Settlement;
+pub use cancellations::{Cancellations, CANCELLATIONS};
 pub use closings::Closings;
-pub use lodgings::Lodgings;
+pub use features::Features;
+pub use lodgings::{Lodgings, LODGINGS};
 pub use remainders::Remainders;
-pub use searches::Searches;
+use searches::SEARCHES;
 use std::collections::BTreeMap;
 use std::fmt::Write;
 use std::process::ExitCode;
@@ -54,8 +58,11 @@ pub struct Group {
     written: u64,
     closings: Closings,
     remainders: Remainders,
-    lodgings: Lodgings,
-    searches: Searches,
+    lodgings: Features<Lodgings>,
+    cancellations: Features<Cancellations>,
+    /// Lines that were cut with cancelled offers.
+    cut: u64,
+    searches: Features<Settlement>,
     /// Words of traces by their names.
     words: BTreeMap<String, u64>,
     difference: Option<String>,
@@ -71,8 +78,10 @@ impl Group {
             written: 0,
             closings: Closings::default(),
             remainders: Remainders::default(),
-            lodgings: Lodgings::default(),
-            searches: Searches::default(),
+            lodgings: Features::new(LODGINGS),
+            cancellations: Features::new(CANCELLATIONS),
+            cut: 0,
+            searches: Features::new(SEARCHES),
             words: BTreeMap::new(),
             difference: None,
         }
@@ -103,6 +112,8 @@ impl Group {
         self.closings.join(other.closings);
         self.remainders.join(&other.remainders);
         self.lodgings.join(&other.lodgings);
+        self.cancellations.join(&other.cancellations);
+        self.cut += other.cut;
         self.searches.join(&other.searches);
         add(&mut self.words, other.words);
         self.difference = self.difference.take().or(other.difference);
@@ -112,7 +123,8 @@ impl Group {
     pub fn count(&mut self, record: &[u8], replies: &[u8]) {
         self.closings.count(record, replies);
         self.remainders.count(replies);
-        self.lodgings.count(record);
+        self.lodgings.count(&Lodgings::of(record));
+        self.cancellations.count(&Cancellations::of(record));
         let replies = lines(replies);
         let settled = replies.iter().any(|reply| reply.starts_with(b"0600"));
         self.records += 1;
@@ -126,6 +138,11 @@ impl Group {
     /// Counts a line that the engine wrote again.
     pub fn count_written(&mut self) {
         self.written += 1;
+    }
+
+    /// Counts lines of a record that was replayed without them.
+    pub fn count_cut(&mut self, lines: usize) {
+        self.cut += lines as u64;
     }
 
     /// Counts the settlement of a record.
@@ -169,11 +186,15 @@ impl Group {
         }
         self.closings.print();
         self.remainders.print();
-        self.lodgings.print();
+        self.lodgings.print("lodgings by record");
+        self.cancellations.print("cancellations by record");
+        if self.cut > 0 {
+            println!("  lines cut with cancelled offers: {}", self.cut);
+        }
         if !self.words.is_empty() {
             println!("  words: {}", listed_counts(&self.words));
         }
-        self.searches.print();
+        self.searches.print("searches by record");
         self.difference.is_none()
     }
 }

@@ -2,6 +2,7 @@
 //! on generated records.
 
 mod awards;
+mod cancelling;
 mod causes;
 mod checks;
 mod fixed;

@@ -47,6 +47,7 @@ fn make(auction: &mut Auction, line: &[u64]) {
             let (prices, levels) = (first(&PRICES, n), first(&FALLS, m));
             answered(7, auction.lodge(byte(developer), prices, levels));
         }
+        [9, developer] => answered(9, auction.cancel(byte(developer))),
         [] => (),
         _ => panic!("no call: {line:?}"),
     }

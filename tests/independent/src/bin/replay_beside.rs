@@ -1,15 +1,17 @@
 //! Runs the engine's replay call beside the independent implementation.
 //! Each record is replayed into buffers that are one byte too short, exact, and longer; every
 //! byte of them, and of their surroundings, is compared. Each well-formed line is also written
-//! again by the engine, which has to give the same bytes, with their 0A.
+//! again by the engine, which has to give the same bytes, with their 0A. A record with cancelled
+//! offers is also replayed by the engine without them, which has to give the rest of its replies.
 //! One line a group of records: their replies by kind and answer, and `ok` or the first
 //! difference; below it, how many lines were written again, how many rounds closed where the
-//! closing rule decides, how many closings and settlings had a remainder, and what lodged lists
-//! did. The exit status is 0 only if no group differs.
+//! closing rule decides, how many closings and settlings had a remainder, what lodged lists and
+//! cancellations did, and how many lines were cut. The exit status is 0 only if no group differs.
 
 #[path = "../engine.rs"]
 mod engine;
 
+use independent::cutting::{cancelled, without};
 use independent::lent::{difference, lend};
 use independent::random::Random;
 use independent::records::{edges, fixed, records_of, Records};
@@ -30,7 +32,12 @@ fn main() -> ExitCode {
     verdict(stated.iter().chain(&fixed).chain(&compared))
 }
 
-const STATED: [fn() -> Group; 3] = [sample_record, twelve_numbers, lodged_lists];
+const STATED: [fn() -> Group; 4] = [
+    sample_record,
+    twelve_numbers,
+    lodged_lists,
+    cancelled_offers,
+];
 
 const COMPARED: [(&str, Records); 4] = [
     ("edges of lines", edges::lines),
@@ -59,6 +66,24 @@ fn compare(group: &mut Group, record: &[u8]) {
         if let Some(call) = read_call(line) {
             write_again(group, line, &call);
         }
+    }
+    compare_cut(group, record, independent.len());
+}
+
+/// The engine's replies to a record without its cancelled offers, beside the rest of those to the
+/// whole (document 02, request 7).
+fn compare_cut(group: &mut Group, record: &[u8], length: usize) {
+    let places = cancelled(record);
+    if places.is_empty() {
+        return;
+    }
+    group.count_cut(places.len());
+    let cut = without(record, &places);
+    let rest = without(&engines_replies(record, length), &places);
+    let replies = engines_replies(&cut, length);
+    if replies != rest {
+        let replies = [("engine", &replies[..]), ("rest of the whole", &rest)];
+        group.differ("cancelled offers are cut", &cut, replies);
     }
 }
 
@@ -137,6 +162,15 @@ fn twelve_numbers() -> Group {
 fn lodged_lists() -> Group {
     let mut group = Group::new("lodged lists");
     for (record, stated) in sample::LODGED {
+        compare_stated(&mut group, record, stated);
+    }
+    group
+}
+
+/// Records with cancellations (document 02, request 7).
+fn cancelled_offers() -> Group {
+    let mut group = Group::new("cancelled offers");
+    for (record, stated) in sample::CANCELLED {
         compare_stated(&mut group, record, stated);
     }
     group

@@ -2,6 +2,7 @@
 //! books. Each is a short auction, written call by call.
 
 mod auctions;
+mod cancellations;
 mod choices;
 mod developers;
 mod limits;
@@ -18,14 +19,14 @@ use crate::replay::{write_call, Call};
 use std::ops::RangeInclusive;
 
 /// Records by what they are about.
-pub fn groups() -> [(&'static str, Vec<Vec<u8>>); 11] {
+pub fn groups() -> [(&'static str, Vec<Vec<u8>>); 12] {
     let records = |scripts: Vec<Script>| scripts.into_iter().map(|script| script.record);
     GROUPS.map(|(name, scripts)| (name, records(scripts()).collect()))
 }
 
 type Group = (&'static str, fn() -> Vec<Script>);
 
-const GROUPS: [Group; 11] = [
+const GROUPS: [Group; 12] = [
     ("whole auctions", auctions::scripts),
     ("phases", phases::scripts),
     ("settings", settings::scripts),
@@ -37,6 +38,7 @@ const GROUPS: [Group; 11] = [
     ("choices", choices::scripts),
     ("developers", developers::scripts),
     ("lodgings", lodgings::scripts),
+    ("cancellations", cancellations::scripts),
 ];
 
 /// A step of an offer: price and new level.
@@ -129,6 +131,11 @@ impl Script {
                 levels: levels_in_kwh(&levels),
             })
         })
+    }
+
+    fn cancel(self, developers: &[u8]) -> Script {
+        let cancel = |script: Script, &developer: &u8| script.call(&Call::Cancel { developer });
+        developers.iter().fold(self, cancel)
     }
 
     fn lodge(self, lists: &[Offer]) -> Script {

@@ -1,14 +1,15 @@
 //! Long records: one auction of many short rounds, so that most calls are small ones.
 
-use super::{offers, Writer};
+use super::Writer;
 use crate::auction::{EXISTING, NEW, NUMBERS};
 use crate::replay::Call;
 
-/// The record of a seed cut to just so many bytes: registrations, openings, offers, closings,
-/// and about one refused line for two of them.
+/// The record of a seed cut to just so many bytes: registrations, openings, offers, of which some are
+/// taken back, closings, and about one refused line for two of them.
 pub fn long_record(seed: u64, length: usize) -> Vec<u8> {
     let mut writer = Writer::new(seed);
     writer.disturbed = 35;
+    writer.cancelling = true;
     writer.many_rounds(length);
     writer.record.truncate(length);
     writer.record
@@ -31,9 +32,7 @@ impl Writer {
             let fall = self.random.between(1, 20);
             let c = self.auction.opening_price() - fall;
             self.make(&Call::Open { c: c as u32 });
-            for offer in offers::offers(&mut self.random, &self.auction, false) {
-                self.make(&offer);
-            }
+            self.offers(false);
             self.make(&Call::Close);
         }
     }

@@ -152,6 +152,17 @@ fn affordable_steps(
     some_steps(random, developer, prices)
 }
 
+/// Other steps for a developer who takes its offer back: none, or some at any prices.
+pub(super) fn other_offer(random: &mut Random, round: &Round, developer: &Developer) -> Call {
+    let prices = some_prices(random, round, &[0, 1, 1, 2, MOST_STEPS]);
+    let (prices, levels) = some_steps(random, developer, prices).into_iter().unzip();
+    Call::Offer {
+        developer: developer.number,
+        prices,
+        levels,
+    }
+}
+
 /// As many prices of the round as one of the counts says.
 fn some_prices(random: &mut Random, round: &Round, counts: &[usize]) -> Vec<u32> {
     let (lowest, highest) = prices(round);

@@ -20,6 +20,7 @@ pub fn call(random: &mut Random, auction: &Auction) -> Call {
             Call::Close => (),
             Call::Settle { limit } => *limit = limit_below(random, auction),
             Call::Lodge { .. } => spoil_lodging(random, auction, &mut call),
+            Call::Cancel { developer } => *developer = without_offer(random, auction),
         }
     }
     call
@@ -30,11 +31,11 @@ fn sound(random: &mut Random, auction: &Auction) -> Call {
     let of_phase = match auction.phase() {
         Phase::Fresh => 1,
         Phase::Registering => random.one_of(&[2, 2, 3, 7, 7]),
-        Phase::RoundOpen(_) => 4,
+        Phase::RoundOpen(_) => random.one_of(&[4, 4, 9]),
         Phase::BetweenRounds => 3,
         Phase::Closed => 6,
     };
-    let any = random.between(1, 7);
+    let any = random.one_of(&[1, 2, 3, 4, 5, 6, 7, 9]);
     match random.one_of(&[of_phase, any]) {
         1 => Call::SetUp {
             ce: 20_000,
@@ -50,7 +51,10 @@ fn sound(random: &mut Random, auction: &Auction) -> Call {
         6 => Call::Settle {
             limit: random.one_of(&[100, 65_536, u32::MAX]),
         },
-        _ => lodging(random, auction),
+        7 => lodging(random, auction),
+        _ => Call::Cancel {
+            developer: second_offer(random, auction).unwrap_or(1),
+        },
     }
 }
 
@@ -268,6 +272,20 @@ fn numbers_of(auction: &Auction, kind: u8) -> Vec<u8> {
     of_kind.map(|developer| developer.number).collect()
 }
 
+/// A developer who may not cancel: one that may not offer, or one without an offer in the round.
+fn without_offer(random: &mut Random, auction: &Auction) -> u8 {
+    let mut numbers = numbers_of(auction, NEW);
+    if let Phase::RoundOpen(round) = auction.phase() {
+        numbers.retain(|number| !round.offers.contains_key(number));
+    }
+    if numbers.is_empty() || random.chance(40) {
+        bad_developer(random, auction, EXISTING)
+    } else {
+        random.one_of(&numbers)
+    }
+}
+
+/// A developer whose offer stands.
 fn second_offer(random: &mut Random, auction: &Auction) -> Option<u8> {
     let Phase::RoundOpen(round) = auction.phase() else {
         return None;

@@ -1,4 +1,5 @@
-//! The lines of a record and the calls they hold (document 01, Frames; document 02, request 5).
+//! The lines of a record and the calls they hold (document 01, Frames; document 02, requests 5 and
+//! 7).
 //! Fields, their order and widths stand in one table; reading and writing go by it.
 
 /// A call of the auction, each number as wide as its field.
@@ -36,6 +37,9 @@ pub enum Call {
         prices: Vec<u32>,
         levels: Vec<u32>,
     },
+    Cancel {
+        developer: u8,
+    },
 }
 
 pub(super) const SET_UP: u8 = 1;
@@ -45,6 +49,7 @@ pub(super) const OFFER: u8 = 4;
 pub(super) const CLOSE: u8 = 5;
 pub(super) const SETTLE: u8 = 6;
 pub(super) const LODGE: u8 = 7;
+pub(super) const CANCEL: u8 = 9;
 
 /// The fields of one kind of frame. Those of an item stand as often as the count says, which
 /// is then the last field before them.
@@ -57,7 +62,7 @@ pub(crate) struct Row {
 /// A field's name and its width in hexadecimal digits.
 type Field = (&'static str, usize);
 
-pub(crate) const ROWS: [Row; 7] = [
+pub(crate) const ROWS: [Row; 8] = [
     Row {
         kind: SET_UP,
         fields: &[("CE", 8), ("D", 10), ("M1", 10), ("M2", 10), ("A", 8)],
@@ -100,6 +105,11 @@ pub(crate) const ROWS: [Row; 7] = [
         kind: LODGE,
         fields: &[("developer", 2), ("count", 2)],
         item: &[("price", 8), ("level", 8)],
+    },
+    Row {
+        kind: CANCEL,
+        fields: &[("developer", 2)],
+        item: &[],
     },
 ];
 
@@ -210,6 +220,9 @@ fn call(kind: u8, numbers: &[u64]) -> Call {
                 levels,
             }
         }
+        (CANCEL, &[developer]) => Call::Cancel {
+            developer: narrow(developer),
+        },
         (CLOSE, []) => Call::Close,
         (SETTLE, &[limit]) => Call::Settle {
             limit: narrow(limit),

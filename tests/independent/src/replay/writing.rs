@@ -1,7 +1,8 @@
 //! Calls to frames (document 02, request 2), by the table that the reader goes by.
 
 use super::frames::{
-    row, Call, CLOSE, KIND_WIDTH, LODGE, LONGEST_LINE, OFFER, OPEN, REGISTRATION, SETTLE, SET_UP,
+    row, Call, CANCEL, CLOSE, KIND_WIDTH, LODGE, LONGEST_LINE, OFFER, OPEN, REGISTRATION, SETTLE,
+    SET_UP,
 };
 use crate::{host_number, require, FRAME_BUFFER_TOO_SHORT, NOT_WRITABLE};
 
@@ -145,6 +146,7 @@ pub fn fields(call: &Call) -> Fields {
             let lists = vec![wide(prices), wide(levels)];
             (LODGE, vec![(*developer).into()], lists)
         }
+        &Call::Cancel { developer } => (CANCEL, vec![developer.into()], vec![]),
         Call::Close => (CLOSE, vec![], vec![]),
         &Call::Settle { limit } => (SETTLE, vec![limit.into()], vec![]),
     };

@@ -1,18 +1,13 @@
 //! What the lodged lists of a record do (document 02, request 5).
 
+use super::features::Feature;
 use crate::auction::{Auction, Developer, Phase};
 use crate::replay::{lines, make, read_call, Call};
-
-/// Records by what their lodgings show.
-#[derive(Default)]
-pub struct Lodgings {
-    showing: [u64; SHOWN.len()],
-}
 
 /// The lodgings of a record: those replaced, how many closings applied a step, and the auction at
 /// last, if it is closed.
 #[derive(Default)]
-struct Seen {
+pub struct Lodgings {
     lodged: bool,
     replaced: bool,
     replaced_by_none: bool,
@@ -28,10 +23,8 @@ struct Closed {
     short: bool,
 }
 
-/// What a record's lodgings show, and the test of it.
-type Shown = (&'static str, fn(&Seen) -> bool);
-
-const SHOWN: [Shown; 11] = [
+/// What a record's lodgings show.
+pub const LODGINGS: &[Feature<Lodgings>] = &[
     ("lodged", |seen| seen.lodged),
     ("replaced", |seen| seen.replaced),
     ("replaced by an empty list", |seen| seen.replaced_by_none),
@@ -65,9 +58,9 @@ fn not_reached(plant: &Developer, closed: &Closed) -> bool {
     plant.lodged.iter().any(|step| step.price < last_c)
 }
 
-impl Seen {
-    fn in_record(record: &[u8]) -> Seen {
-        let (mut seen, mut auction) = (Seen::default(), Auction::new());
+impl Lodgings {
+    pub fn of(record: &[u8]) -> Lodgings {
+        let (mut seen, mut auction) = (Lodgings::default(), Auction::new());
         for call in lines(record).into_iter().filter_map(read_call) {
             if !matches!(call, Call::Settle { .. }) {
                 seen.make(&mut auction, &call);
@@ -123,38 +116,4 @@ fn applied(auction: &Auction) -> usize {
     let developers = auction.developers().values();
     let withdrew = developers.filter(|developer| developer.withdrew_as_lodged());
     withdrew.map(|developer| developer.withdrawals.len()).sum()
-}
-
-impl Lodgings {
-    /// Counts what the lodgings of a record show.
-    pub fn count(&mut self, record: &[u8]) {
-        let seen = Seen::in_record(record);
-        for (count, (_, shows)) in self.showing.iter_mut().zip(SHOWN) {
-            *count += u64::from(shows(&seen));
-        }
-    }
-
-    /// With the records counted elsewhere.
-    pub fn join(&mut self, other: &Lodgings) {
-        for (count, more) in self.showing.iter_mut().zip(other.showing) {
-            *count += more;
-        }
-    }
-
-    /// How many records show each.
-    pub fn counts(&self) -> impl Iterator<Item = (&'static str, u64)> + '_ {
-        let names = SHOWN.into_iter().map(|(name, _)| name);
-        names.zip(self.showing)
-    }
-
-    /// One line, if any record was counted that lodges.
-    pub fn print(&self) {
-        if self.showing[0] > 0 {
-            let counts: Vec<String> = self
-                .counts()
-                .map(|(name, n)| format!("{name} {n}"))
-                .collect();
-            println!("  lodgings by record: {}", counts.join(", "));
-        }
-    }
 }

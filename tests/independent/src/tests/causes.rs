@@ -15,7 +15,9 @@ fn failing(auction: &Auction, call: &Call) -> Vec<(u8, bool)> {
         Call::SetUp { .. } => *phase != Phase::Fresh,
         Call::Register { .. } | Call::Lodge { .. } => *phase != Phase::Registering,
         Call::Open { .. } => !matches!(phase, Phase::Registering | Phase::BetweenRounds),
-        Call::Offer { .. } | Call::Close => !matches!(phase, Phase::RoundOpen(_)),
+        Call::Offer { .. } | Call::Cancel { .. } | Call::Close => {
+            !matches!(phase, Phase::RoundOpen(_))
+        }
         Call::Settle { .. } => *phase != Phase::Closed,
     };
     let mut checks = vec![(2, out_of_phase)];
@@ -29,6 +31,7 @@ fn failing(auction: &Auction, call: &Call) -> Vec<(u8, bool)> {
         Call::Close => Vec::new(),
         &Call::Settle { limit } => vec![(10, choices(auction) > u64::from(limit.min(65_536)))],
         Call::Lodge { .. } => lodging(auction, call),
+        &Call::Cancel { developer } => cancellation(auction, developer),
     });
     checks
 }
@@ -119,6 +122,18 @@ fn lodging(auction: &Auction, call: &Call) -> Vec<(u8, bool)> {
     ]
 }
 
+fn cancellation(auction: &Auction, developer: u8) -> Vec<(u8, bool)> {
+    let known = auction.developers().get(&developer);
+    let standing = match auction.phase() {
+        Phase::RoundOpen(round) => round.offers.contains_key(&developer),
+        _ => false,
+    };
+    vec![
+        (3, known.is_none_or(|d| d.kind == EXISTING)),
+        (16, !standing),
+    ]
+}
+
 /// More than 8, not falling, or not from the lowest to the one before `above`.
 fn bad_prices(prices: &[u32], lowest: u64, above: u64) -> bool {
     let outside = |price: &u32| u64::from(*price) < lowest || u64::from(*price) >= above;
@@ -169,6 +184,9 @@ const MEETING: &[(u8, u8, u8)] = &[
     (7, 6, 7),
     (7, 15, 6),
     (7, 15, 7),
+    (9, 2, 3),
+    (9, 2, 16),
+    (9, 3, 16),
 ];
 
 #[test]

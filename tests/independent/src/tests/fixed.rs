@@ -5,9 +5,12 @@ use crate::replay::{lines, replay};
 use std::collections::BTreeSet;
 
 /// The refusals of each group, by kind and number.
-const REFUSED: [(&str, &[&str]); 11] = [
+const REFUSED: [(&str, &[&str]); 12] = [
     ("whole auctions", &["0203", "0302", "0305", "0407", "0502"]),
-    ("phases", &["0102", "0202", "0302", "0402", "0502", "0702"]),
+    (
+        "phases",
+        &["0102", "0202", "0302", "0402", "0502", "0702", "0902"],
+    ),
     ("settings", &["0101", "0102"]),
     ("registrations", &["0203", "0204"]),
     ("openings", &["0302", "0305", "0309"]),
@@ -19,6 +22,12 @@ const REFUSED: [(&str, &[&str]); 11] = [
     (
         "lodgings",
         &["0309", "060A", "0702", "0706", "0707", "070F"],
+    ),
+    (
+        "cancellations",
+        &[
+            "0302", "0403", "0406", "0407", "0408", "0602", "0902", "0903", "0910",
+        ],
     ),
 ];
 

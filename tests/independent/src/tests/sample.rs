@@ -1,9 +1,9 @@
 //! Document 01's sample record and its whole reply, with what document 02's requests 4 and 5 add;
-//! the records with lodged lists.
+//! the records with lodged lists and with cancellations.
 
 use super::sample_closed;
 use crate::replay::{lines, replay, replay_into};
-use crate::sample::{LODGED, RECORD, REPLY};
+use crate::sample::{CANCELLED, LODGED, RECORD, REPLY};
 use crate::settling::Award;
 
 #[test]
@@ -12,10 +12,10 @@ fn whole_reply() {
 }
 
 #[test]
-fn lodged_lists() {
-    for (record, reply) in LODGED {
+fn lodged_lists_and_cancellations() {
+    for (record, reply) in LODGED.iter().chain(&CANCELLED) {
         let replies = String::from_utf8(replay(record.as_bytes())).expect("digits");
-        assert_eq!(replies, reply);
+        assert_eq!(replies, *reply);
     }
 }
 

@@ -5,12 +5,12 @@ use super::{each_step, Step, RECORDS};
 use crate::auction::Auction;
 use crate::records::DECISIVE;
 use crate::replay::{lines, replay, Accepted, Call};
-use crate::report::{Closings, Lodgings, Remainders};
+use crate::report::{Cancellations, Closings, Features, Lodgings, Remainders};
+use crate::report::{CANCELLATIONS, LODGINGS};
 use crate::settling::{Award, Settlement};
 use std::collections::BTreeMap;
 
 /// What the replies to the records say, counted.
-#[derive(Default)]
 struct Shares {
     records: u64,
     /// Records with an accepted settling.
@@ -21,15 +21,31 @@ struct Shares {
     replies: BTreeMap<(u8, u8), u64>,
     closings: Closings,
     remainders: Remainders,
-    lodgings: Lodgings,
+    lodgings: Features<Lodgings>,
+    cancellations: Features<Cancellations>,
 }
 
 impl Shares {
+    fn new() -> Shares {
+        Shares {
+            records: 0,
+            settled: 0,
+            bytes: 0,
+            longest: 0,
+            replies: BTreeMap::new(),
+            closings: Closings::default(),
+            remainders: Remainders::default(),
+            lodgings: Features::new(LODGINGS),
+            cancellations: Features::new(CANCELLATIONS),
+        }
+    }
+
     fn count(&mut self, record: &[u8]) {
         let replies = replay(record);
         self.closings.count(record, &replies);
         self.remainders.count(&replies);
-        self.lodgings.count(record);
+        self.lodgings.count(&Lodgings::of(record));
+        self.cancellations.count(&Cancellations::of(record));
         let replies = lines(&replies);
         assert_eq!(replies.len(), lines(record).len(), "one reply a line");
         self.records += 1;
@@ -59,7 +75,7 @@ impl Shares {
             self.bytes as u64 / self.records,
             self.longest
         );
-        for number in 0..=15 {
+        for number in 0..=16 {
             println!("answer {number}: {} replies", self.answers(number));
         }
         for ((kind, answer), count) in &self.replies {
@@ -67,7 +83,8 @@ impl Shares {
         }
         self.closings.print();
         self.remainders.print();
-        self.lodgings.print();
+        self.lodgings.print("lodgings by record");
+        self.cancellations.print("cancellations by record");
     }
 }
 
@@ -81,12 +98,13 @@ const REPLIES: &[(u8, &[u8])] = &[
     (0x05, &[0, 2]),
     (0x06, &[0, 2, 10]),
     (0x07, &[0, 2, 15, 6, 7]),
+    (0x09, &[0, 2, 3, 16]),
     (0xFF, &[12]),
 ];
 
 #[test]
 fn shares_of_replies() {
-    let mut shares = Shares::default();
+    let mut shares = Shares::new();
     RECORDS.iter().for_each(|record| shares.count(record));
     shares.print();
     assert!(
@@ -108,9 +126,13 @@ fn shares_of_replies() {
     assert!(remainders.iter().flatten().all(|&count| count >= 1_000));
     let refused = [2, 15, 6, 7].map(|number| shares.replies[&(7, number)]);
     assert!(refused.iter().all(|&count| count >= 500), "{refused:?}");
-    for (place, (name, count)) in shares.lodgings.counts().enumerate() {
-        let least = if place == 0 { shares.records / 3 } else { 500 };
-        assert!(count >= least, "{count} records with lodgings: {name}");
+    let refused = [2, 3, 16].map(|number| shares.replies[&(9, number)]);
+    assert!(refused.iter().all(|&count| count >= 500), "{refused:?}");
+    let lodgings: Vec<_> = shares.lodgings.counts().collect();
+    let cancellations: Vec<_> = shares.cancellations.counts().collect();
+    for counts in [lodgings, cancellations] {
+        assert!(counts[0].1 * 3 >= shares.records, "{counts:?}");
+        assert!(counts.iter().all(|(_, count)| *count >= 500), "{counts:?}");
     }
 }
 

@@ -50,6 +50,7 @@ fn refused_calls_are_writable() {
     assert_eq!(text(&of(2, &[0; 5], &[&[]])), format!("02{:024}\n", 0));
     assert_eq!(text(&of(4, &[0], &[&[], &[]])), "040000\n");
     assert_eq!(text(&of(7, &[0], &[&[], &[]])), "070000\n");
+    assert_eq!(text(&of(9, &[0], &[])), "0900\n");
 }
 
 /// Each field holds the highest number of its width and none above; widths as the paper has them.
@@ -62,6 +63,7 @@ fn widths() {
         (of(4, &[0], &[&[0, 0], &[0, 0]]), &[2, 8, 8, 8, 8]),
         (of(6, &[0], &[]), &[8]),
         (of(7, &[0], &[&[0, 0], &[0, 0]]), &[2, 8, 8, 8, 8]),
+        (of(9, &[0], &[]), &[2]),
     ] {
         for (place, width) in widths.iter().enumerate() {
             let with = |number: u64| {

@@ -20,6 +20,7 @@ fn before_set_up() -> Script {
         .then(lodgings_refused)
         .then(openings_refused)
         .then(offers_refused)
+        .cancel(&[2, 33])
         .close()
         .set_up(SETTINGS)
 }
@@ -28,6 +29,7 @@ fn before_the_first_round() -> Script {
     registered()
         .then(set_ups_refused)
         .then(offers_refused)
+        .cancel(&[2, 33])
         .close()
         .register(&[(5, 5, NEW, &[10])])
 }
@@ -48,6 +50,7 @@ fn in_between_rounds() -> Script {
         .then(registrations_refused)
         .then(lodgings_refused)
         .then(offers_refused)
+        .cancel(&[2, 33])
         .close()
         .open(25_000)
 }
@@ -59,6 +62,7 @@ fn once_closed() -> Script {
         .then(lodgings_refused)
         .then(openings_refused)
         .then(offers_refused)
+        .cancel(&[2, 33])
         .close()
 }
 
