@@ -2,9 +2,9 @@
  * A deliberately wrong engine over the right one, to see that the comparisons report a fault.
  * WRONG in the environment names it: demand (one kWh more), remainder (that of the quotient, which
  * is CE less the right one), digit (the last digit of the replies), behind (the byte behind the
- * replies), mark (that of the second price is never short), step (the last digit of an offer's
- * frame), width (an opening's price cut to its field) or kind (a lodging written as an offer);
- * without it the engine is right.
+ * replies), mark (that of the second price is never short), order (the first two awards change
+ * places), step (the last digit of an offer's frame), width (an opening's price cut to its field) or
+ * kind (a lodging written as an offer); without it the engine is right.
  */
 #include "reference_engine.h"
 #include <stdlib.h>
@@ -37,14 +37,29 @@ uint64_t demand_remainder(uint64_t ce, uint64_t d, uint64_t m1, uint64_t m2, uin
     return answer > 0 && answer < ce && fault("remainder") ? ce - answer : answer;
 }
 
-/* Sets the mark at the end of each accepted settling's reply to 00. */
-static void unmark(uint8_t *replies, uint64_t written) {
+/* Where the awards of a settling's reply begin, the digits of each, and those behind them. */
+enum { AWARDS = 50, AWARD = 12, BEHIND = 18 };
+
+/* The faults of an accepted settling's reply, which has so many characters. */
+static void settle_wrong(uint8_t *reply, uint64_t length) {
+    if (fault("mark"))
+        reply[length - 1] = '0';
+    if (fault("order") && length >= AWARDS + 2 * AWARD + BEHIND) {
+        uint8_t first[AWARD], *awards = reply + AWARDS;
+        memcpy(first, awards, AWARD);
+        memcpy(awards, awards + AWARD, AWARD);
+        memcpy(awards + AWARD, first, AWARD);
+    }
+}
+
+/* The faults of all settlings' replies. */
+static void settlings_wrong(uint8_t *replies, uint64_t written) {
     uint64_t start = 0;
     for (uint64_t end = 0; end < written; end++) {
         if (replies[end] != '\n')
             continue;
-        if (end - start > 6 && memcmp(replies + start, "0600", 4) == 0)
-            replies[end - 1] = '0';
+        if (end - start > AWARDS && memcmp(replies + start, "0600", 4) == 0)
+            settle_wrong(replies + start, end - start);
         start = end + 1;
     }
 }
@@ -56,8 +71,7 @@ uint64_t replay(const uint8_t *record, size_t record_length, uint8_t *replies,
         return written;
     if (fault("digit"))
         replies[written - 2] ^= 1;
-    if (fault("mark"))
-        unmark(replies, written);
+    settlings_wrong(replies, written);
     if (fault("behind") && written < replies_length)
         replies[written] ^= 1;
     return written;

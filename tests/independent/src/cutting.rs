@@ -41,6 +41,13 @@ fn changes(auction: &mut Auction, call: &Call) -> bool {
     !matches!(call, Call::Settle { .. }) && make(auction, call).is_ok()
 }
 
+/// The places of refused calls and malformed lines, by the replies to them.
+pub fn refused(replies: &[u8]) -> BTreeSet<usize> {
+    let replies = lines(replies).into_iter().enumerate();
+    let refused = replies.filter(|(_, reply)| reply[2..4] != *b"00");
+    refused.map(|(place, _)| place).collect()
+}
+
 /// The lines of a text but those at the places, each with its 0A.
 pub fn without(text: &[u8], places: &BTreeSet<usize>) -> Vec<u8> {
     let lines = lines(text).into_iter().enumerate();

@@ -7,6 +7,7 @@ pub mod auction;
 pub mod calls;
 pub mod cutting;
 mod demand;
+pub mod direct;
 pub mod lent;
 pub mod parts;
 pub mod program;

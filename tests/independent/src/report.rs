@@ -5,6 +5,7 @@
 
 mod cancellations;
 mod closings;
+mod cut;
 mod features;
 mod lodgings;
 mod remainders;
@@ -15,6 +16,7 @@ use crate::replay::lines;
 use crate::settling::Settlement;
 pub use cancellations::{Cancellations, CANCELLATIONS};
 pub use closings::Closings;
+use cut::Cut;
 pub use features::Features;
 pub use lodgings::{Lodgings, LODGINGS};
 pub use remainders::Remainders;
@@ -60,8 +62,7 @@ pub struct Group {
     remainders: Remainders,
     lodgings: Features<Lodgings>,
     cancellations: Features<Cancellations>,
-    /// Lines that were cut with cancelled offers.
-    cut: u64,
+    cut: Cut,
     searches: Features<Settlement>,
     /// Words of traces by their names.
     words: BTreeMap<String, u64>,
@@ -80,7 +81,7 @@ impl Group {
             remainders: Remainders::default(),
             lodgings: Features::new(LODGINGS),
             cancellations: Features::new(CANCELLATIONS),
-            cut: 0,
+            cut: Cut::default(),
             searches: Features::new(SEARCHES),
             words: BTreeMap::new(),
             difference: None,
@@ -113,7 +114,7 @@ impl Group {
         self.remainders.join(&other.remainders);
         self.lodgings.join(&other.lodgings);
         self.cancellations.join(&other.cancellations);
-        self.cut += other.cut;
+        self.cut.join(&other.cut);
         self.searches.join(&other.searches);
         add(&mut self.words, other.words);
         self.difference = self.difference.take().or(other.difference);
@@ -140,9 +141,10 @@ impl Group {
         self.written += 1;
     }
 
-    /// Counts lines of a record that was replayed without them.
-    pub fn count_cut(&mut self, lines: usize) {
-        self.cut += lines as u64;
+    /// Counts a record with these replies that was replayed without so many lines of cancelled
+    /// offers, and without so many that were refused.
+    pub fn count_cut(&mut self, replies: &[u8], cancelled: usize, refused: usize) {
+        self.cut.count(replies, cancelled, refused);
     }
 
     /// Counts the settlement of a record.
@@ -188,9 +190,7 @@ impl Group {
         self.remainders.print();
         self.lodgings.print("lodgings by record");
         self.cancellations.print("cancellations by record");
-        if self.cut > 0 {
-            println!("  lines cut with cancelled offers: {}", self.cut);
-        }
+        self.cut.print();
         if !self.words.is_empty() {
             println!("  words: {}", listed_counts(&self.words));
         }

@@ -26,7 +26,7 @@ pub struct Settlement {
     pub choices: u64,
     /// The number of covering ones among them.
     pub covering: u64,
-    /// One for each project above 0, by rising project. The paper leaves the order free.
+    /// One for each project above 0, by rising project (document 02, request 8).
     pub awards: Vec<Award>,
     /// The totals of the complete choices that document 02's request 3 does not set aside; the
     /// result tells how many they are.
@@ -144,7 +144,7 @@ impl Auction {
             .collect()
     }
 
-    /// Checks: 2, 10, 11. The award records go to the start of the lent buffer.
+    /// Checks: 2, 10, 11. The award records go to the start of the lent buffer, by rising project.
     pub fn settle(&self, limit: u64, buffer: &mut [u8]) -> Result<Settlement, u8> {
         require(*self.phase() == Phase::Closed, NOT_IN_THIS_PHASE)?;
         let p = self.closing_price();

@@ -68,9 +68,7 @@ fn settled(settlement: &Settlement) -> String {
     ]
     .map(|(name, number)| format!("{name} {number}\n"))
     .concat();
-    let mut awards = settlement.awards.clone();
-    awards.sort_by_key(|award| award.project);
-    for award in awards {
+    for award in &settlement.awards {
         let (project, developer, quantity) = (award.project, award.developer, award.quantity);
         text += &format!("award {project} {developer} {quantity}\n");
     }

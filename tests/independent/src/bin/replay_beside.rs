@@ -1,23 +1,25 @@
 //! Runs the engine's replay call beside the independent implementation.
 //! Each record is replayed into buffers that are one byte too short, exact, and longer; every
 //! byte of them, and of their surroundings, is compared. Each well-formed line is also written
-//! again by the engine, which has to give the same bytes, with their 0A. A record with cancelled
-//! offers is also replayed by the engine without them, which has to give the rest of its replies.
+//! again by the engine, which has to give the same bytes, with their 0A. A record is also replayed
+//! by the engine without its cancelled offers, and without all that was refused; each has to give
+//! the rest of its replies, and whole buffers.
 //! One line a group of records: their replies by kind and answer, and `ok` or the first
 //! difference; below it, how many lines were written again, how many rounds closed where the
 //! closing rule decides, how many closings and settlings had a remainder, what lodged lists and
-//! cancellations did, and how many lines were cut. The exit status is 0 only if no group differs.
+//! cancellations did, and how much was cut. The exit status is 0 only if no group differs.
 
 #[path = "../engine.rs"]
 mod engine;
 
-use independent::cutting::{cancelled, without};
+use independent::cutting::{cancelled, refused, without};
 use independent::lent::{difference, lend};
 use independent::random::Random;
 use independent::records::{edges, fixed, records_of, Records};
 use independent::replay::{fields, lines, read_call, replay, write_replies, Call};
 use independent::report::{few, inputs, verdict, Group};
 use independent::sample;
+use std::collections::BTreeSet;
 use std::process::ExitCode;
 
 fn main() -> ExitCode {
@@ -60,30 +62,28 @@ fn compare(group: &mut Group, record: &[u8]) {
     let independent = replay(record);
     group.count(record, &independent);
     for length in lengths_around(independent.len()) {
-        compare_lent(group, record, &independent, length);
+        compare_lent(group, record, ("independent", &independent), length);
     }
     for line in lines(record) {
         if let Some(call) = read_call(line) {
             write_again(group, line, &call);
         }
     }
-    compare_cut(group, record, independent.len());
+    let (cancelled, refused) = (cancelled(record), refused(&independent));
+    group.count_cut(&independent, cancelled.len(), refused.len());
+    compare_cut(group, record, &independent, &cancelled);
+    compare_cut(group, record, &independent, &refused);
 }
 
-/// The engine's replies to a record without its cancelled offers, beside the rest of those to the
-/// whole (document 02, request 7).
-fn compare_cut(group: &mut Group, record: &[u8], length: usize) {
-    let places = cancelled(record);
-    if places.is_empty() {
-        return;
-    }
-    group.count_cut(places.len());
-    let cut = without(record, &places);
-    let rest = without(&engines_replies(record, length), &places);
-    let replies = engines_replies(&cut, length);
-    if replies != rest {
-        let replies = [("engine", &replies[..]), ("rest of the whole", &rest)];
-        group.differ("cancelled offers are cut", &cut, replies);
+/// The engine's replies to a record without the lines at the places, beside the rest of those to the
+/// whole: its cancelled offers (document 02, request 7), or all that was refused (request 8).
+fn compare_cut(group: &mut Group, record: &[u8], replies: &[u8], places: &BTreeSet<usize>) {
+    if !places.is_empty() {
+        let rest = without(&engines_replies(record, replies.len()), places);
+        let cut = without(record, places);
+        for length in [rest.len(), rest.len() + 100] {
+            compare_lent(group, &cut, ("rest of the whole", &rest), length);
+        }
     }
 }
 
@@ -118,14 +118,13 @@ fn lengths_around(replies: usize) -> Vec<usize> {
     [replies].into_iter().chain(short).chain(longer).collect()
 }
 
-/// Compares a call with a buffer of so many bytes.
-fn compare_lent(group: &mut Group, record: &[u8], independent: &[u8], length: usize) {
+/// Compares a call with a buffer of so many bytes with replies, which have a name.
+fn compare_lent(group: &mut Group, record: &[u8], expected: (&str, &[u8]), length: usize) {
     let engine = lend(length, |buffer| engine::replay(record, buffer));
-    let expected = lend(length, |buffer| write_replies(independent, buffer));
-    if let Some(why) = difference(length, &engine, &expected) {
-        let engine = engines_replies(record, 2 * independent.len() + (1 << 16));
-        let replies = [("engine", &engine[..]), ("independent", independent)];
-        group.differ(&why, record, replies);
+    let as_expected = lend(length, |buffer| write_replies(expected.1, buffer));
+    if let Some(why) = difference(length, &engine, &as_expected) {
+        let engine = engines_replies(record, 2 * expected.1.len() + (1 << 16));
+        group.differ(&why, record, [("engine", &engine), expected]);
     }
 }
 
@@ -143,7 +142,7 @@ fn sample_record() -> Group {
     compare_stated(&mut group, sample::RECORD, sample::REPLY);
     let (record, reply) = (sample::RECORD.as_bytes(), sample::REPLY.as_bytes());
     for length in 0..reply.len() {
-        compare_lent(&mut group, record, reply, length);
+        compare_lent(&mut group, record, ("stated", reply), length);
     }
     group
 }

@@ -1,7 +1,9 @@
 //! What document 01's rules imply for settlings, on those of generated records.
 
-use super::{choices, SETTLINGS};
+use super::{choices, each_step, RECORDS, SETTLINGS};
 use crate::auction::{Auction, Developer};
+use crate::cutting::{refused, without};
+use crate::replay::replay;
 use crate::settling::{Award, Settlement};
 use std::cmp::Reverse;
 
@@ -184,5 +186,45 @@ fn limits_and_buffers() {
         let short = auction.settle(u64::MAX, &mut untouched[..exact - 1]);
         assert_eq!(short, Err(11));
         assert_eq!(untouched, [0xEE; 192]);
+    });
+}
+
+/// Without the refused calls the auction is equal, and each accepted settling gives the same answer
+/// and the same whole buffer (document 02, request 8).
+#[test]
+fn determined_by_accepted_calls() {
+    let mut settled = 0;
+    for record in &RECORDS[..2_000] {
+        let replies = replay(record);
+        let places = refused(&replies);
+        let accepted = without(record, &places);
+        assert_eq!(replay(&accepted), without(&replies, &places));
+        let (whole, rest) = (each_step(record, |_| ()), each_step(&accepted, |_| ()));
+        assert!(whole == rest);
+        let settles = |auction: &Auction| {
+            let mut buffer: Vec<u8> = (0..200).collect();
+            let answer = auction.settle(u64::MAX, &mut buffer);
+            (answer, buffer)
+        };
+        let (answer, buffer) = settles(&whole);
+        settled += u64::from(answer.is_ok() && !places.is_empty());
+        assert_eq!(settles(&rest), (answer, buffer));
+    }
+    assert!(settled >= 1_000, "{settled} settled");
+}
+
+/// The buffer after an accepted settling: the records by rising project number, then the old bytes.
+#[test]
+fn records_by_rising_project() {
+    each_settling(|auction, settlement| {
+        let old: Vec<u8> = (0..200).map(|place| 0xC0 ^ place).collect();
+        let mut buffer = old.clone();
+        assert_eq!(auction.settle(65_536, &mut buffer).as_ref(), Ok(settlement));
+        let (records, behind) = buffer.split_at(6 * settlement.awards.len());
+        assert_eq!(*behind, old[records.len()..]);
+        let projects: Vec<u8> = records.chunks(6).map(|record| record[0]).collect();
+        assert!(projects.is_sorted_by(|before, after| before < after));
+        let awarded = settlement.awards.iter().map(|award| award.project);
+        assert!(awarded.eq(projects));
     });
 }

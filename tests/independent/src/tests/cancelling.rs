@@ -119,7 +119,7 @@ fn cut_records() {
     let fixed = fixed::groups().into_iter().flat_map(|(_, records)| records);
     let fixed: Vec<Vec<u8>> = fixed.collect();
     let (mut cut, mut lines_cut) = (0, 0);
-    for record in RECORDS[..5_000].iter().chain(&fixed) {
+    for record in RECORDS[..3_000].iter().chain(&fixed) {
         let places = cancelled(record);
         if places.is_empty() {
             continue;
@@ -131,7 +131,7 @@ fn cut_records() {
         (cut, lines_cut) = (cut + 1, lines_cut + places.len());
     }
     println!("{cut} records, {lines_cut} lines cut");
-    assert!(cut > 1_500 && lines_cut > 5_000, "{cut}, {lines_cut}");
+    assert!(cut > 1_000 && lines_cut > 5_000, "{cut}, {lines_cut}");
 }
 
 /// No accepted cancellation is left in a record that is cut.

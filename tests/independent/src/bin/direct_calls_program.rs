@@ -1,0 +1,122 @@
+//! Runs the engine's program `direct_calls`, whose path is the argument, on random auctions and
+//! compares what it prints with the independent implementation: the answers of all calls and, for
+//! each settling, every byte of the lent buffer. Each auction is run a second time without its
+//! refused calls, which has to give the same answers and buffers (document 02, request 8).
+//! One line with what was seen, and `ok` or the first difference; the exit status is 0 only if
+//! nothing differs.
+
+use independent::direct::{auction, printed, Line};
+use independent::parts::in_parts;
+use independent::program::{run, AT_ONCE};
+use std::ffi::OsStr;
+use std::process::{Command, ExitCode};
+
+const AUCTIONS: u64 = 1_000;
+
+fn main() -> ExitCode {
+    let Some(program) = std::env::args_os().nth(1) else {
+        eprintln!("direct_calls_program: the program's path is missing");
+        return ExitCode::FAILURE;
+    };
+    let seeds: Vec<u64> = (0..AUCTIONS).collect();
+    let parts = in_parts(&seeds, |seeds| {
+        let mut seen = Seen::default();
+        seeds.iter().for_each(|&seed| seen.compare(&program, seed));
+        seen
+    });
+    let mut seen = Seen::default();
+    parts.into_iter().for_each(|part| seen.join(part));
+    seen.report()
+}
+
+#[derive(Default)]
+struct Seen {
+    /// Auctions with an accepted settling.
+    settled: u64,
+    /// Accepted settlings, and those of several award records.
+    settlings: u64,
+    several_records: u64,
+    accepted: u64,
+    refused: u64,
+    difference: Option<String>,
+}
+
+impl Seen {
+    fn compare(&mut self, program: &OsStr, seed: u64) {
+        let lines = auction(seed);
+        let all: String = lines.iter().map(|line| &line.text[..]).collect();
+        let accepted = lines.iter().filter(|line| line.accepted);
+        let accepted: String = accepted.map(|line| &line.text[..]).collect();
+        let expected = printed(&all);
+        self.count(&lines, &expected);
+        let whole = self.run(program, &all, &expected);
+        let lines = whole.lines().zip(&lines);
+        let rest = lines.filter(|(_, line)| line.accepted);
+        let rest: String = rest.map(|(printed, _)| format!("{printed}\n")).collect();
+        self.run(program, &accepted, &rest);
+    }
+
+    /// What the program prints, which has to be as expected.
+    fn run(&mut self, program: &OsStr, input: &str, expected: &str) -> String {
+        let printed = match run(Command::new(program), input.as_bytes(), AT_ONCE) {
+            Ok(output) => String::from_utf8_lossy(&output.stdout).into_owned(),
+            Err(error) => error.to_string(),
+        };
+        if printed != expected {
+            self.difference.get_or_insert_with(|| {
+                format!("differs:\n{input}program:\n{printed}\nexpected:\n{expected}")
+            });
+        }
+        printed
+    }
+
+    fn count(&mut self, lines: &[Line], printed: &str) {
+        let accepted = lines.iter().filter(|line| line.accepted).count() as u64;
+        self.accepted += accepted;
+        self.refused += lines.len() as u64 - accepted;
+        let settlings = printed.lines().filter(|line| line.starts_with("6 0 "));
+        let records: Vec<u64> = settlings.map(records).collect();
+        self.settled += u64::from(!records.is_empty());
+        self.settlings += records.len() as u64;
+        self.several_records += records.iter().filter(|&&count| count > 1).count() as u64;
+    }
+
+    /// With what was seen elsewhere.
+    fn join(&mut self, other: Seen) {
+        self.settled += other.settled;
+        self.settlings += other.settlings;
+        self.several_records += other.several_records;
+        self.accepted += other.accepted;
+        self.refused += other.refused;
+        self.difference = self.difference.take().or(other.difference);
+    }
+
+    fn report(&self) -> ExitCode {
+        println!(
+            "direct calls: {AUCTIONS} auctions, {} settle, each also without its refused calls; {} \
+             calls accepted, {} refused; {} settlings accepted, {} with several records: {}",
+            self.settled,
+            self.accepted,
+            self.refused,
+            self.settlings,
+            self.several_records,
+            self.difference.as_deref().unwrap_or("ok")
+        );
+        // Too few would show nothing.
+        let enough = self.settled >= AUCTIONS / 2 && self.refused >= AUCTIONS;
+        if self.difference.is_none() && enough {
+            ExitCode::SUCCESS
+        } else {
+            ExitCode::FAILURE
+        }
+    }
+}
+
+/// The number of award records in the line of an accepted settling.
+fn records(line: &str) -> u64 {
+    let number = line
+        .split(' ')
+        .nth(7)
+        .and_then(|number| number.parse().ok());
+    number.expect("the number of records")
+}
