@@ -4,3 +4,4 @@ pub mod Lists
 pub mod OneTo
 pub mod ListLaws
 pub mod Tails
+pub mod Falling

@@ -51,7 +51,7 @@ offer-fits {l} {n} {ss} r e =
 pub lodged-fits : {l : Ledger} {n : ℕ} → Registered l n → length (l .developers n .withdrawals) + length (l .developers n .lodged) ≤ 8
 lodged-fits {l} {n} r = behind-few (l .developers n .lodged) (r .developer) (r .lodged .levels)
 
-descends-each : (c a : ℕ) (w : Step) (ws : List Step) → List·Memᴰ w ws → Descends c a ws → (c ≤ w .price) × (w .price ≤ a)
+pub descends-each : (c a : ℕ) (w : Step) (ws : List Step) → List·Memᴰ w ws → Descends c a ws → (c ≤ w .price) × (w .price ≤ a)
 unfolding Descends
 descends-each c a w [] m d = absurd (List·Memᴰ·not-nil m)
 descends-each c a w (u ∷ ws) m d = ⊎-elim

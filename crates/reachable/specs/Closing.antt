@@ -30,7 +30,7 @@ module _ (l : Ledger) (x : Developer) (g : SoundLodged (floor l) (l .opening) x)
       (λ i. reached-lowers (x .declared .levels) (x .quantity) (floor l) (l .opening) (l .closing) (l .opening) (x .lodged) (le-refl _) (g .prices) (g .levels))
   added-lowers (made ss) h = h .levels
 
-  added-descends : l .closing ≤ l .opening → (o : Standing) → SoundOffer l x o → Descends (l .closing) (l .opening) (added (l .closing) (l .opening) x o)
+  pub added-descends : l .closing ≤ l .opening → (o : Standing) → SoundOffer l x o → Descends (l .closing) (l .opening) (added (l .closing) (l .opening) x o)
   unfolding SoundOffer added Descends
   added-descends k none h = by-missing (Descends (l .closing) (l .opening)) (l .closing) (l .opening) x
       (λ i q. (k, le-refl (l .opening), tt))

@@ -1,0 +1,1 @@
+// The supply curve of a ledger: definitions and laws, in specs/; no code.
