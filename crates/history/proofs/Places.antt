@@ -1,13 +1,14 @@
 -- Histories that agree, and the places of a list with zeros behind it: what stands there, and a store behind the last.
-use Prim.Native.Nat.{ℕ, suc, _+_, _-_, _≤_, _<_}
+use Prim.Native.Nat.{ℕ, _+_, _-_, _≤_, _<_}
 use mathlib.Core.Path.{_≡_, sym, ap, _∙_}
 use mathlib.Core.List.{List, [], _∷_, _++_, map, append-assoc}
 use native.Mathlib.Omega.{arith}
 use native.Mathlib.Nat.{zero-add, suc-add}
 use native.Mathlib.Numerals.{add-one}
 use lib.ListN.{length, getD, take, set, replicate, length-append, length-map, List·getD-append, List·getD-map}
-use lib.Seq.{set-append-seam, take-suc, length-take-le}
+use lib.Seq.{take-suc, length-take-le}
 use Rattle.numbers.specs.Lists.{padded}
+pub use Rattle.numbers.specs.Padded.{padded-more}
 use Rattle.rules.specs.Ledger.{Step}
 use Rattle.history.specs.declared.History.{History}
 
@@ -24,18 +25,13 @@ pub lodged-of : {h g : History} → h ≡ g → h .lodged ≡ g .lodged
 lodged-of e = ap (λ (x : History). x .lodged) e
 
 module _ (k : ℕ) where
-  pub padded-more : (xs : List ℕ) (n x : ℕ) → length xs ≡ n → n < k → set (padded k xs) n x ≡ padded k (xs ++ (x ∷ []))
-  padded-more xs n x e h =
-      let f : k - length xs ≡ suc (k - length (xs ++ (x ∷ []))) = omega (arith, length-append xs (x ∷ [])) in
-      rw (f, ← e) (set-append-seam xs 0 (replicate (k - length (xs ++ (x ∷ []))) 0) x ∙ sym (append-assoc xs (x ∷ []) (replicate (k - length (xs ++ (x ∷ []))) 0)))
-
   -- the next element of ys stored behind xs and those before it
   pub padded-next :
       (xs ys : List ℕ) (n i : ℕ) → length xs ≡ n → i < length ys → n + length ys ≤ k →
       set (padded k (xs ++ take i ys)) (n + i) (getD ys i 0) ≡ padded k (xs ++ take (i + 1) ys)
   padded-next xs ys n i e h w =
       let l : length (xs ++ take i ys) ≡ n + i = omega (arith, length-append xs (take i ys), length-take-le i ys (omega arith)) in
-      padded-more (xs ++ take i ys) (n + i) (getD ys i 0) l (omega arith)
+      padded-more k (xs ++ take i ys) (n + i) (getD ys i 0) l (omega arith)
       ∙ ap (padded k) (append-assoc xs (take i ys) (getD ys i 0 ∷ []) ∙ ap (λ (zs : List ℕ). xs ++ zs) (sym (rw add-one (take-suc ys i 0 h))))
 
 abbrev pub noStep : Step

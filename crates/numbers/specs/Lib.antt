@@ -5,3 +5,4 @@ pub mod OneTo
 pub mod ListLaws
 pub mod Tails
 pub mod Falling
+pub mod Padded

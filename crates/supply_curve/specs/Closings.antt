@@ -48,8 +48,12 @@ flatten-few b (xs ∷ xss) h = omega (arith, length-append xs (flatten xss), h x
 
 prices-few : (b : ℕ) (l : Ledger) → ((n : ℕ) → length (l .developers n .withdrawals) ≤ b) → length (supplyCurve l) ≤ 32 * b
 unfolding supplyCurve withdrawalPrices
-prices-few b l h = omega (arith, length-map (distinctFalling (withdrawalPrices l)) (pointAt l), distinct-length (withdrawalPrices l),
-    subst (λ (n : ℕ). length (flatten (map by (oneTo 32))) ≤ n * b) (length-map (oneTo 32) by ∙ length-one-to 32) (flatten-few b (map by (oneTo 32)) each))
+prices-few b l h = omega (
+  arith,
+  length-map (distinctFalling (withdrawalPrices l)) (pointAt l),
+  distinct-length (withdrawalPrices l),
+  subst (λ (n : ℕ). length (flatten (map by (oneTo 32))) ≤ n * b) (length-map (oneTo 32) by ∙ length-one-to 32) (flatten-few b (map by (oneTo 32)) each),
+)
   where
     by : ℕ → List ℕ
     by n = map (λ w. w .price) (l .developers n .withdrawals)
@@ -165,8 +169,8 @@ module _ (l : Ledger) (s : Sound l) (round : l .phase ≡ Round) where
   more-descends n = ⊎-elim
       (λ e. rw e tt)
       (λ r.
-          let g = subst (λ (p : Phase). SoundLodged (floor l) (appliedTo p l) (l .developers n)) round (r .lodged) in
-          added-descends l (l .developers n) g (let q = prices in omega arith) (l .developers n .offer) (r .offer))
+      let g = subst (λ (p : Phase). SoundLodged (floor l) (appliedTo p l) (l .developers n)) round (r .lodged) in
+      added-descends l (l .developers n) g (let q = prices in omega arith) (l .developers n .offer) (r .offer))
       (s .each n)
 
   before-bound : (n : ℕ) (w : Step) → List·Memᴰ w (l .developers n .withdrawals) → (o ≤ w .price) × (w .price ≤ l .settings .a)
@@ -189,23 +193,29 @@ module _ (l : Ledger) (s : Sound l) (round : l .phase ≡ Round) where
     (λ m.
         let r = withdrawal-prices-in next p .0 (distinct-in p (withdrawalPrices next) .0 m) in
         let w = r .1 in
-        distinct-in p (withdrawalPrices l) .1 (withdrawal-prices-in l p .1 (r .0, record {
-          number-low = w .number-low;
-          number-high = w .number-high;
-          step = w .step;
-          withdrawn = ⊎-elim (λ k. k) (λ k. absurd (omega (arith, h, w .at-price, more-bound (r .0) (w .step) k .1))) (List·Memᴰ·append-cases (l .developers (r .0) .withdrawals) (w .withdrawn));
-          at-price = w .at-price;
-        }))),
+        distinct-in p (withdrawalPrices l) .1 (withdrawal-prices-in l p .1 (
+          r .0,
+          record {
+            number-low = w .number-low;
+            number-high = w .number-high;
+            step = w .step;
+            withdrawn = ⊎-elim (λ k. k) (λ k. absurd (omega (arith, h, w .at-price, more-bound (r .0) (w .step) k .1))) (List·Memᴰ·append-cases (l .developers (r .0) .withdrawals) (w .withdrawn));
+            at-price = w .at-price;
+          },
+        ))),
     (λ m.
         let r = withdrawal-prices-in l p .0 (distinct-in p (withdrawalPrices l) .0 m) in
         let w = r .1 in
-        distinct-in p (withdrawalPrices next) .1 (withdrawal-prices-in next p .1 (r .0, record {
-          number-low = w .number-low;
-          number-high = w .number-high;
-          step = w .step;
-          withdrawn = Memᴰ·append-left (more (r .0)) (w .withdrawn);
-          at-price = w .at-price;
-        }))),
+        distinct-in p (withdrawalPrices next) .1 (withdrawal-prices-in next p .1 (
+          r .0,
+          record {
+            number-low = w .number-low;
+            number-high = w .number-high;
+            step = w .step;
+            withdrawn = Memᴰ·append-left (more (r .0)) (w .withdrawn);
+            at-price = w .at-price;
+          },
+        ))),
   )
 
   front-prices : keep (leb (suc o)) (curvePrices next) ≡ keep (leb (suc o)) (curvePrices l)
@@ -219,8 +229,8 @@ module _ (l : Ledger) (s : Sound l) (round : l .phase ≡ Round) where
   unfolding supplyCurve pointsFrom
   front-kept =
       trimmed-points l o (curvePrices l) (curve-falls l) (λ p m.
-          let r = withdrawal-prices-in l p .0 (distinct-in p (withdrawalPrices l) .0 m) in
-          omega (arith, r .1 .at-price, before-bound (r .0) (r .1 .step) (r .1 .withdrawn) .0))
+      let r = withdrawal-prices-in l p .0 (distinct-in p (withdrawalPrices l) .0 m) in
+      omega (arith, r .1 .at-price, before-bound (r .0) (r .1 .step) (r .1 .withdrawn) .0))
       ∙ ap (map (pointAt l)) (sym front-prices)
       ∙ map-same (pointAt l) (pointAt next) _ (λ p m. sym (point-kept p (leb-true (suc o) p (in-keep (leb (suc o)) p (curvePrices next) .0 m .1))))
 

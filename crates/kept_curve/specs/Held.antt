@@ -1,0 +1,44 @@
+-- How the engine keeps a supply curve, and what the functions over it ensure.
+use Prim.Native.Nat.{ℕ, zero, suc, _+_, _*_, _%_, _≤_, _<_}
+use mathlib.Core.Path.{_≡_}
+use mathlib.Core.List.{List, [], _∷_, _++_, map}
+use lib.ListN.{length, getD}
+use Rattle.numbers.specs.Lists.{padded}
+use Rattle.numbers.specs.ListLaws.{Each}
+use Rattle.supply_curve.specs.Curve.{Point, noPoint}
+use Rattle.supply_curve.specs.CurveLaws.{Joined}
+use Rattle.supply_curve.specs.Closings.{trimmed}
+use Rattle.kept_curve.specs.declared.Curve.{Curve}
+use Rattle.kept_curve.specs.declared.CurvePoint.{CurvePoint}
+
+-- a point's word: its price times 2^40, and the supply after it
+abbrev pub wordOf : Point → ℕ
+wordOf x = x .price * 1099511627776 + x .after
+
+unfoldable pub heldCurve : List Point → Curve
+heldCurve xs = record { words = padded 256 (map wordOf xs); count = length xs }
+
+-- a point that a word holds
+pub record Fits (x : Point) : Type 0 where
+  pub price-high : x .price ≤ 1000000
+  pub after-high : x .after < 1099511627776
+
+-- without the last point where that stands at p
+pub record Trimmed (c : Curve) (p : ℕ) (r : Curve) : Type 0 where
+  pub right : (xs : List Point) → c ≡ heldCurve xs → length xs ≤ 256 → Each Fits xs → r ≡ heldCurve (trimmed p xs)
+
+-- with the point x more
+pub record WithPoint (c : Curve) (price after : ℕ) (r : Curve) : Type 0 where
+  pub right : (xs : List Point) (x : Point) → c ≡ heldCurve xs → length xs < 256 → Fits x → price ≡ x .price → after ≡ x .after → r ≡ heldCurve (xs ++ (x ∷ []))
+
+-- the supply after the point before a place
+unfoldable pub supplyBefore : List ℕ → ℕ → ℕ → ℕ
+supplyBefore words first zero = first
+supplyBefore words first (suc i) = getD words i 0 % 1099511627776
+
+abbrev pub pointIn : CurvePoint → Point
+pointIn r = record { price = r .price; before = r .before; after = r .after }
+
+-- the point at a place, zero past the end
+pub record PointAt (c : Curve) (first place : ℕ) (r : CurvePoint) : Type 0 where
+  pub right : (xs : List Point) → c ≡ heldCurve xs → length xs ≤ 256 → Each Fits xs → Joined first xs → pointIn r ≡ getD xs place noPoint
