@@ -3,12 +3,13 @@
 use Prim.Native.Nat.{ℕ, _/_}
 use mathlib.Core.Path.{_≡_, refl, ap, ap₂, _∙_}
 use mathlib.Core.Bool.{Bool, true, false, cond}
+use mathlib.Core.List.{List}
 use native.Mathlib.Omega.{arith}
 use lib.IntN.{ℤ, pos, _-ℤ_}
 use borrow.Author.Tests.{eq-eqb, ne-eqb}
 use Rattle.rules.specs.Ledger.{Close, Round, Between, Closed, Ledger, withDevelopers}
 use Rattle.curve.specs.Demand.{InBounds, InRange}
-use Rattle.rules.specs.Clearing.{demandAt, remainderAt}
+use Rattle.rules.specs.Clearing.{ofEach, demandAt, remainderAt}
 use Rattle.rules.specs.Refusals.{isFresh, inRound, floor, number}
 use Rattle.rules.specs.Rounds.{applied, supplyAfter, clears, phaseAfter, accepted, excess, Answered, granted}
 use Rattle.sound.specs.Sound.{started, Sound}
@@ -18,32 +19,38 @@ use Rattle.reachable.specs.Bounds.{closing-in-range}
 use Rattle.supply.specs.ByProject.{supplyOf}
 use Rattle.supply.specs.ByProjectLaws.{supply-of}
 use Rattle.auction.specs.declared.Auction.{Auction}
-use Rattle.auction.specs.Holds.{phaseNumber, auctionOf}
-use Rattle.auction.specs.Called.{Called, OffersApplied}
-use Rattle.auction.specs.Parts.{withClock, clock-held}
-use Rattle.auction.specs.Tests.{demandBy, remainderBy, phaseNumberAfter}
+use Rattle.auction.specs.Holds.{phaseNumber, heldCourse, auctionOf}
+use Rattle.auction.specs.Called.{Called}
+use Rattle.auction.specs.Parts.{withClock, clock-held, withCourses, courses-held}
+use Rattle.courses.specs.declared.Courses.{Courses}
+use Rattle.courses.specs.Courses.{afterRound, OffersApplied}
+use Rattle.clock.specs.Tests.{demandBy, remainderBy, phaseNumberAfter}
 use Rattle.auction.proofs.Calls.{Refused, refused, Taken, taken}
 use Rattle.auction.proofs.Phases.{round-is}
-use Rattle.auction.specs.Demands.{demand-is, remainder-is}
+use Rattle.clock.specs.Demands.{demand-is, remainder-is}
 
 pub close-phase : (a : Auction) → (a .phase ≡ 2 → ⊥) → Refused Close a 2
 unfolding number
 close-phase a z = refused Close a 2 (omega arith) (λ l s h. simp (round-is a l h ∙ ne-eqb _ 2 z))
 
--- what the engine computed of the auction a: b with the offers applied, supply, demand at C with its remainder, the phase and the excess
-pub record Computed (a b : Auction) (supply demand remainder phase : ℕ) (excess : ℤ) : Type 0 where
+-- what the engine computed of the auction a: the courses b with the offers applied, supply, demand at C with its remainder, the phase and the
+-- excess
+pub record Computed (a : Auction) (b : Courses) (supply demand remainder phase : ℕ) (excess : ℤ) : Type 0 where
   pub round : a .phase ≡ 2
-  pub applied : OffersApplied a b
-  pub supply-is : supply ≡ supplyOf (b .projects) (b .quantities)
+  pub applied : OffersApplied (a .kinds) (a .quantities) (a .histories) (a .opening) (a .closing) b
+  pub supply-is : supply ≡ supplyOf (a .projects) (b .quantities)
   pub demand-is : demand ≡ demandBy (a .settings) (a .closing)
   pub remainder-is : remainder ≡ remainderBy (a .settings) (a .closing)
   pub phase-is : phase ≡ phaseNumberAfter (clears supply demand (a .closing) (a .settings .ce / 2))
   pub excess-is : excess ≡ pos supply -ℤ pos demand
 
-module _ (a b : Auction) (q d r n : ℕ) (e : ℤ) (k : Computed a b q d r n e) where
+module _ (a : Auction) (b : Courses) (q d r n : ℕ) (e : ℤ) (k : Computed a b q d r n e) where
   -- the auction with the offers applied, in its next phase
+  abbrev applied-only : Auction
+  applied-only = withCourses a (b .quantities) (b .histories)
+
   abbrev pub closed : Auction
-  closed = withClock b n (b .settings) (b .opening) (b .closing)
+  closed = withClock applied-only n (a .settings) (a .opening) (a .closing)
 
   module _ (l : Ledger) (s : Sound l) (h : a ≡ auctionOf l) where
     open-round : inRound (l .phase) ≡ true
@@ -58,9 +65,15 @@ module _ (a b : Auction) (q d r n : ℕ) (e : ℤ) (k : Computed a b q d r n e) 
     in-range : InRange (l .settings .ce) (l .closing)
     in-range = closing-in-range s (ap started round)
 
+    after : (b .quantities ≡ ofEach (λ x. afterRound l x .quantity) l) × (b .histories ≡ ofEach (λ x. heldCourse (afterRound l x)) l)
+    unfolding auctionOf
+    after = k .applied .right l s round (λ i. h i .kinds) (λ i. h i .quantities) (λ i. h i .histories) (λ i. h i .opening) (λ i. h i .closing)
+
     supply-held : q ≡ supplyAfter l
     unfolding auctionOf applied supplyAfter
-    supply-held = k .supply-is ∙ ap (λ (x : Auction). supplyOf (x .projects) (x .quantities)) (k .applied .right l s round h) ∙ supply-of (λ x. applied (l .closing) (l .opening) x .quantity) l
+    supply-held =
+        k .supply-is ∙ ap₂ (λ (ks qs : List ℕ). supplyOf ks qs) (λ i. h i .projects) (after .0)
+        ∙ supply-of (λ x. afterRound l x .quantity) l
 
     demand-held : d ≡ demandAt l (l .closing)
     unfolding auctionOf demandBy
@@ -82,12 +95,16 @@ module _ (a b : Auction) (q d r n : ℕ) (e : ℤ) (k : Computed a b q d r n e) 
     unfolding excess
     excess-held = k .excess-is ∙ ap₂ (λ (x y : ℕ). pos x -ℤ pos y) supply-held demand-held
 
+    courses-after : applied-only ≡ auctionOf (withDevelopers l (λ m. afterRound l (l .developers m)))
+    unfolding applied
+    courses-after = courses-held a l (λ m. afterRound l (l .developers m)) h (λ m. refl) (after .0) (after .1)
+
     held-closed : Taken Close closed (record { number = 0; excess = e; remainder = r }) l
     unfolding number granted accepted auctionOf
-    held-closed = let g = k .applied .right l s round h in record {
+    held-closed = record {
       number = simp open-round;
       answer = λ i. record { number = 0; excess = excess-held i; remainder = remainder-held i };
-      next = clock-held b (withDevelopers l (λ m. applied (l .closing) (l .opening) (l .developers m))) (phaseAfter l) (l .settings) g phase-held (λ i. g i .settings) (λ i. g i .opening) (λ i. g i .closing);
+      next = clock-held applied-only (withDevelopers l (λ m. afterRound l (l .developers m))) (phaseAfter l) (l .settings) courses-after phase-held (λ i. h i .settings) (λ i. h i .opening) (λ i. h i .closing);
     }
 
   pub close-taken : Called Close a closed (record { number = 0; excess = e; remainder = r })

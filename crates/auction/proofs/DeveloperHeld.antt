@@ -17,7 +17,7 @@ use Rattle.history.specs.Held.{offeredNumber}
 use Rattle.history.specs.declared.History.{History}
 use Rattle.auction.specs.declared.Auction.{Auction}
 use Rattle.auction.specs.Holds.{heldCourse, auctionOf}
-use Rattle.auction.specs.Places.{each-at}
+use Rattle.courses.specs.Places.{each-at}
 use Rattle.auction.proofs.Calls.{where-true}
 
 -- levels that are held are all there

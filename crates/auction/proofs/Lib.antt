@@ -8,6 +8,5 @@ mod Moving
 mod Offering
 mod Cancelling
 mod Lodging
-mod ApplyingOffers
 mod ClosingRound
 mod Previewing

@@ -2,15 +2,16 @@
 use Prim.Native.Nat.{ℕ, _-_, _≤_}
 use mathlib.Core.Path.{_≡_, refl, sym, ap, _∙_}
 use lib.ListN.{set}
-use Rattle.rules.specs.Ledger.{Move, By, Ledger}
+use Rattle.rules.specs.Ledger.{Move, By, Ledger, put}
 use Rattle.rules.specs.Refusals.{number}
 use Rattle.rules.specs.Rounds.{moved, accepted, numberAlone, granted}
+use Rattle.reachable.specs.Held.{by-put}
 use Rattle.history.specs.declared.History.{History}
 use Rattle.auction.specs.declared.Auction.{Auction}
 use Rattle.auction.specs.Holds.{heldCourse, auctionOf, Holding}
 use Rattle.auction.specs.Called.{Called}
 use Rattle.auction.specs.Parts.{withCourses, courses-held}
-use Rattle.auction.specs.Places.{put-at, put-keeps}
+use Rattle.courses.specs.Places.{put-at, put-keeps}
 use Rattle.auction.proofs.Calls.{taken}
 
 -- the move m of developer n is accepted, keeps its declaration and its quantity, and r is its history after it
@@ -30,7 +31,7 @@ move-taken n m a r low high f = taken _ a _ _ refl (λ l s h.
     record {
       number = k .number;
       answer = refl;
-      next = courses-held a l n entry h (k .declared)
+      next = courses-held a l (put n entry (l .developers)) h (by-put (λ j y. y .declared ≡ l .developers j .declared) n entry _ (k .declared) (λ j. refl))
           (ap (λ (x : Auction). x .quantities) h ∙ sym (put-keeps (λ x. x .quantity) l n entry (k .quantity)))
           (ap (λ (x : Auction). set (x .histories) (n - 1) r) h ∙ put-at heldCourse l n entry r low high (k .history));
     })

@@ -20,10 +20,10 @@ use Rattle.auction.specs.declared.Auction.{Auction}
 use Rattle.auction.specs.Holds.{auctionOf, Holding}
 use Rattle.auction.specs.Called.{Called}
 use Rattle.auction.specs.Parts.{withClock, clock-held}
-use Rattle.auction.specs.Tests.{demandBy, mayOpenBy, openingBy, coveredBy}
+use Rattle.clock.specs.Tests.{demandBy, mayOpenBy, openingBy, coveredBy}
 use Rattle.auction.proofs.Calls.{Refused, refused, taken}
 use Rattle.auction.proofs.Phases.{ready-is, may-open-is}
-use Rattle.auction.specs.Demands.{demand-is}
+use Rattle.clock.specs.Demands.{demand-is}
 
 -- before the first round nothing is withdrawn, so supply at A is the supply of the quantities
 ready-supply : (l : Ledger) → Sound l → isReady (l .phase) ≡ true → supply (high (l .settings .a)) l ≡ supply (λ x. x .quantity) l
@@ -67,7 +67,7 @@ module _ (c : ℕ) (a : Auction) where
     unfolding closingOk
     open-below-floor v = bad-price (λ l s h. simp (lt-leb (floor l) c (let e = floor-at l h in omega arith)))
 
-    module _ (v : a .settings .ce / 2 ≤ c) (o : ℕ) (e : o ≡ openingBy a) where
+    module _ (v : a .settings .ce / 2 ≤ c) (o : ℕ) (e : o ≡ openingBy (a .phase) (a .settings .a) (a .closing)) where
       opening-at : (l : Ledger) → a ≡ auctionOf l → openingPrice l ≡ o
       unfolding openingPrice auctionOf
       opening-at l h = ap (λ (b : Bool). cond b (l .settings .a) (l .closing)) (ready-is a l h) ∙ ap (λ (x : Auction). cond (eqb (a .phase) 1) (x .settings .a) (x .closing)) (sym h) ∙ sym e
@@ -77,6 +77,9 @@ module _ (c : ℕ) (a : Auction) where
       open-not-below w = bad-price (λ l s h. simp (le-leb (floor l) c (let f = floor-at l h in omega arith), le-ltb c (openingPrice l) (let f = opening-at l h in omega arith)))
 
       module _ (w : c < o) where
+        abbrev coveredHere : Bool
+        coveredHere = coveredBy (a .phase) (a .settings) (a .projects) (a .quantities)
+
         price-at : (l : Ledger) → a ≡ auctionOf l → closingOk l c ≡ true
         unfolding closingOk
         price-at l h = simp (le-leb (floor l) c (let f = floor-at l h in omega arith), lt-ltb c (openingPrice l) (let f = opening-at l h in omega arith))
@@ -89,7 +92,7 @@ module _ (c : ℕ) (a : Auction) where
             ∙ ap (λ (n : ℕ). leb n (supplyOf (auctionOf l .projects) (auctionOf l .quantities))) (sym (demand-is _ _ _ _ _ (f .bounds) (a-in-range s (ready-not-fresh (l .phase) r))))
             ∙ ap (λ (x : Auction). leb (demandBy (x .settings) (x .settings .a)) (supplyOf (x .projects) (x .quantities))) (sym h)
 
-        start-at : (l : Ledger) → Sound l → a ≡ auctionOf l → startCovered l ≡ coveredBy a
+        start-at : (l : Ledger) → Sound l → a ≡ auctionOf l → startCovered l ≡ coveredHere
         unfolding startCovered
         start-at l s h = go (isReady (l .phase)) refl (eqb (a .phase) 1) (ready-is a l h)
           where
@@ -97,7 +100,7 @@ module _ (c : ℕ) (a : Auction) where
             go true e b′ f = rw (← f, e) (covered-at l s h e)
             go false e b′ f = rw (← f, e)
 
-        pub open-uncovered : coveredBy a ≡ false → Refused (Open c) a 9
+        pub open-uncovered : coveredHere ≡ false → Refused (Open c) a 9
         unfolding number
         open-uncovered g = refused _ a 9 (omega arith) (λ l s h. simp (may-open-is a l h ∙ z, price-at l h, start-at l s h ∙ g))
 
@@ -105,7 +108,7 @@ module _ (c : ℕ) (a : Auction) where
         abbrev pub opened : Auction
         opened = withClock a 2 (a .settings) o c
 
-        pub open-taken : coveredBy a ≡ true → Called (Open c) a opened (numberAlone 0)
+        pub open-taken : coveredHere ≡ true → Called (Open c) a opened (numberAlone 0)
         unfolding number granted accepted auctionOf
         open-taken g = taken _ a opened _ refl (λ l s h. record {
           number = simp (may-open-is a l h ∙ z, price-at l h, start-at l s h ∙ g);

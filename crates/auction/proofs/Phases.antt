@@ -8,7 +8,7 @@ use Rattle.rules.specs.Ledger.{Phase, Fresh, Ready, Round, Between, Closed, Led
 use Rattle.rules.specs.Refusals.{isFresh, isReady, mayOpen, inRound}
 use Rattle.auction.specs.declared.Auction.{Auction}
 use Rattle.auction.specs.Holds.{phaseNumber, auctionOf}
-use Rattle.auction.specs.Tests.{mayOpenBy}
+use Rattle.clock.specs.Tests.{mayOpenBy}
 
 fresh-number : (p : Phase) → isFresh p ≡ eqb (phaseNumber p) 0
 fresh-number Fresh = refl

@@ -11,7 +11,7 @@ use Rattle.auction.specs.declared.Auction.{Auction}
 use Rattle.auction.specs.declared.Preview.{Preview}
 use Rattle.auction.specs.Called.{Called, Previews}
 use Rattle.auction.specs.PreviewLaws.{mark-is}
-use Rattle.auction.specs.Tests.{isClosedBy}
+use Rattle.clock.specs.Tests.{isClosedBy}
 
 -- what a preview says: of an answered closing r, with this excess and this mark
 abbrev seen : Answered → ℤ → Bool → Preview

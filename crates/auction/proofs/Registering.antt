@@ -24,7 +24,7 @@ use Rattle.supply.specs.ByProjectLaws.{joins-of}
 use Rattle.auction.specs.declared.Auction.{Auction}
 use Rattle.auction.specs.Holds.{heldCourse, auctionOf, Holding}
 use Rattle.auction.specs.Called.{Called, registers}
-use Rattle.auction.specs.Places.{each-at, put-at, put-keeps}
+use Rattle.courses.specs.Places.{each-at, put-at, put-keeps}
 use Rattle.auction.proofs.Calls.{where-true, Refused, refused, taken}
 use Rattle.auction.proofs.Phases.{ready-is}
 

@@ -2,10 +2,9 @@
 use Prim.Native.Nat.{ℕ}
 use mathlib.Core.Path.{_≡_}
 use mathlib.Core.List.{List, [], _∷_, _++_}
-use Rattle.rules.specs.Ledger.{settingsOf, Call, SetUp, Register, Close, Round, Ledger, withDevelopers}
-use Rattle.rules.specs.Rounds.{ledger, Answered, numberAlone, answer, applied}
+use Rattle.rules.specs.Ledger.{settingsOf, Call, SetUp, Register, Close}
+use Rattle.rules.specs.Rounds.{ledger, Answered, numberAlone, answer}
 use Rattle.rules.specs.Preview.{Previewed, preview, previewAlone}
-use Rattle.sound.specs.Sound.{Sound}
 use Rattle.auction.specs.declared.Auction.{Auction}
 use Rattle.auction.specs.declared.Answer.{Answer}
 use Rattle.auction.specs.declared.Closing.{Closing}
@@ -54,7 +53,3 @@ registers k n kind study day ls = Register n (record { project = k; kind = kind;
 -- a refusal, with the auction as it was
 abbrev pub refusedAnswer : Auction → ℕ → Answer
 refusedAnswer a n = record { number = n; auction = a }
-
--- in an open round: every offer and the lodged steps reached applied
-pub record OffersApplied (a r : Auction) : Type 0 where
-  pub right : (l : Ledger) → Sound l → l .phase ≡ Round → a ≡ auctionOf l → r ≡ auctionOf (withDevelopers l (λ n. applied (l .closing) (l .opening) (l .developers n)))

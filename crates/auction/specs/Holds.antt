@@ -1,12 +1,11 @@
 -- The one auction that holds a ledger: developer n stands at place n - 1 of each array, what is not used is zero.
 use Prim.Native.Nat.{ℕ}
 use mathlib.Core.Path.{_≡_}
-use Rattle.rules.specs.Ledger.{Developer, Phase, Fresh, Ready, Round, Between, Closed, Ledger}
+use Rattle.rules.specs.Ledger.{Phase, Fresh, Ready, Round, Between, Closed, Ledger}
 use Rattle.rules.specs.Clearing.{ofEach}
 use Rattle.sound.specs.Sound.{Sound}
 use Rattle.levels.specs.Held.{heldLevels}
-use Rattle.history.specs.Held.{heldHistory}
-use Rattle.history.specs.declared.History.{History}
+pub use Rattle.courses.specs.Courses.{heldCourse}
 use Rattle.auction.specs.declared.Auction.{Auction}
 
 abbrev pub phaseNumber : Phase → ℕ
@@ -15,10 +14,6 @@ phaseNumber Ready = 1
 phaseNumber Round = 2
 phaseNumber Between = 3
 phaseNumber Closed = 4
-
--- the history of a developer
-abbrev pub heldCourse : Developer → History
-heldCourse x = heldHistory (x .withdrawals) (x .offer) (x .lodged)
 
 unfoldable pub auctionOf : Ledger → Auction
 auctionOf l = record {

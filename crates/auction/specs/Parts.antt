@@ -1,17 +1,17 @@
 -- The auction with some of its parts replaced, and the ledger that it then holds: the only laws that name its arrays, besides those of a
 -- registration, which stores to most of them.
 use Prim.Native.Nat.{ℕ}
-use mathlib.Core.Path.{_≡_, refl, sym, ap, _∙_}
-use mathlib.Core.List.{List}
-use Rattle.rules.specs.Ledger.{Declaration, Developer, Phase, Ledger, withPhase, withSettings, withPrices, withDeveloper}
+use mathlib.Core.Path.{_≡_, sym, ap, _∙_, fun-ext}
+use mathlib.Core.List.{List, map}
+use Rattle.numbers.specs.Lists.{oneTo}
+use Rattle.rules.specs.Ledger.{Declaration, Developer, Phase, Ledger, withPhase, withSettings, withPrices, withDevelopers}
 use Rattle.rules.specs.Ledger as rules
 use Rattle.rules.specs.Clearing.{ofEach}
 use Rattle.levels.specs.Held.{heldLevels}
 use Rattle.history.specs.declared.History.{History}
+use Rattle.clock.specs.declared.Settings.{Settings}
 use Rattle.auction.specs.declared.Auction.{Auction}
-use Rattle.auction.specs.declared.Settings.{Settings}
 use Rattle.auction.specs.Holds.{phaseNumber, heldCourse, auctionOf}
-use Rattle.auction.specs.Places.{put-keeps}
 
 -- ---- another phase, settings and prices
 
@@ -70,12 +70,12 @@ withCourses a quantities histories = record {
   histories = histories;
 }
 
-module _ (a : Auction) (l : Ledger) (n : ℕ) (x : Developer) (h : a ≡ auctionOf l) (e : x .declared ≡ l .developers n .declared) where
+module _ (a : Auction) (l : Ledger) (f : ℕ → Developer) (h : a ≡ auctionOf l) (e : (n : ℕ) → f n .declared ≡ l .developers n .declared) where
   abbrev next : Ledger
-  next = withDeveloper l n x
+  next = withDevelopers l f
 
-  keeps : {A : Type 0} (f : Declaration → A) {xs : List A} → xs ≡ ofEach (λ y. f (y .declared)) l → xs ≡ ofEach (λ y. f (y .declared)) next
-  keeps f g = g ∙ sym (put-keeps (λ y. f (y .declared)) l n x (ap f e))
+  keeps : {A : Type 0} (g : Declaration → A) {xs : List A} → xs ≡ ofEach (λ y. g (y .declared)) l → xs ≡ ofEach (λ y. g (y .declared)) next
+  keeps {A} g w = w ∙ ap (λ (k : ℕ → A). map k (oneTo 32)) (fun-ext (λ n. ap g (sym (e n))))
 
   pub courses-held :
       {qs : List ℕ} {hs : List History} → qs ≡ ofEach (λ y. y .quantity) next → hs ≡ ofEach heldCourse next →

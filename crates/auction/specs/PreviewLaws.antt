@@ -14,7 +14,7 @@ use Rattle.auction.specs.declared.Auction.{Auction}
 use Rattle.auction.specs.declared.Preview.{Preview}
 use Rattle.auction.specs.Holds.{phaseNumber, auctionOf}
 use Rattle.auction.specs.Called.{Called, previewIn, Previews}
-use Rattle.auction.specs.Tests.{isClosedBy}
+use Rattle.clock.specs.Tests.{isClosedBy}
 
 closed-number : (p : Phase) → eqb (phaseNumber p) 4 ≡ isClosed p
 closed-number Fresh = refl

@@ -2,24 +2,13 @@
 // ledger of document 01, for every list of calls (specs/Called.antt).
 ghost use mathlib.Core.Path.{_≡_};
 ghost use mathlib.Core.List.{[]};
-ghost use Prim.Native.Nat.{_≤_};
 ghost use Rattle.rules.specs.Ledger.{Open, By, Offer, Lodge, Cancel};
 ghost use Rattle.rules.specs.Rounds.{ledger};
 ghost use Rattle.auction.specs.Holds.{auctionOf};
-ghost use Rattle.auction.specs.Called.{AnswersNumber, AnswersClosing, Previews, setsUp, registers, refusedAnswer, OffersApplied};
-ghost use Rattle.auction.specs.Tests.{demandBy, remainderBy, mayOpenBy, openingBy, coveredBy, phaseNumberAfter, isClosedBy};
-use demand::Demanded;
+ghost use Rattle.auction.specs.Called.{AnswersNumber, AnswersClosing, Previews, setsUp, registers, refusedAnswer};
+use clock::Settings;
 use history::History;
 use levels::Levels;
-
-// The settings that set-up stores: CE, D, M1, M2 and A (document 01, Demand).
-pub struct Settings {
-    pub ce: u32,
-    pub d: u64,
-    pub m1: u64,
-    pub m2: u64,
-    pub a: u32,
-}
 
 // Developer n stands at place n - 1 of each array; a place that is not used is zero.
 pub struct Auction {
@@ -58,36 +47,6 @@ pub struct Preview {
     pub closed: bool,
 }
 
-// Whether an opening is accepted in this phase.
-fn may_open(phase: u8) -> bool
-    ensures { λ r. ⌜ r ≡ mayOpenBy phase ⌝ }
-{
-    if phase == Auction::READY {
-        return true;
-    }
-    phase == Auction::BETWEEN
-}
-
-// The phase once a round is closed.
-fn phase_after(cleared: bool) -> u8
-    ensures { λ r. ⌜ r ≡ phaseNumberAfter cleared ⌝ }
-{
-    if cleared {
-        return Auction::CLOSED;
-    }
-    Auction::BETWEEN
-}
-
-// Whether a closing answered by this number left the auction closed, by the phase after it.
-fn is_closed(number: u8, phase: u8) -> bool
-    ensures { λ r. ⌜ r ≡ isClosedBy number phase ⌝ }
-{
-    if number != 0 {
-        return false;
-    }
-    phase == Auction::CLOSED
-}
-
 impl Auction {
     // Projects and developers have numbers 1 to 32 (document 01, Registration).
     pub const MOST_DEVELOPERS: u8 = supply::MOST_DEVELOPERS;
@@ -102,15 +61,15 @@ impl Auction {
     pub const NEW_PLANT: u8 = supply::NEW;
 
     // The phases (document 01, Rounds).
-    pub const FRESH: u8 = 0;
+    pub const FRESH: u8 = clock::FRESH;
 
-    pub const READY: u8 = 1;
+    pub const READY: u8 = clock::READY;
 
-    pub const ROUND: u8 = 2;
+    pub const ROUND: u8 = clock::ROUND;
 
-    pub const BETWEEN: u8 = 3;
+    pub const BETWEEN: u8 = clock::BETWEEN;
 
-    pub const CLOSED: u8 = 4;
+    pub const CLOSED: u8 = clock::CLOSED;
 
     // A fresh auction.
     pub fn new() -> Auction
@@ -216,66 +175,25 @@ impl Auction {
         }
     }
 
-    // Dem(p) by the auction's settings; 0 where p or the settings are beyond their bounds.
-    pub fn demand_at(self, p: u32) -> u64
-        ensures { λ r. ⌜ (r ≡ demandBy (self .settings) p) × (r ≤ 100000000000) ⌝ }
-    {
-        let s = self.settings;
-        match demand::demand(s.ce as u64, s.d, s.m1, s.m2, p as u64) {
-            Demanded::Quantity(q, _) => q,
-            Demanded::OutOfBounds => 0,
-        }
-    }
-
-    // The remainder of Dem(p) (document 02, 4); 0 likewise.
-    pub fn remainder_at(self, p: u32) -> u32
-        ensures { λ r. ⌜ r ≡ remainderBy (self .settings) p ⌝ }
-    {
-        let s = self.settings;
-        match demand::demand(s.ce as u64, s.d, s.m1, s.m2, p as u64) {
-            Demanded::Quantity(_, r) => r,
-            Demanded::OutOfBounds => 0,
-        }
-    }
-
-    // The opening price of the next round: A, or the last C.
-    fn opening_price(self) -> u32
-        ensures { λ r. ⌜ r ≡ openingBy self ⌝ }
-    {
-        if self.phase == Auction::READY {
-            return self.settings.a;
-        }
-        self.closing
-    }
-
-    // Whether A is covered, if this is the first opening.
-    fn start_covered(self) -> bool
-        ensures { λ r. ⌜ r ≡ coveredBy self ⌝ }
-    {
-        if self.phase != Auction::READY {
-            return true;
-        }
-        let projects = self.projects;
-        let quantities = self.quantities;
-        let a = self.settings.a;
-        self.demand_at(a) <= supply::supply(projects, quantities)
-    }
-
     // Checks: 2, 5, 9.
     pub fn open(self, c: u32) -> Answer
         ensures { λ r. ⌜ AnswersNumber (Open c) self r ⌝ }
     {
-        if !may_open(self.phase) {
+        let phase = self.phase;
+        let settings = self.settings;
+        if !clock::may_open(phase) {
             return self.refused(2);
         }
-        if c < self.settings.ce / 2 {
+        if c < settings.ce / 2 {
             return self.refused(5);
         }
-        let opening = self.opening_price();
+        let opening = clock::opening_price(phase, settings.a, self.closing);
         if opening <= c {
             return self.refused(5);
         }
-        if !self.start_covered() {
+        let projects = self.projects;
+        let quantities = self.quantities;
+        if !clock::start_covered(phase, settings, projects, quantities) {
             return self.refused(9);
         }
         let mut next = self;
@@ -372,25 +290,6 @@ impl Auction {
         }
     }
 
-    // All developers' offers applied, and the lodged steps that C reaches; one of kind 2 without an offer and above 0 withdraws at the opening price.
-    fn with_offers_applied(self) -> Auction
-        ensures { λ r. ⌜ OffersApplied self r ⌝ }
-    {
-        let mut next = self;
-        let opening = self.opening;
-        let closing = self.closing;
-        for i in 0..32 {
-            let h = next.histories[i];
-            let q = next.quantities[i];
-            let missing = checks::withdraws(next.kinds[i], q);
-            let reached = h.reach(closing);
-            let applied = reached.close(missing, opening);
-            next.histories[i] = applied;
-            next.quantities[i] = applied.last_level(q);
-        }
-        next
-    }
-
     // Checks: 2. The answer is the excess at C, and the remainder of Dem(C).
     pub fn close(self) -> Closing
         ensures { λ r. ⌜ AnswersClosing self r ⌝ }
@@ -403,16 +302,25 @@ impl Auction {
                 auction: self,
             };
         }
-        let mut next = self.with_offers_applied();
-        let projects = next.projects;
-        let quantities = next.quantities;
+        let kinds = self.kinds;
+        let quantities = self.quantities;
+        let histories = self.histories;
+        let opening = self.opening;
         let closing = self.closing;
-        let supply = supply::supply(projects, quantities);
-        let demand = self.demand_at(closing);
-        let remainder = self.remainder_at(closing);
+        let after = courses::with_offers_applied(kinds, quantities, histories, opening, closing);
+        let left = after.quantities;
+        let withdrawn = after.histories;
+        let projects = self.projects;
+        let settings = self.settings;
+        let supply = supply::supply(projects, left);
+        let demand = settings.demand_at(closing);
+        let remainder = settings.remainder_at(closing);
         let excess = checks::excess_of(supply, demand);
-        let cleared = checks::clears(supply, demand, closing, self.settings.ce / 2);
-        next.phase = phase_after(cleared);
+        let cleared = checks::clears(supply, demand, closing, settings.ce / 2);
+        let mut next = self;
+        next.phase = clock::phase_after(cleared);
+        next.quantities = left;
+        next.histories = withdrawn;
         Closing {
             number: 0,
             excess: excess,
@@ -432,7 +340,7 @@ impl Auction {
             number: number,
             excess: closing.excess,
             remainder: closing.remainder,
-            closed: is_closed(number, phase),
+            closed: clock::is_closed(number, phase),
         }
     }
 }

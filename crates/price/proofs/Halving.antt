@@ -12,8 +12,8 @@ use Rattle.clearing.specs.ClosingPrice.{settings-facts, passed-in-range, part-d
 use Rattle.supply.specs.ByProject.{supplyOf}
 use Rattle.supply.specs.ByProjectLaws.{supply-of-part}
 use Rattle.auction.specs.Holds.{auctionOf}
-use Rattle.auction.specs.Tests.{demandBy}
-use Rattle.auction.specs.Demands.{demand-is}
+use Rattle.clock.specs.Tests.{demandBy}
+use Rattle.clock.specs.Demands.{demand-is}
 use Rattle.auction.specs.declared.Auction.{Auction}
 use Rattle.price.specs.declared.Bracket.{Bracket}
 use Rattle.price.specs.Prices.{Lows, HoldsPart, CoveredAt, ClosingPrice, nextPrice, halvedAt}

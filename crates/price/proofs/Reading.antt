@@ -16,7 +16,7 @@ use Rattle.levels.specs.declared.Levels.{Levels}
 use Rattle.history.specs.Held.{LevelAt}
 use Rattle.history.specs.declared.History.{History}
 use Rattle.auction.specs.Holds.{heldCourse}
-use Rattle.auction.specs.Places.{Filling, filling-next, filling-all, numbered-at}
+use Rattle.courses.specs.Places.{Filling, filling-next, filling-all, numbered-at}
 use Rattle.price.specs.Prices.{Highests, Lows}
 
 -- ---- what a sound ledger holds fits eight places

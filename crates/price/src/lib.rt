@@ -51,8 +51,9 @@ pub fn covered_at(auction: Auction, projects: [u8; 32], highest: [u32; 32], p: u
     ensures { λ r. ⌜ CoveredAt auction projects highest p r ⌝ }
 {
     let histories = auction.histories;
+    let settings = auction.settings;
     let highs = lows_at(histories, highest, above(p));
-    auction.demand_at(p) <= supply::supply(projects, highs)
+    settings.demand_at(p) <= supply::supply(projects, highs)
 }
 
 fn halved(b: Bracket, mid: u32, covered: bool) -> Bracket

@@ -14,7 +14,7 @@ use Rattle.sound.specs.Sound.{Sound, started}
 use Rattle.clearing.specs.Second.{remaining-part, second-price, remaining-is}
 use Rattle.history.specs.declared.History.{History}
 use Rattle.auction.specs.Holds.{heldCourse, auctionOf}
-use Rattle.auction.specs.Places.{Filling, filling-next, filling-all, numbered-at, numbered-length}
+use Rattle.courses.specs.Places.{Filling, filling-next, filling-all, numbered-at, numbered-length}
 use Rattle.auction.specs.declared.Auction.{Auction}
 use Rattle.price.specs.Prices.{HoldsPart, CoveredAt, ClosingPrice}
 use Rattle.second_price.specs.Taken.{leftOf, Remain, SecondPrice}

@@ -24,8 +24,8 @@ use Rattle.clearing.specs.ClosingPrice.{closed-started, settings-facts, passed-
 use Rattle.reachable.specs.Reachable.{sound}
 use Rattle.awards.specs.AwardLaws.{some-cover}
 use Rattle.auction.specs.Holds.{phaseNumber, auctionOf, Holding}
-use Rattle.auction.specs.Tests.{demandBy, remainderBy}
-use Rattle.auction.specs.Demands.{demand-is, remainder-is}
+use Rattle.clock.specs.Tests.{demandBy, remainderBy}
+use Rattle.clock.specs.Demands.{demand-is, remainder-is}
 use Rattle.auction.specs.declared.Auction.{Auction}
 use Rattle.price.specs.Prices.{Highests, Lows, ClosingPrice, nextPrice}
 use Rattle.price.specs.PriceLaws.{next-price}

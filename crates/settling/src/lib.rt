@@ -46,6 +46,7 @@ pub fn settle(auction: Auction, limit: u32, awards: &mut [u8]) -> Settled
         return refused(2);
     }
     let projects = auction.projects;
+    let settings = auction.settings;
     let declared = auction.declared;
     let histories = auction.histories;
     let highest = price::highest_levels(declared);
@@ -53,8 +54,8 @@ pub fn settle(auction: Auction, limit: u32, awards: &mut [u8]) -> Settled
     let lows = price::lows_at(histories, highest, p);
     let highs = price::lows_at(histories, highest, price::above(p));
     let table = open_levels::table_of(projects, declared, lows, highs);
-    let demand = auction.demand_at(p);
-    let remainder = auction.remainder_at(p);
+    let demand = settings.demand_at(p);
+    let remainder = settings.remainder_at(p);
     let second = second_price::second_price(auction, highest);
     let capped = checks::capped_limit(limit);
     let selected = selection::select(table, demand, capped);

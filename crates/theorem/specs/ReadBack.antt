@@ -20,7 +20,7 @@ use Rattle.levels.specs.Held.{noLevels, heldLevels, levelsIn}
 use Rattle.history.specs.Held.{heldHistory}
 use Rattle.history.specs.declared.History.{History}
 use Rattle.auction.specs.Holds.{phaseNumber, heldCourse, auctionOf}
-use Rattle.auction.specs.Places.{each-at}
+use Rattle.courses.specs.Places.{each-at}
 use Rattle.auction.specs.declared.Auction.{Auction}
 
 -- ---- phases

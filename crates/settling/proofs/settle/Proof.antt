@@ -14,14 +14,14 @@ priced c = highs c .before .before .before
 
 computed :
     (c : tie.After-select) →
-    let s = priced c .before .before .before .before .before .before .before .before .args in
+    let s = priced c .before .before .before .before .before .before .before .before .before .args in
     Computed (s .auction) (s .limit) (priced c .closing-price .result) (c .before .before .before .before .demand-at .result) (c .before .before .before .remainder-at .result) (highs c .before .before .lows-at .result) (highs c .lows-at2 .result)
     (c .before .before .second-price .result) (c .select .result)
 computed c =
     let h = highs c in
     let p = priced c in
     record {
-      phase = p .before .before .before .before .before .if1 .left;
+      phase = p .before .before .before .before .before .before .if1 .left;
       highest = p .before .highest-levels .result;
       next = h .before .above .result;
       table = c .before .before .before .before .before .table-of .result;

@@ -3,7 +3,7 @@ use mathlib.Core.Path.{ap, _∙_}
 use native.Mathlib.Omega.{arith}
 use borrow.Author.Needs.{needs}
 use Rattle.checks.specs.Signed.{difference-back}
-use Rattle.auction.specs.Tests.{phaseNumberAfter}
+use Rattle.clock.specs.Tests.{phaseNumberAfter}
 use Rattle.auction.proofs.ClosingRound.{close-phase, close-taken}
 use Rattle.auction.proofs.Auction.close.Statement.{statement}
 use Rattle.auction.proofs.Auction.close.Tie as tie
@@ -36,16 +36,16 @@ returns-2 : tie.Need-returns-2
 returns-2 c =
     let tested = c .before .clears in
     let excess = c .before .before .before .excess-of in
-    let demands = c .before .before .before .before .before in
-    let demand = demands .demand-at in
-    let supply = demands .before .supply in
-    let offers = demands .before .before .before .before in
+    let remainder = c .before .before .before .before in
+    let demand = remainder .before .demand-at in
+    let supply = remainder .before .before .supply in
+    let offers = remainder .before .before .before .before .before .before .before in
     close-taken _ _ _ _ _ _ _ (record {
-      round = offers .before .if1 .left;
+      round = offers .before .before .before .before .if1 .left;
       applied = offers .with-offers-applied .ensures;
       supply-is = supply .ensures .0;
       demand-is = demand .ensures .0;
-      remainder-is = c .before .before .before .before .remainder-at .ensures;
+      remainder-is = remainder .remainder-at .ensures;
       phase-is = c .phase-after .ensures ∙ ap phaseNumberAfter (tested .ensures);
       excess-is = difference-back (supply .result) (demand .result) (omega arith) (omega arith) (excess .result) (excess .ensures);
     })

@@ -4,7 +4,7 @@ use borrow.Author.Needs.{needs}
 use Rattle.rules.specs.Rounds.{stepAll, ledger}
 use Rattle.levels.specs.Held.{heldLevels}
 use Rattle.auction.specs.Holds.{heldCourse, auctionOf}
-use Rattle.auction.specs.Places.{fresh-places}
+use Rattle.courses.specs.Places.{fresh-places}
 use Rattle.auction.proofs.Auction.new.Statement.{statement}
 use Rattle.auction.proofs.Auction.new.Tie as tie
 

@@ -3,12 +3,19 @@ use mathlib.Core.Path.{_≡_, sym, _∙_}
 use mathlib.Core.Bool.{true}
 use borrow.Author.Needs.{needs}
 use borrow.Author.Tests.{not-true, not-false}
-use Rattle.auction.specs.Tests.{mayOpenBy}
+use Rattle.clock.specs.Tests.{mayOpenBy}
 use Rattle.auction.proofs.Opening.{open-phase, open-below-floor, open-not-below, open-uncovered, open-taken}
 use Rattle.auction.proofs.Auction.open.Statement.{statement}
 use Rattle.auction.proofs.Auction.open.Tie as tie
 
-accepts : (c : tie.Else1) → mayOpenBy (c .before .before .args .self .phase) ≡ true
+-- the ways back: from the test of the opening price to that of the floor, and from there to that of the phase
+abbrev above-floor : tie.Else3 → tie.Else2
+above-floor c = c .before .before
+
+abbrev in-phase : tie.Else2 → tie.Else1
+in-phase c = c .before .before
+
+accepts : (c : tie.Else1) → mayOpenBy (c .before .before .before .args .self .phase) ≡ true
 accepts c = sym (c .before .may-open .ensures) ∙ not-false _ (c .if1 .left)
 
 may-open-requires : tie.Need-may-open-requires
@@ -33,7 +40,9 @@ refused-requires-3 : tie.Need-refused-requires-3
 refused-requires-3 c κs = search needs
 
 returns-3 : tie.Need-returns-3
-returns-3 c = rw (c .refused3 .ensures) (open-not-below _ _ (accepts (c .before .before .before .before .before)) (c .before .before .before .if2 .left) _ (c .before .before .opening-price .ensures) (c .before .if3 .taken))
+returns-3 c =
+    let x = c .before .before .before in
+    rw (c .refused3 .ensures) (open-not-below _ _ (accepts (in-phase x)) (x .if2 .left) _ (c .before .before .opening-price .ensures) (c .before .if3 .taken))
 
 start-covered-requires : tie.Need-start-covered-requires
 start-covered-requires c κs = search needs
@@ -42,10 +51,19 @@ refused-requires-4 : tie.Need-refused-requires-4
 refused-requires-4 c κs = search needs
 
 returns-4 : tie.Need-returns-4
-returns-4 c = rw (c .refused4 .ensures) (open-uncovered _ _ (accepts (c .before .before .before .before .before .before .before)) (c .before .before .before .before .before .if2 .left) _ (c .before .before .before .before .opening-price .ensures) (c .before .before .before .if3 .left) (sym (c .before .before .start-covered .ensures) ∙ not-true _ (c .before .if4 .taken)))
+returns-4 c =
+    let y = c .before .before .before .before .before in
+    let x = above-floor y in
+    rw (c .refused4 .ensures)
+    (open-uncovered _ _ (accepts (in-phase x)) (x .if2 .left) _ (y .before .opening-price .ensures) (y .if3 .left)
+    (sym (c .before .before .start-covered .ensures) ∙ not-true _ (c .before .if4 .taken)))
 
 returns-5 : tie.Need-returns-5
-returns-5 c = open-taken _ _ (accepts (c .before .before .before .before .before .before)) (c .before .before .before .before .if2 .left) _ (c .before .before .before .opening-price .ensures) (c .before .before .if3 .left) (sym (c .before .start-covered .ensures) ∙ not-false _ (c .if4 .left))
+returns-5 c =
+    let y = c .before .before .before .before in
+    let x = above-floor y in
+    open-taken _ _ (accepts (in-phase x)) (x .if2 .left) _ (y .before .opening-price .ensures) (y .if3 .left)
+    (sym (c .before .start-covered .ensures) ∙ not-false _ (c .if4 .left))
 
 pub open-spec : {M : Type 1} → statement M
 open-spec =

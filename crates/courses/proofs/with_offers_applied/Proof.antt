@@ -1,35 +1,35 @@
--- The offers applied from developer 1 to 32: after each turn the auction holds the ledger with one developer more applied.
+-- The offers applied from developer 1 to 32, read from the arrays as they were.
 use mathlib.Core.Path.{_≡_}
 use Prim.Native.Nat.{_-_}
 use native.Mathlib.Omega.{arith}
 use borrow.Author.Needs.{needs}
-use Rattle.auction.proofs.ApplyingOffers.{Turn, turn-first, turn-more, turn-last}
-use Rattle.auction.proofs.Auction.with_offers_applied.Statement.{statement}
-use Rattle.auction.proofs.Auction.with_offers_applied.Tie as tie
+use Rattle.courses.proofs.ApplyingOffers.{Turn, turn-first, turn-more, turn-last}
+use Rattle.courses.proofs.with_offers_applied.Statement.{statement}
+use Rattle.courses.proofs.with_offers_applied.Tie as tie
 
 abbrev Inv-loop : tie.InvT-loop
-Inv-loop next₀ opening closing i₀ next i = Turn next₀ next i
+Inv-loop opening closing kinds quantities histories next₀ i₀ next i = Turn kinds quantities histories opening closing next i
 
 abbrev μ-loop : tie.MeasureT-loop
-μ-loop next₀ opening closing i₀ next i = 32 - i
+μ-loop opening closing kinds quantities histories next₀ i₀ next i = 32 - i
 
 loop-holds : tie.Need-loop-holds Inv-loop μ-loop
-loop-holds c = turn-first _
+loop-holds c = turn-first _ _ _ _ _
 
 mul-h : tie.Need-mul-h Inv-loop μ-loop
 mul-h c = omega arith
 
-element-copy-out-h : tie.Need-element-copy-out-h Inv-loop μ-loop
-element-copy-out-h c = omega arith
+array-copy-out-h : tie.Need-array-copy-out-h Inv-loop μ-loop
+array-copy-out-h c = omega arith
 
 mul-q : tie.Need-mul-q Inv-loop μ-loop
 mul-q c = omega arith
 
-element-copy-out-q : tie.Need-element-copy-out-q Inv-loop μ-loop
-element-copy-out-q c = omega arith
+array-read-q : tie.Need-array-read-q Inv-loop μ-loop
+array-read-q c = omega arith
 
-element-copy-out-withdraws : tie.Need-element-copy-out-withdraws Inv-loop μ-loop
-element-copy-out-withdraws c = omega arith
+array-read-withdraws : tie.Need-array-read-withdraws Inv-loop μ-loop
+array-read-withdraws c = omega arith
 
 withdraws-requires : tie.Need-withdraws-requires Inv-loop μ-loop
 withdraws-requires c κs = search needs
@@ -63,13 +63,13 @@ loop-less c = omega arith
 
 loop-again : tie.Need-loop-again Inv-loop μ-loop
 loop-again c =
-    turn-more _ _ _ _ _ _ _ _ (c .before .before .before .before .before .before .before .before .loop .inv) (omega arith) (c .before .before .before .withdraws .ensures)
-    (c .before .before .reach .ensures) (c .before .close .ensures) (c .last-level .ensures)
+    turn-more _ _ _ _ _ _ _ _ _ _ _ (omega arith) (c .before .before .before .withdraws .ensures) (c .before .before .reach .ensures) (c .before .close .ensures)
+    (c .last-level .ensures) _ (c .before .before .before .before .before .before .loop .inv)
 
 returns : tie.Need-returns Inv-loop μ-loop
 returns c =
     let e : c .before .loop .i ≡ 32 = omega arith in
-    turn-last _ _ (rw e at (c .before .loop .inv))
+    turn-last _ _ _ _ _ _ (rw e at (c .before .loop .inv))
 
 pub with-offers-applied-spec : {M : Type 1} → statement M
 with-offers-applied-spec =
@@ -79,10 +79,10 @@ with-offers-applied-spec =
     μ-loop
     loop-holds
     mul-h
-    element-copy-out-h
+    array-copy-out-h
     mul-q
-    element-copy-out-q
-    element-copy-out-withdraws
+    array-read-q
+    array-read-withdraws
     withdraws-requires
     reach-requires
     close-requires

@@ -3,9 +3,9 @@ use mathlib.Core.Path.{sym, ap, _∙_}
 use borrow.Author.Needs.{needs}
 use Rattle.curve.specs.Answer.{Answer}
 use Rattle.demand.specs.Answers.{answerOf}
-use Rattle.auction.specs.Tests.{remainderBy}
-use Rattle.auction.proofs.Auction.remainder_at.Statement.{statement}
-use Rattle.auction.proofs.Auction.remainder_at.Tie as tie
+use Rattle.clock.specs.Tests.{remainderBy}
+use Rattle.clock.proofs.Settings.remainder_at.Statement.{statement}
+use Rattle.clock.proofs.Settings.remainder_at.Tie as tie
 
 cast-demand : tie.Need-cast-demand
 cast-demand c = search needs

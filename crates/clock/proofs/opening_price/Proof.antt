@@ -1,7 +1,7 @@
 -- A before the first round, else the last C.
 use borrow.Author.Tests.{eq-eqb, ne-eqb}
-use Rattle.auction.proofs.Auction.opening_price.Statement.{statement}
-use Rattle.auction.proofs.Auction.opening_price.Tie as tie
+use Rattle.clock.proofs.opening_price.Statement.{statement}
+use Rattle.clock.proofs.opening_price.Tie as tie
 
 returns : tie.Need-returns
 returns c = simp (eq-eqb _ _ (c .if1 .taken))

@@ -3,10 +3,10 @@ use mathlib.Core.Path.{sym, ap, _∙_}
 use borrow.Author.Needs.{needs}
 use Rattle.curve.specs.Answer.{Answer}
 use Rattle.demand.specs.Answers.{answerOf}
-use Rattle.auction.specs.Tests.{demandBy}
-use Rattle.auction.proofs.SettingUp.{demand-bounded}
-use Rattle.auction.proofs.Auction.demand_at.Statement.{statement}
-use Rattle.auction.proofs.Auction.demand_at.Tie as tie
+use Rattle.clock.specs.Tests.{demandBy}
+use Rattle.clock.proofs.Bounded.{demand-bounded}
+use Rattle.clock.proofs.Settings.demand_at.Statement.{statement}
+use Rattle.clock.proofs.Settings.demand_at.Tie as tie
 
 cast-demand : tie.Need-cast-demand
 cast-demand c = search needs

@@ -1,11 +1,11 @@
--- The rules' tests (`rules`, Refusals and Rounds) over what the auction holds: what the inner functions ensure.
+-- The rules' tests (`rules`, Refusals and Rounds) over the phase's number, the settings and the arrays that an auction holds.
 use Prim.Native.Nat.{ℕ}
 use mathlib.Core.Bool.{Bool, cond, not, _&&_, _||_}
+use mathlib.Core.List.{List}
 use lib.Dec.{eqb, leb}
 use Rattle.curve.specs.Answer.{demandAnswer}
 use Rattle.supply.specs.ByProject.{supplyOf}
-use Rattle.auction.specs.declared.Settings.{Settings}
-use Rattle.auction.specs.declared.Auction.{Auction}
+use Rattle.clock.specs.declared.Settings.{Settings}
 
 -- ---- opening
 
@@ -14,10 +14,10 @@ abbrev pub mayOpenBy : ℕ → Bool
 mayOpenBy phase = eqb phase 1 || eqb phase 3
 
 -- the next round's opening price: A, or the last C
-abbrev pub openingBy : Auction → ℕ
-openingBy a = cond (eqb (a .phase) 1) (a .settings .a) (a .closing)
+abbrev pub openingBy : ℕ → ℕ → ℕ → ℕ
+openingBy phase a closing = cond (eqb phase 1) a closing
 
--- Dem(p) by the settings that the auction holds, 0 beyond the bounds
+-- Dem(p) by the settings, 0 beyond the bounds
 unfoldable pub demandBy : Settings → ℕ → ℕ
 demandBy s p = demandAnswer (s .ce) (s .d) (s .m1) (s .m2) p .value
 
@@ -26,8 +26,8 @@ unfoldable pub remainderBy : Settings → ℕ → ℕ
 remainderBy s p = demandAnswer (s .ce) (s .d) (s .m1) (s .m2) p .remainder
 
 -- at the first opening A is covered
-abbrev pub coveredBy : Auction → Bool
-coveredBy a = not (eqb (a .phase) 1) || leb (demandBy (a .settings) (a .settings .a)) (supplyOf (a .projects) (a .quantities))
+abbrev pub coveredBy : ℕ → Settings → List ℕ → List ℕ → Bool
+coveredBy phase s projects quantities = not (eqb phase 1) || leb (demandBy s (s .a)) (supplyOf projects quantities)
 
 -- ---- closing
 

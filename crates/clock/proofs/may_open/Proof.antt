@@ -1,7 +1,7 @@
 -- The two phases that accept an opening.
 use borrow.Author.Tests.{eq-eqb, ne-eqb}
-use Rattle.auction.proofs.may_open.Statement.{statement}
-use Rattle.auction.proofs.may_open.Tie as tie
+use Rattle.clock.proofs.may_open.Statement.{statement}
+use Rattle.clock.proofs.may_open.Tie as tie
 
 returns : tie.Need-returns
 returns c = simp (eq-eqb _ _ (c .if1 .taken))

@@ -1,7 +1,7 @@
 -- Refused, it is not; else by the phase.
 use borrow.Author.Tests.{eq-eqb, ne-eqb}
-use Rattle.auction.proofs.is_closed.Statement.{statement}
-use Rattle.auction.proofs.is_closed.Tie as tie
+use Rattle.clock.proofs.is_closed.Statement.{statement}
+use Rattle.clock.proofs.is_closed.Tie as tie
 
 returns : tie.Need-returns
 returns c = simp (ne-eqb _ _ (c .if1 .taken))

@@ -1,0 +1,106 @@
+// The clock of an auction: the settings that it runs by, demand by them, and what its phases say. Each function ensures a rule's test (specs/Tests.antt).
+ghost use mathlib.Core.Path.{_≡_};
+ghost use Prim.Native.Nat.{_≤_};
+ghost use Rattle.clock.specs.Tests.{demandBy, remainderBy, mayOpenBy, openingBy, coveredBy, phaseNumberAfter, isClosedBy};
+use demand::Demanded;
+
+// The phases (document 01, Rounds).
+pub const FRESH: u8 = 0;
+
+pub const READY: u8 = 1;
+
+pub const ROUND: u8 = 2;
+
+pub const BETWEEN: u8 = 3;
+
+pub const CLOSED: u8 = 4;
+
+// The settings that set-up stores: CE, D, M1, M2 and A (document 01, Demand).
+pub struct Settings {
+    pub ce: u32,
+    pub d: u64,
+    pub m1: u64,
+    pub m2: u64,
+    pub a: u32,
+}
+
+impl Settings {
+    // Dem(p) by these settings; 0 where p or the settings are beyond their bounds.
+    pub fn demand_at(self, p: u32) -> u64
+        ensures { λ r. ⌜ (r ≡ demandBy self p) × (r ≤ 100000000000) ⌝ }
+    {
+        match demand::demand(self.ce as u64, self.d, self.m1, self.m2, p as u64) {
+            Demanded::Quantity(q, _) => q,
+            Demanded::OutOfBounds => 0,
+        }
+    }
+
+    // The remainder of Dem(p) (document 02, 4); 0 likewise.
+    pub fn remainder_at(self, p: u32) -> u32
+        ensures { λ r. ⌜ r ≡ remainderBy self p ⌝ }
+    {
+        match demand::demand(self.ce as u64, self.d, self.m1, self.m2, p as u64) {
+            Demanded::Quantity(_, r) => r,
+            Demanded::OutOfBounds => 0,
+        }
+    }
+}
+
+// ---- opening
+
+// Whether an opening is accepted in this phase.
+pub fn may_open(phase: u8) -> bool
+    ensures { λ r. ⌜ r ≡ mayOpenBy phase ⌝ }
+{
+    if phase == READY {
+        return true;
+    }
+    phase == BETWEEN
+}
+
+// The opening price of the next round: A, or the last C.
+pub fn opening_price(phase: u8, a: u32, closing: u32) -> u32
+    ensures { λ r. ⌜ r ≡ openingBy phase a closing ⌝ }
+{
+    if phase == READY {
+        return a;
+    }
+    closing
+}
+
+// Whether A is covered, if this is the first opening.
+pub fn start_covered(
+    phase: u8,
+    settings: Settings,
+    projects: [u8; 32],
+    quantities: [u32; 32],
+) -> bool
+    ensures { λ r. ⌜ r ≡ coveredBy phase settings projects quantities ⌝ }
+{
+    if phase != READY {
+        return true;
+    }
+    settings.demand_at(settings.a) <= supply::supply(projects, quantities)
+}
+
+// ---- closing
+
+// The phase once a round is closed.
+pub fn phase_after(cleared: bool) -> u8
+    ensures { λ r. ⌜ r ≡ phaseNumberAfter cleared ⌝ }
+{
+    if cleared {
+        return CLOSED;
+    }
+    BETWEEN
+}
+
+// Whether a closing answered by this number left the auction closed, by the phase after it.
+pub fn is_closed(number: u8, phase: u8) -> bool
+    ensures { λ r. ⌜ r ≡ isClosedBy number phase ⌝ }
+{
+    if number != 0 {
+        return false;
+    }
+    phase == CLOSED
+}
