@@ -16,8 +16,9 @@ use Rattle.clock.specs.Tests.{demandBy}
 use Rattle.clock.specs.Demands.{demand-is}
 use Rattle.auction.specs.declared.Auction.{Auction}
 use Rattle.price.specs.declared.Bracket.{Bracket}
-use Rattle.price.specs.Prices.{Lows, HoldsPart, CoveredAt, ClosingPrice, nextPrice, halvedAt}
-use Rattle.price.specs.PriceLaws.{next-price}
+use Rattle.price.specs.Prices.{HoldsPart, CoveredAt, ClosingPrice, halvedAt}
+use Rattle.lows.specs.Lows.{Lows, nextPrice}
+use Rattle.lows.specs.PriceLaws.{next-price}
 
 -- ---- covered at p
 

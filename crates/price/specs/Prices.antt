@@ -3,25 +3,13 @@ use Prim.Native.Nat.{ℕ, _+_, _≤_}
 use mathlib.Core.Path.{_≡_}
 use mathlib.Core.Bool.{Bool, true, cond}
 use mathlib.Core.List.{List}
-use lib.Dec.{leb}
 use Rattle.rules.specs.Ledger.{Ledger}
-use Rattle.rules.specs.Clearing.{highest, low, covered, closingPrice, ofEach}
+use Rattle.rules.specs.Clearing.{highest, covered, closingPrice, ofEach}
 use Rattle.sound.specs.Sound.{Sound, started}
 use Rattle.sound.specs.Parts.{Part}
-use Rattle.levels.specs.Held.{heldLevels}
-use Rattle.levels.specs.declared.Levels.{Levels}
-use Rattle.history.specs.declared.History.{History}
-use Rattle.auction.specs.Holds.{heldCourse, auctionOf}
+use Rattle.auction.specs.Holds.{auctionOf}
 use Rattle.auction.specs.declared.Auction.{Auction}
 use Rattle.price.specs.declared.Bracket.{Bracket}
-
--- each developer's highest level, from the levels it declared
-pub record Highests (declared : List Levels) (r : List ℕ) : Type 0 where
-  pub right : (l : Ledger) → Sound l → declared ≡ ofEach (λ x. heldLevels (x .declared .levels)) l → r ≡ ofEach highest l
-
--- each developer's low at p, from its history and its highest level
-pub record Lows (histories : List History) (firsts : List ℕ) (p : ℕ) (r : List ℕ) : Type 0 where
-  pub right : (l : Ledger) → Sound l → histories ≡ ofEach heldCourse l → firsts ≡ ofEach highest l → r ≡ ofEach (low p) l
 
 -- The auction holds the sound ledger l, in which a round was opened; `firsts` are its developers' highest levels. `projects` are those of
 -- m, which is l or a part of it: a developer that is taken out is in no project
@@ -40,10 +28,6 @@ pub record CoveredAt (a : Auction) (projects firsts : List ℕ) (p : ℕ) (r : B
 -- the closing price P; A where no price is covered
 pub record ClosingPrice (a : Auction) (projects firsts : List ℕ) (r : ℕ) : Type 0 where
   pub right : (l m : Ledger) → HoldsPart a projects firsts l m → r ≡ closingPrice m
-
--- the price above p; there is none above the highest price
-unfoldable pub nextPrice : ℕ → ℕ
-nextPrice p = cond (leb p 1000000) (p + 1) p
 
 -- halved at mid: below it if mid is covered, else above it
 abbrev pub halvedAt : Bracket → ℕ → Bool → Bracket

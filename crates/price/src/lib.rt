@@ -1,49 +1,13 @@
 // The closing price: the lowest covered price of those that the clock passed, found by halving.
 ghost use mathlib.Core.Path.{_≡_};
 ghost use Prim.Native.Nat.{_<_};
-ghost use Rattle.price.specs.Prices.{Highests, Lows, CoveredAt, ClosingPrice, nextPrice, halvedAt};
+ghost use Rattle.price.specs.Prices.{CoveredAt, ClosingPrice, halvedAt};
 use auction::Auction;
-use history::History;
-use levels::Levels;
 
 // The prices among which the lowest covered one lies: hi is covered or A, nothing below lo is covered.
 struct Bracket {
     lo: u32,
     hi: u32,
-}
-
-// The highest level of each developer.
-pub fn highest_levels(declared: [Levels; 32]) -> [u32; 32]
-    ensures { λ r. ⌜ Highests declared r ⌝ }
-{
-    let mut out = [0u32; 32];
-    for i in 0..32 {
-        let levels = declared[i];
-        out[i] = levels.highest();
-    }
-    out
-}
-
-// The low of each developer at p, from its highest level.
-pub fn lows_at(histories: [History; 32], highest: [u32; 32], p: u32) -> [u32; 32]
-    ensures { λ r. ⌜ Lows histories highest p r ⌝ }
-{
-    let mut out = [0u32; 32];
-    for i in 0..32 {
-        let history = histories[i];
-        out[i] = history.level_at(highest[i], p);
-    }
-    out
-}
-
-// The next price. High at p is low there.
-pub fn above(p: u32) -> u32
-    ensures { λ r. ⌜ r ≡ nextPrice p ⌝ }
-{
-    if Auction::TOP_PRICE < p {
-        return p;
-    }
-    p + 1
 }
 
 // Whether the sum of these projects' highs at p is at least Dem(p).
@@ -52,7 +16,7 @@ pub fn covered_at(auction: Auction, projects: [u8; 32], highest: [u32; 32], p: u
 {
     let histories = auction.histories;
     let settings = auction.settings;
-    let highs = lows_at(histories, highest, above(p));
+    let highs = lows::lows_at(histories, highest, lows::above(p));
     settings.demand_at(p) <= supply::supply(projects, highs)
 }
 

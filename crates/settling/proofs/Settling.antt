@@ -27,8 +27,9 @@ use Rattle.auction.specs.Holds.{phaseNumber, auctionOf, Holding}
 use Rattle.clock.specs.Tests.{demandBy, remainderBy}
 use Rattle.clock.specs.Demands.{demand-is, remainder-is}
 use Rattle.auction.specs.declared.Auction.{Auction}
-use Rattle.price.specs.Prices.{Highests, Lows, ClosingPrice, nextPrice}
-use Rattle.price.specs.PriceLaws.{next-price}
+use Rattle.price.specs.Prices.{ClosingPrice}
+use Rattle.lows.specs.Lows.{Highests, Lows, nextPrice}
+use Rattle.lows.specs.PriceLaws.{next-price}
 use Rattle.second_price.specs.Taken.{SecondPrice}
 use Rattle.second_price.specs.declared.Second.{Second}
 use Rattle.table.specs.Rows.{Lays}

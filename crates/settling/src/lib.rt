@@ -49,10 +49,10 @@ pub fn settle(auction: Auction, limit: u32, awards: &mut [u8]) -> Settled
     let settings = auction.settings;
     let declared = auction.declared;
     let histories = auction.histories;
-    let highest = price::highest_levels(declared);
+    let highest = lows::highest_levels(declared);
     let p = price::closing_price(auction, projects, highest);
-    let lows = price::lows_at(histories, highest, p);
-    let highs = price::lows_at(histories, highest, price::above(p));
+    let lows = lows::lows_at(histories, highest, p);
+    let highs = lows::lows_at(histories, highest, lows::above(p));
     let table = open_levels::table_of(projects, declared, lows, highs);
     let demand = settings.demand_at(p);
     let remainder = settings.remainder_at(p);

@@ -3,7 +3,7 @@ use Prim.Native.Nat.{ℕ, suc, _≤_}
 use mathlib.Core.Path.{_≡_}
 use native.Mathlib.Numerals.{add-one}
 use borrow.Author.Tests.{le-leb}
-use Rattle.price.specs.Prices.{nextPrice}
+use Rattle.lows.specs.Lows.{nextPrice}
 
 pub next-price : (p : ℕ) → p ≤ 1000000 → nextPrice p ≡ suc p
 unfolding nextPrice

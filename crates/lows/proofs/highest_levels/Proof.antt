@@ -3,9 +3,9 @@ use Prim.Native.Nat.{_-_}
 use mathlib.Core.Path.{refl}
 use native.Mathlib.Omega.{arith}
 use borrow.Author.Needs.{needs}
-use Rattle.price.proofs.Reading.{HighestTurn, highest-first, highest-next, highest-all}
-use Rattle.price.proofs.highest_levels.Statement.{statement}
-use Rattle.price.proofs.highest_levels.Tie as tie
+use Rattle.lows.proofs.Reading.{HighestTurn, highest-first, highest-next, highest-all}
+use Rattle.lows.proofs.highest_levels.Statement.{statement}
+use Rattle.lows.proofs.highest_levels.Tie as tie
 
 abbrev Inv-loop : tie.InvT-loop
 Inv-loop declared out₀ i₀ out i = HighestTurn declared out i

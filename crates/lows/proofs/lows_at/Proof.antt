@@ -3,9 +3,9 @@ use Prim.Native.Nat.{_-_}
 use mathlib.Core.Path.{refl}
 use native.Mathlib.Omega.{arith}
 use borrow.Author.Needs.{needs}
-use Rattle.price.proofs.Reading.{LowTurn, low-first, low-next, low-all}
-use Rattle.price.proofs.lows_at.Statement.{statement}
-use Rattle.price.proofs.lows_at.Tie as tie
+use Rattle.lows.proofs.Reading.{LowTurn, low-first, low-next, low-all}
+use Rattle.lows.proofs.lows_at.Statement.{statement}
+use Rattle.lows.proofs.lows_at.Tie as tie
 
 abbrev Inv-loop : tie.InvT-loop
 Inv-loop p histories highest out₀ i₀ out i = LowTurn histories highest p out i

@@ -1,9 +1,9 @@
 -- The next number, up to the highest price.
 use borrow.Author.Needs.{needs}
 use borrow.Author.Tests.{le-leb, lt-leb}
-use Rattle.price.specs.Prices.{nextPrice}
-use Rattle.price.proofs.above.Statement.{statement}
-use Rattle.price.proofs.above.Tie as tie
+use Rattle.lows.specs.Lows.{nextPrice}
+use Rattle.lows.proofs.above.Statement.{statement}
+use Rattle.lows.proofs.above.Tie as tie
 
 returns : tie.Need-returns
 unfolding nextPrice

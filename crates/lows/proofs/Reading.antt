@@ -15,9 +15,9 @@ use Rattle.levels.specs.Held.{heldLevels, Highest}
 use Rattle.levels.specs.declared.Levels.{Levels}
 use Rattle.history.specs.Held.{LevelAt}
 use Rattle.history.specs.declared.History.{History}
-use Rattle.auction.specs.Holds.{heldCourse}
+use Rattle.courses.specs.Courses.{heldCourse}
 use Rattle.courses.specs.Places.{Filling, filling-next, filling-all, numbered-at}
-use Rattle.price.specs.Prices.{Highests, Lows}
+use Rattle.lows.specs.Lows.{Highests, Lows}
 
 -- ---- what a sound ledger holds fits eight places
 

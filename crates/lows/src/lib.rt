@@ -1,0 +1,39 @@
+// What each developer stands at, developer n at place n - 1: its highest level, and its low at a price.
+ghost use mathlib.Core.Path.{_≡_};
+ghost use Rattle.lows.specs.Lows.{Highests, Lows, nextPrice};
+use history::History;
+use levels::Levels;
+
+// The highest level of each developer.
+pub fn highest_levels(declared: [Levels; 32]) -> [u32; 32]
+    ensures { λ r. ⌜ Highests declared r ⌝ }
+{
+    let mut out = [0u32; 32];
+    for i in 0..32 {
+        let levels = declared[i];
+        out[i] = levels.highest();
+    }
+    out
+}
+
+// The low of each developer at p, from its highest level.
+pub fn lows_at(histories: [History; 32], highest: [u32; 32], p: u32) -> [u32; 32]
+    ensures { λ r. ⌜ Lows histories highest p r ⌝ }
+{
+    let mut out = [0u32; 32];
+    for i in 0..32 {
+        let history = histories[i];
+        out[i] = history.level_at(highest[i], p);
+    }
+    out
+}
+
+// The next price. High at p is low there.
+pub fn above(p: u32) -> u32
+    ensures { λ r. ⌜ r ≡ nextPrice p ⌝ }
+{
+    if checks::TOP_PRICE < p {
+        return p;
+    }
+    p + 1
+}
