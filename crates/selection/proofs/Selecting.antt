@@ -14,10 +14,10 @@ use Rattle.table.specs.Rows.{rowsIn, Lays}
 use Rattle.table.specs.Places.{Laid, LaidOut, numbersFrom}
 use Rattle.table.specs.declared.Table.{Table}
 use Rattle.counting.specs.Counted.{Tells, CountedTo}
-use Rattle.searching.specs.Behind.{Orders, EachBehind}
-use Rattle.searching.specs.ByNumber.{by-number}
+use Rattle.rows_behind.specs.Behind.{Orders, EachBehind}
+use Rattle.rows_behind.specs.ByNumber.{by-number}
 use Rattle.searching.specs.Searches.{Searchable, Searches}
-use Rattle.searching.specs.declared.Found.{Found}
+use Rattle.tally.specs.declared.Found.{Found}
 use Rattle.selection.specs.declared.Selected.{Selected}
 use Rattle.selection.specs.Selection.{selectedOf, refusedBy, Selects}
 

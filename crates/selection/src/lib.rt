@@ -90,7 +90,7 @@ pub fn select(t: Table, demand: u64, limit: u64) -> Selected
         return Selected::refused(10);
     }
     let numbers = BY_NUMBER;
-    let behind = searching::look_behind(&levels, &ends, &numbers);
+    let behind = rows_behind::look_behind(&levels, &ends, &numbers);
     let strides = behind.ways;
     let found = searching::find(&levels, &ends, &strides, demand);
     let award = choice_at(&levels, &ends, &strides, found.index);

@@ -2,9 +2,9 @@
 use mathlib.Core.Path.{sym, _∙_}
 use native.Mathlib.Omega.{arith}
 use borrow.Author.Needs.{needs}
-use Rattle.searching.proofs.Tallying.{more-above, more-below, more-later, more-earlier}
-use Rattle.searching.proofs.with_more.Statement.{statement}
-use Rattle.searching.proofs.with_more.Tie as tie
+use Rattle.tally.specs.TallyLaws.{more-above, more-below, more-later, more-earlier}
+use Rattle.tally.proofs.with_more.Statement.{statement}
+use Rattle.tally.proofs.with_more.Tie as tie
 
 set-aside-requires : tie.Need-set-aside-requires
 set-aside-requires c κs = search needs

@@ -15,8 +15,8 @@ use Rattle.choices.specs.Between.{lowest-cons, highest-cons}
 use Rattle.choices.specs.Numbered.{count, count-row}
 use Rattle.table.specs.Places.{LaidOut, startOf, rowIn}
 use Rattle.table.specs.PlaceLaws.{row-ends, row-length, row-low, row-high}
-use Rattle.searching.specs.Behind.{Orders, rowsBehind, EachBehind, Behind}
-use Rattle.searching.specs.InOrder.{number-at, from-cons, from-none, from-few, from-fits}
+use Rattle.rows_behind.specs.Behind.{Orders, rowsBehind, EachBehind, Behind}
+use Rattle.rows_behind.specs.InOrder.{number-at, from-cons, from-none, from-few, from-fits}
 
 -- one more is stored at place k
 stored : (f : List (List ℕ) → ℕ) (levels ends order out : List ℕ) (k x : ℕ) → length out ≡ 32 → k < 32 → x ≡ f (rowsBehind levels ends order k) →

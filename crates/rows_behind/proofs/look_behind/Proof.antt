@@ -4,9 +4,9 @@ use mathlib.Core.Path.{refl}
 use native.Mathlib.Omega.{arith}
 use lib.ListN.{getD}
 use Rattle.table.specs.Places.{startOf}
-use Rattle.searching.proofs.Looking.{Looking, looking-first, looking-down, looking-row, looking-fits, looking-again, looking-end}
-use Rattle.searching.proofs.look_behind.Statement.{statement}
-use Rattle.searching.proofs.look_behind.Tie as tie
+use Rattle.rows_behind.proofs.Looking.{Looking, looking-first, looking-down, looking-row, looking-fits, looking-again, looking-end}
+use Rattle.rows_behind.proofs.look_behind.Statement.{statement}
+use Rattle.rows_behind.proofs.look_behind.Tie as tie
 
 abbrev Inv-loop : tie.InvT-loop
 Inv-loop levels ends order ways₀ lows₀ highs₀ n₀ low₀ high₀ i₀ ways lows highs n low high i = Looking levels ends order ways lows highs n low high i

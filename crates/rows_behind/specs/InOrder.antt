@@ -15,7 +15,7 @@ use Rattle.choices.specs.Through.{nth-in}
 use Rattle.choices.specs.Numbered.{count, count-row}
 use Rattle.table.specs.Places.{RowLaid, LaidOut, rowIn}
 use Rattle.table.specs.PlaceLaws.{row-some, row-laid}
-use Rattle.searching.specs.Behind.{Orders}
+use Rattle.rows_behind.specs.Behind.{Orders}
 
 -- ---- sums of rows whose levels are at most 10^9
 

@@ -9,7 +9,7 @@ use Rattle.choices.specs.Numbered.{count}
 use Rattle.table.specs.Rows.{rowsIn}
 use Rattle.table.specs.Places.{LaidOut, numbersFrom}
 use Rattle.table.specs.PlaceLaws.{rows-numbered, in-numbers}
-use Rattle.searching.specs.Behind.{Orders}
+use Rattle.rows_behind.specs.Behind.{Orders}
 
 pub number-is : (k n i : ℕ) → i < n → getD (numbersFrom k n) i 0 ≡ k + i
 unfolding numbersFrom
