@@ -296,7 +296,7 @@ impl Auction {
             return self.refused(2);
         }
         let kinds = self.kinds;
-        if !checks::is_of_kind(kinds, developer, Auction::NEW_PLANT) {
+        if !step_checks::is_of_kind(kinds, developer, Auction::NEW_PLANT) {
             return self.refused(3);
         }
         let i = (developer - 1) as usize;
@@ -304,7 +304,7 @@ impl Auction {
         if 0 < history.offered {
             return self.refused(8);
         }
-        if !checks::prices_ok(self.closing, self.opening, prices, levels) {
+        if !step_checks::prices_ok(self.closing, self.opening, prices, levels) {
             return self.refused(6);
         }
         let declared = self.declared[i];
@@ -327,7 +327,7 @@ impl Auction {
             return self.refused(2);
         }
         let kinds = self.kinds;
-        if !checks::is_of_kind(kinds, developer, Auction::NEW_PLANT) {
+        if !step_checks::is_of_kind(kinds, developer, Auction::NEW_PLANT) {
             return self.refused(3);
         }
         let place = (developer - 1) as usize;
@@ -352,11 +352,11 @@ impl Auction {
             return self.refused(2);
         }
         let kinds = self.kinds;
-        if !checks::is_of_kind(kinds, developer, Auction::EXISTING_PLANT) {
+        if !step_checks::is_of_kind(kinds, developer, Auction::EXISTING_PLANT) {
             return self.refused(15);
         }
         let settings = self.settings;
-        if !checks::prices_ok(settings.ce / 2, settings.a, prices, levels) {
+        if !step_checks::prices_ok(settings.ce / 2, settings.a, prices, levels) {
             return self.refused(6);
         }
         let i = (developer - 1) as usize;
@@ -382,11 +382,11 @@ impl Auction {
         for i in 0..32 {
             let h = next.histories[i];
             let q = next.quantities[i];
-            let missing = checks::withdraws(next.kinds[i], q);
-            let reached = h.reach(closing);
+            let missing = closing_checks::withdraws(next.kinds[i], q);
+            let reached = withdrawals::reach(h, closing);
             let applied = reached.close(missing, opening);
             next.histories[i] = applied;
-            next.quantities[i] = applied.last_level(q);
+            next.quantities[i] = withdrawals::last_level(applied, q);
         }
         next
     }
@@ -410,8 +410,8 @@ impl Auction {
         let supply = supply::supply(projects, quantities);
         let demand = self.demand_at(closing);
         let remainder = self.remainder_at(closing);
-        let excess = checks::excess_of(supply, demand);
-        let cleared = checks::clears(supply, demand, closing, self.settings.ce / 2);
+        let excess = closing_checks::excess_of(supply, demand);
+        let cleared = closing_checks::clears(supply, demand, closing, self.settings.ce / 2);
         next.phase = phase_after(cleared);
         Closing {
             number: 0,
