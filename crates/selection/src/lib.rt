@@ -8,7 +8,7 @@ ghost use Rattle.choices.specs.Choices.{choices};
 ghost use Rattle.choices.specs.Numbered.{count};
 ghost use Rattle.table.specs.Rows.{rowsIn};
 ghost use Rattle.searching.specs.Searches.{Searchable};
-ghost use Rattle.selection.specs.Selection.{refusedBy, Selects};
+ghost use Rattle.selection.specs.Selection.{refusedSelection, Selects};
 use table::Table;
 
 // What settling a table comes to.
@@ -25,7 +25,7 @@ pub struct Selected {
 
 impl Selected {
     fn refused(number: u8) -> Selected
-        ensures { λ r. ⌜ r ≡ refusedBy number ⌝ }
+        ensures { λ r. ⌜ r ≡ refusedSelection number ⌝ }
     {
         Selected {
             number,
