@@ -181,24 +181,16 @@ impl Auction {
     {
         let phase = self.phase;
         let settings = self.settings;
-        if !clock::may_open(phase) {
-            return self.refused(2);
-        }
-        if c < settings.ce / 2 {
-            return self.refused(5);
-        }
-        let opening = clock::opening_price(phase, settings.a, self.closing);
-        if opening <= c {
-            return self.refused(5);
-        }
+        let closing = self.closing;
         let projects = self.projects;
         let quantities = self.quantities;
-        if !clock::start_covered(phase, settings, projects, quantities) {
-            return self.refused(9);
+        let number = clock::opening_number(phase, settings, closing, projects, quantities, c);
+        if number != 0 {
+            return self.refused(number);
         }
         let mut next = self;
         next.phase = Auction::ROUND;
-        next.opening = opening;
+        next.opening = clock::opening_price(phase, settings.a, closing);
         next.closing = c;
         Answer {
             number: 0,

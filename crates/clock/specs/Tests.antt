@@ -1,9 +1,10 @@
 -- The rules' tests (`rules`, Refusals and Rounds) over the phase's number, the settings and the arrays that an auction holds.
-use Prim.Native.Nat.{ℕ}
+use Prim.Native.Nat.{ℕ, _/_}
 use mathlib.Core.Bool.{Bool, cond, not, _&&_, _||_}
 use mathlib.Core.List.{List}
-use lib.Dec.{eqb, leb}
+use lib.Dec.{eqb, leb, ltb}
 use Rattle.curve.specs.Answer.{demandAnswer}
+use Rattle.rules.specs.Refusals.{check}
 use Rattle.supply.specs.ByProject.{supplyOf}
 use Rattle.clock.specs.declared.Settings.{Settings}
 
@@ -28,6 +29,17 @@ remainderBy s p = demandAnswer (s .ce) (s .d) (s .m1) (s .m2) p .remainder
 -- at the first opening A is covered
 abbrev pub coveredBy : ℕ → Settings → List ℕ → List ℕ → Bool
 coveredBy phase s projects quantities = not (eqb phase 1) || leb (demandBy s (s .a)) (supplyOf projects quantities)
+
+-- C is at least the floor and below the opening price
+abbrev pub closingOkBy : ℕ → Settings → ℕ → ℕ → Bool
+closingOkBy phase s closing c = leb (s .ce / 2) c && ltb c (openingBy phase (s .a) closing)
+
+-- the number of an opening that announces C
+abbrev pub openingNumberBy : ℕ → Settings → ℕ → List ℕ → List ℕ → ℕ → ℕ
+openingNumberBy phase s closing projects quantities c =
+    check (mayOpenBy phase) 2
+    (check (closingOkBy phase s closing c) 5
+    (check (coveredBy phase s projects quantities) 9 0))
 
 -- ---- closing
 

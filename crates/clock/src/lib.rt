@@ -1,7 +1,7 @@
 // The clock of an auction: the settings that it runs by, demand by them, and what its phases say. Each function ensures a rule's test (specs/Tests.antt).
 ghost use mathlib.Core.Path.{_≡_};
 ghost use Prim.Native.Nat.{_≤_};
-ghost use Rattle.clock.specs.Tests.{demandBy, remainderBy, mayOpenBy, openingBy, coveredBy, phaseNumberAfter, isClosedBy};
+ghost use Rattle.clock.specs.Tests.{demandBy, remainderBy, mayOpenBy, openingBy, coveredBy, openingNumberBy, phaseNumberAfter, isClosedBy};
 use demand::Demanded;
 
 // The phases (document 01, Rounds).
@@ -49,7 +49,7 @@ impl Settings {
 // ---- opening
 
 // Whether an opening is accepted in this phase.
-pub fn may_open(phase: u8) -> bool
+fn may_open(phase: u8) -> bool
     ensures { λ r. ⌜ r ≡ mayOpenBy phase ⌝ }
 {
     if phase == READY {
@@ -69,18 +69,39 @@ pub fn opening_price(phase: u8, a: u32, closing: u32) -> u32
 }
 
 // Whether A is covered, if this is the first opening.
-pub fn start_covered(
-    phase: u8,
-    settings: Settings,
-    projects: [u8; 32],
-    quantities: [u32; 32],
-) -> bool
+fn start_covered(phase: u8, settings: Settings, projects: [u8; 32], quantities: [u32; 32]) -> bool
     ensures { λ r. ⌜ r ≡ coveredBy phase settings projects quantities ⌝ }
 {
     if phase != READY {
         return true;
     }
     settings.demand_at(settings.a) <= supply::supply(projects, quantities)
+}
+
+// The number of an opening that announces C: 0, or its refusal's. Checks: 2, 5, 9.
+pub fn opening_number(
+    phase: u8,
+    settings: Settings,
+    closing: u32,
+    projects: [u8; 32],
+    quantities: [u32; 32],
+    c: u32,
+) -> u8
+    ensures { λ r. ⌜ r ≡ openingNumberBy phase settings closing projects quantities c ⌝ }
+{
+    if !may_open(phase) {
+        return 2;
+    }
+    if c < settings.ce / 2 {
+        return 5;
+    }
+    if opening_price(phase, settings.a, closing) <= c {
+        return 5;
+    }
+    if !start_covered(phase, settings, projects, quantities) {
+        return 9;
+    }
+    0
 }
 
 // ---- closing
