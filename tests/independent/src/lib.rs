@@ -5,6 +5,7 @@
 
 pub mod auction;
 pub mod calls;
+pub mod curve;
 pub mod cutting;
 mod demand;
 pub mod direct;

@@ -21,6 +21,7 @@ use crate::random::Random;
 use crate::replay::{make, read_call, write_call, Call};
 use crate::settling::number_of_choices;
 pub use aimed::DECISIVE;
+use books::Book;
 pub use counted::{largest_book, LARGEST_BOOKS};
 pub use crowded::{easy_book, hard_book};
 pub use long::long_record;
@@ -40,11 +41,12 @@ pub fn records_of(seeds: Range<u64>) -> Vec<Vec<u8>> {
 pub fn record(seed: u64) -> Vec<u8> {
     let mut writer = Writer::new(seed);
     match writer.random.between(1, 100) {
-        1..=88 => writer.auction(),
+        1..=84 => writer.auction(books::book),
+        85..=88 => writer.auction(books::long_book),
         89..=90 => writer.counted_auction(),
         91..=95 => writer.any_calls(),
         _ => {
-            writer.auction();
+            writer.auction(books::book);
             damage::record(&mut writer.random, &mut writer.record);
         }
     }
@@ -115,8 +117,8 @@ impl Writer {
         }
     }
 
-    fn auction(&mut self) {
-        let book = books::book(&mut self.random);
+    fn auction(&mut self, book: fn(&mut Random) -> Book) {
+        let book = book(&mut self.random);
         let lodging = self.random.chance(65);
         self.make(&book.set_up);
         for registration in &book.registrations {

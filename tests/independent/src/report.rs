@@ -1,10 +1,11 @@
 //! What a program that compares replies prints: one line a group of records with what their
 //! replies were, and the first difference; how often rounds closed where the closing rule
 //! decides; how often demand had a remainder; what lodged lists and cancellations did; how searches
-//! went; and what it ends with.
+//! went; what closings did to the supply curve; and what it ends with.
 
 mod cancellations;
 mod closings;
+mod curves;
 mod cut;
 mod features;
 mod lodgings;
@@ -16,6 +17,7 @@ use crate::replay::lines;
 use crate::settling::Settlement;
 pub use cancellations::{Cancellations, CANCELLATIONS};
 pub use closings::Closings;
+pub use curves::{Redrawn, CURVES, LONGEST_CURVE};
 use cut::Cut;
 pub use features::Features;
 pub use lodgings::{Lodgings, LODGINGS};
@@ -64,6 +66,7 @@ pub struct Group {
     cancellations: Features<Cancellations>,
     cut: Cut,
     searches: Features<Settlement>,
+    curves: Features<Redrawn>,
     /// Words of traces by their names.
     words: BTreeMap<String, u64>,
     difference: Option<String>,
@@ -83,6 +86,7 @@ impl Group {
             cancellations: Features::new(CANCELLATIONS),
             cut: Cut::default(),
             searches: Features::new(SEARCHES),
+            curves: Features::new(CURVES),
             words: BTreeMap::new(),
             difference: None,
         }
@@ -116,6 +120,7 @@ impl Group {
         self.cancellations.join(&other.cancellations);
         self.cut.join(&other.cut);
         self.searches.join(&other.searches);
+        self.curves.join(&other.curves);
         add(&mut self.words, other.words);
         self.difference = self.difference.take().or(other.difference);
     }
@@ -150,6 +155,13 @@ impl Group {
     /// Counts the settlement of a record.
     pub fn count_search(&mut self, settlement: &Settlement) {
         self.searches.count(settlement);
+    }
+
+    /// Counts the accepted closings of a record by their supply curves.
+    pub fn count_curves(&mut self, record: &[u8]) {
+        for closing in Redrawn::all(record) {
+            self.curves.count(&closing);
+        }
     }
 
     /// Counts a line of a trace's words by its name.
@@ -195,6 +207,7 @@ impl Group {
             println!("  words: {}", listed_counts(&self.words));
         }
         self.searches.print("searches by record");
+        self.curves.print("curves by closing");
         self.difference.is_none()
     }
 }

@@ -31,8 +31,8 @@ pub const REPLY: &str = "\
 06000000659000000003CA00000003FC0000000400000003020101000003340203000000C8000000000000659000
 ";
 
-/// What the program `trace` prints of the sample: the reply with its words and decimal numbers, and
-/// the preview (document 02, request 6).
+/// What the program `trace` prints of the sample: the reply with its words and decimal numbers, the
+/// preview (document 02, request 6) and the supply curve (request 9).
 pub const TRACE: &str = "\
 0100
 0200
@@ -47,6 +47,7 @@ preview 0 -55 0 1
 0500FFFFFFFFFFFFFFC900000000
 excess -55
 remainder 0
+curve 26000 1170 920
 06000000659000000003CA00000003FC0000000400000003020101000003340203000000C8000000000000659000
 price 26000
 demand 970

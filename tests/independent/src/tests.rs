@@ -5,6 +5,7 @@ mod awards;
 mod cancelling;
 mod causes;
 mod checks;
+mod curve;
 mod fixed;
 mod frames;
 mod lodging;

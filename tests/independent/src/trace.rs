@@ -1,7 +1,9 @@
 //! The program `trace` (docs/FORMAT.md): each reply and, below it, what it says in words and
-//! decimal numbers, an item a line; above that to a closing, what a preview says.
+//! decimal numbers, an item a line; above that to a closing, what a preview says, and below it the
+//! supply curve.
 
 use crate::auction::{Auction, Closing, Preview};
+use crate::curve::Entry;
 use crate::replay::{answer, lines, read_call, reply_of, Accepted, Call, PROGRAM_BYTES};
 use crate::settling::Settlement;
 
@@ -24,7 +26,7 @@ pub fn traced_with_settlement(input: &[u8]) -> (Vec<u8>, Option<Settlement>) {
         }
         let (kind, answer) = answer(&mut auction, line);
         text.extend(reply_of(kind, &answer));
-        text.extend(words(&answer).into_bytes());
+        text.extend(words(&auction, &answer).into_bytes());
         if let Ok(Accepted::Settled(settled)) = answer {
             settlement = Some(settled);
         }
@@ -45,15 +47,21 @@ fn previewed(auction: &Auction) -> String {
 }
 
 /// What stands below a reply: nothing below a refusal and the other calls.
-fn words(answer: &Result<Accepted, u8>) -> String {
+fn words(auction: &Auction, answer: &Result<Accepted, u8>) -> String {
     match answer {
         Ok(Accepted::Closed(closing)) => {
             let Closing { excess, remainder } = closing;
-            format!("excess {excess}\nremainder {remainder}\n")
+            format!("excess {excess}\nremainder {remainder}\n") + &drawn(&auction.supply_curve())
         }
         Ok(Accepted::Settled(settlement)) => settled(settlement),
         Ok(Accepted::Plain) | Err(_) => String::new(),
     }
+}
+
+/// The supply curve, which no reply says (document 02, request 9).
+fn drawn(curve: &[Entry]) -> String {
+    let line = |entry: &Entry| format!("curve {} {} {}\n", entry.price, entry.before, entry.after);
+    curve.iter().map(line).collect()
 }
 
 /// The settlement's numbers, then its awards by rising project, then how many complete choices

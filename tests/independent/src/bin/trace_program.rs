@@ -1,12 +1,12 @@
 //! Runs the program `trace`, whose path is the argument, and compares what it prints with the
 //! independent implementation, byte for byte.
 //! One line a group of records, as for `replay`, with `ok` or the first difference; below it, what
-//! their words were, and how the searches of those that settle went. The exit status is 0 only if
-//! no group differs.
+//! their words were, how the searches of those that settle went, and what their closings did to the
+//! supply curve. The exit status is 0 only if no group differs.
 
 use independent::program::{run, AT_ONCE};
-use independent::records::{edges, records_of, Records};
-use independent::replay::lines;
+use independent::records::{edges, fixed, records_of, Records};
+use independent::replay::{lines, PROGRAM_BYTES};
 use independent::report::{verdict, Group};
 use independent::sample;
 use independent::trace::traced_with_settlement;
@@ -30,8 +30,9 @@ fn main() -> ExitCode {
 }
 
 /// Groups of records, and the bytes of standard input that arrive at once.
-const GROUPS: [(&str, Records, usize); 7] = [
+const GROUPS: [(&str, Records, usize); 8] = [
     ("sample and examples", sample_and_examples, AT_ONCE),
+    ("fixed records", fixed::records, AT_ONCE),
     ("edges of lines", edges::lines, AT_ONCE),
     ("sizes of records", edges::record_sizes, AT_ONCE),
     ("sizes of replies", edges::reply_sizes, AT_ONCE),
@@ -53,6 +54,9 @@ fn sample_and_examples() -> Vec<Vec<u8>> {
 fn compare(group: &mut Group, record: &[u8], output: &Output) {
     let (expected, settlement) = traced_with_settlement(record);
     count(group, record, &expected);
+    if record.len() <= PROGRAM_BYTES {
+        group.count_curves(record);
+    }
     if let Some(settlement) = settlement {
         group.count_search(&settlement);
     }

@@ -31,6 +31,30 @@ pub fn book(random: &mut Random) -> Book {
     }
 }
 
+/// A book of many withdrawals: 32 developers of eight levels, each of which alone is enough for
+/// another round.
+pub fn long_book(random: &mut Random) -> Book {
+    let scale: Vec<u32> = (1..=20).map(|multiple| multiple * 2_000).collect();
+    let size = random.one_of(&[1, 2, 5]);
+    let mut registrations = Vec::new();
+    for developer in NUMBERS {
+        let project = developer.div_ceil(size);
+        let kind = if size == 1 {
+            random.one_of(&[EXISTING, NEW, NEW])
+        } else {
+            NEW
+        };
+        let levels = random.some_of(&scale, MOST_LEVELS);
+        registrations.push(register(random, project, developer, kind, levels));
+    }
+    random.shuffle(&mut registrations);
+    let ce = random.one_of(&[200, 20_000, 500_000]);
+    Book {
+        set_up: set_up_at_m1(ce, 1),
+        registrations,
+    }
+}
+
 /// The number of developers of each project; now and then all projects with one each.
 fn sizes(random: &mut Random) -> Vec<usize> {
     if random.chance(3) {

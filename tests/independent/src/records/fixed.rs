@@ -4,6 +4,7 @@
 mod auctions;
 mod cancellations;
 mod choices;
+mod curves;
 mod developers;
 mod limits;
 mod lodgings;
@@ -18,15 +19,21 @@ use crate::auction::{EXISTING, NEW};
 use crate::replay::{write_call, Call};
 use std::ops::RangeInclusive;
 
+/// All of them.
+pub fn records() -> Vec<Vec<u8>> {
+    let groups = groups().into_iter();
+    groups.flat_map(|(_, records)| records).collect()
+}
+
 /// Records by what they are about.
-pub fn groups() -> [(&'static str, Vec<Vec<u8>>); 12] {
+pub fn groups() -> [(&'static str, Vec<Vec<u8>>); 13] {
     let records = |scripts: Vec<Script>| scripts.into_iter().map(|script| script.record);
     GROUPS.map(|(name, scripts)| (name, records(scripts()).collect()))
 }
 
 type Group = (&'static str, fn() -> Vec<Script>);
 
-const GROUPS: [Group; 12] = [
+const GROUPS: [Group; 13] = [
     ("whole auctions", auctions::scripts),
     ("phases", phases::scripts),
     ("settings", settings::scripts),
@@ -39,6 +46,7 @@ const GROUPS: [Group; 12] = [
     ("developers", developers::scripts),
     ("lodgings", lodgings::scripts),
     ("cancellations", cancellations::scripts),
+    ("supply curves", curves::scripts),
 ];
 
 /// A step of an offer: price and new level.

@@ -5,7 +5,7 @@ use crate::replay::{lines, replay};
 use std::collections::BTreeSet;
 
 /// The refusals of each group, by kind and number.
-const REFUSED: [(&str, &[&str]); 12] = [
+const REFUSED: [(&str, &[&str]); 13] = [
     ("whole auctions", &["0203", "0302", "0305", "0407", "0502"]),
     (
         "phases",
@@ -27,6 +27,12 @@ const REFUSED: [(&str, &[&str]); 12] = [
         "cancellations",
         &[
             "0302", "0403", "0406", "0407", "0408", "0602", "0902", "0903", "0910",
+        ],
+    ),
+    (
+        "supply curves",
+        &[
+            "0302", "0402", "0406", "0407", "0408", "0502", "060A", "0910",
         ],
     ),
 ];

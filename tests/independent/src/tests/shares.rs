@@ -5,8 +5,8 @@ use super::{each_step, Step, RECORDS};
 use crate::auction::Auction;
 use crate::records::DECISIVE;
 use crate::replay::{lines, replay, Accepted, Call};
-use crate::report::{Cancellations, Closings, Features, Lodgings, Remainders};
-use crate::report::{CANCELLATIONS, LODGINGS};
+use crate::report::{Cancellations, Closings, Features, Lodgings, Redrawn, Remainders};
+use crate::report::{CANCELLATIONS, CURVES, LODGINGS};
 use crate::settling::{Award, Settlement};
 use std::collections::BTreeMap;
 
@@ -23,6 +23,7 @@ struct Shares {
     remainders: Remainders,
     lodgings: Features<Lodgings>,
     cancellations: Features<Cancellations>,
+    curves: Features<Redrawn>,
 }
 
 impl Shares {
@@ -37,6 +38,7 @@ impl Shares {
             remainders: Remainders::default(),
             lodgings: Features::new(LODGINGS),
             cancellations: Features::new(CANCELLATIONS),
+            curves: Features::new(CURVES),
         }
     }
 
@@ -46,6 +48,9 @@ impl Shares {
         self.remainders.count(&replies);
         self.lodgings.count(&Lodgings::of(record));
         self.cancellations.count(&Cancellations::of(record));
+        for closing in Redrawn::all(record) {
+            self.curves.count(&closing);
+        }
         let replies = lines(&replies);
         assert_eq!(replies.len(), lines(record).len(), "one reply a line");
         self.records += 1;
@@ -85,6 +90,7 @@ impl Shares {
         self.remainders.print();
         self.lodgings.print("lodgings by record");
         self.cancellations.print("cancellations by record");
+        self.curves.print("curves by closing");
     }
 }
 
@@ -130,7 +136,10 @@ fn shares_of_replies() {
     assert!(refused.iter().all(|&count| count >= 500), "{refused:?}");
     let lodgings: Vec<_> = shares.lodgings.counts().collect();
     let cancellations: Vec<_> = shares.cancellations.counts().collect();
-    for counts in [lodgings, cancellations] {
+    let mut curves: Vec<_> = shares.curves.counts().collect();
+    // The longest are fixed records.
+    curves.retain(|(name, _)| *name != "256");
+    for counts in [lodgings, cancellations, curves] {
         assert!(counts[0].1 * 3 >= shares.records, "{counts:?}");
         assert!(counts.iter().all(|(_, count)| *count >= 500), "{counts:?}");
     }

@@ -53,7 +53,7 @@ fn remainders() {
          00000000\n05\n0600000002\n"
     );
     let trace = "0100\n0200\n0300\n0400\npreview 0 -951 19900 1\n\
-        0500FFFFFFFFFFFFFC4900004DBC\nexcess -951\nremainder 19900\n\
+        0500FFFFFFFFFFFFFC4900004DBC\nexcess -951\nremainder 19900\ncurve 30001 950 0\n\
         06000000753100000003B600000003B60000000200000001010101000003B6000000640000753100\n\
         price 30001\ndemand 950\ntotal 950\nchoices 2\ncovering 1\naward 1 1 950\nkept 1\n\
         remainder 100\nsecond 30001\nshort 0\n";
