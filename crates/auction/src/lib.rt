@@ -206,7 +206,7 @@ impl Auction {
             return self.refused(2);
         }
         let kinds = self.kinds;
-        if !checks::is_of_kind(kinds, developer, Auction::NEW_PLANT) {
+        if !step_checks::is_of_kind(kinds, developer, Auction::NEW_PLANT) {
             return self.refused(3);
         }
         let i = (developer - 1) as usize;
@@ -214,7 +214,7 @@ impl Auction {
         if 0 < history.offered {
             return self.refused(8);
         }
-        if !checks::prices_ok(self.closing, self.opening, prices, levels) {
+        if !step_checks::prices_ok(self.closing, self.opening, prices, levels) {
             return self.refused(6);
         }
         let declared = self.declared[i];
@@ -237,7 +237,7 @@ impl Auction {
             return self.refused(2);
         }
         let kinds = self.kinds;
-        if !checks::is_of_kind(kinds, developer, Auction::NEW_PLANT) {
+        if !step_checks::is_of_kind(kinds, developer, Auction::NEW_PLANT) {
             return self.refused(3);
         }
         let place = (developer - 1) as usize;
@@ -262,11 +262,11 @@ impl Auction {
             return self.refused(2);
         }
         let kinds = self.kinds;
-        if !checks::is_of_kind(kinds, developer, Auction::EXISTING_PLANT) {
+        if !step_checks::is_of_kind(kinds, developer, Auction::EXISTING_PLANT) {
             return self.refused(15);
         }
         let settings = self.settings;
-        if !checks::prices_ok(settings.ce / 2, settings.a, prices, levels) {
+        if !step_checks::prices_ok(settings.ce / 2, settings.a, prices, levels) {
             return self.refused(6);
         }
         let i = (developer - 1) as usize;
@@ -307,8 +307,8 @@ impl Auction {
         let supply = supply::supply(projects, left);
         let demand = settings.demand_at(closing);
         let remainder = settings.remainder_at(closing);
-        let excess = checks::excess_of(supply, demand);
-        let cleared = checks::clears(supply, demand, closing, settings.ce / 2);
+        let excess = closing_checks::excess_of(supply, demand);
+        let cleared = closing_checks::clears(supply, demand, closing, settings.ce / 2);
         let mut next = self;
         next.phase = clock::phase_after(cleared);
         next.quantities = left;

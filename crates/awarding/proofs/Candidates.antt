@@ -12,7 +12,7 @@ use Rattle.numbers.specs.Lists.{oneTo, keep}
 use Rattle.numbers.specs.ListLaws.{Each, keep-append, in-keep, in-one-to}
 use Rattle.rules.specs.Ledger.{Ledger}
 use Rattle.rules.specs.Clearing.{high, low, developersOf}
-use Rattle.rules.specs.Award.{openBetween, openToDeveloper, preferred, mostPreferred, firstPreferred, winner}
+use Rattle.rules.specs.Award.{openToDeveloper, preferred, mostPreferred, firstPreferred, winner}
 use Rattle.awarding.specs.Choosing.{mayGet}
 use Rattle.awarding.proofs.Preferring.{no-level}
 
@@ -98,8 +98,8 @@ module _ (l : Ledger) (p k v : ℕ) where
       go false = refl
 
   gets-open : (n : ℕ) → (v ≡ 0 → ⊥) → getsIt l p v n ≡ opens n
-  unfolding mayGet openToDeveloper openBetween
-  gets-open n z = rw (lt-ltb 0 v (omega arith), ne-eqb v 0 z)
+  unfolding mayGet openToDeveloper
+  gets-open n z = rw (lt-ltb 0 v (omega arith))
 
   pub chosen-more : (i : ℕ) → chosen (suc i) ≡ cond (ofProject (suc i) && getsIt l p v (suc i)) (better l (chosen i) (suc i)) (chosen i)
   chosen-more i = go (decEq v 0)

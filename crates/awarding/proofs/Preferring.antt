@@ -1,4 +1,4 @@
--- What the code's tests of one project and one developer say: the values of `levelOf`, `mayGet` and `foremost`.
+-- What the code's tests of one project and one developer say: the values of `awardedLevel`, `mayGet` and `foremost`.
 use Prim.Native.Nat.{ℕ, suc, _+_, _-_, _≤_, _<_}
 use mathlib.Core.Path.{_≡_, sym, ap, _∙_}
 use mathlib.Core.Bool.{Bool, true, false, cond, and-true, and-false}
@@ -9,21 +9,22 @@ use lib.Dec.{ltb}
 use lib.ListN.{length, getD, List·getD-eq-default}
 use borrow.Author.Tests.{le-leb, lt-leb, lt-ltb, le-ltb, eq-eqb, ne-eqb}
 use Rattle.numbers.specs.Lists.{member}
-use Rattle.awarding.specs.Choosing.{levelOf, mayGet, preferredAt, foremost}
+use Rattle.rules.specs.Award.{openBetween}
+use Rattle.awarding.specs.Choosing.{awardedLevel, mayGet, preferredAt, foremost}
 
 -- ---- the level awarded to project k
 
 module _ (award : List ℕ) (k : ℕ) where
-  pub awarded-none : k < 1 → 0 ≡ levelOf award k
-  unfolding levelOf
+  pub awarded-none : k < 1 → 0 ≡ awardedLevel award k
+  unfolding awardedLevel
   awarded-none h = let e : k ≡ 0 = omega arith in rw e
 
-  pub awarded-beyond : length award ≡ 32 → 32 < k → 0 ≡ levelOf award k
-  unfolding levelOf
+  pub awarded-beyond : length award ≡ 32 → 32 < k → 0 ≡ awardedLevel award k
+  unfolding awardedLevel
   awarded-beyond e h = sym (List·getD-eq-default (0 ∷ award) 0 {n = k} (omega arith))
 
-  pub awarded-at : 1 ≤ k → getD award (k - 1) 0 ≡ levelOf award k
-  unfolding levelOf
+  pub awarded-at : 1 ≤ k → getD award (k - 1) 0 ≡ awardedLevel award k
+  unfolding awardedLevel
   awarded-at h = let e : suc (k - 1) ≡ k = omega arith in ap (λ (n : ℕ). getD (0 ∷ award) n 0) e
 
 -- ---- a level above 0 that is open
@@ -34,16 +35,16 @@ module _ (ls : List ℕ) (low high v : ℕ) where
   no-level h = rw (le-ltb 0 v (omega arith))
 
   pub below-low : v < low → false ≡ mayGet ls low high v
-  unfolding mayGet
+  unfolding mayGet openBetween
   below-low h = simp (lt-leb low v h, and-false)
 
   pub above-high : high < v → false ≡ mayGet ls low high v
-  unfolding mayGet
+  unfolding mayGet openBetween
   above-high h = simp (lt-leb v high h, and-false)
 
   pub if-declared : 1 ≤ v → low ≤ v → v ≤ high → member v ls ≡ mayGet ls low high v
-  unfolding mayGet
-  if-declared h g k = simp (lt-ltb 0 v h, le-leb low v g, le-leb v high k, and-true)
+  unfolding mayGet openBetween
+  if-declared h g k = simp (lt-ltb 0 v h, ne-eqb v 0 (λ e. omega arith), le-leb low v g, le-leb v high k, and-true)
 
 -- ---- the preferred one of developer m and developer i + 1
 

@@ -2,17 +2,17 @@
 use Prim.Native.Nat.{ℕ, suc, _-_}
 use mathlib.Core.Bool.{Bool, cond, _&&_, _||_}
 use mathlib.Core.List.{List, _∷_}
-use lib.Dec.{leb, ltb, eqb}
+use lib.Dec.{ltb, eqb}
 use lib.ListN.{getD}
-use Rattle.numbers.specs.Lists.{member}
+use Rattle.rules.specs.Award.{openBetween}
 
 -- the level of project k; 0 where k is not from 1 to 32
-unfoldable pub levelOf : List ℕ → ℕ → ℕ
-levelOf award k = getD (0 ∷ award) k 0
+unfoldable pub awardedLevel : List ℕ → ℕ → ℕ
+awardedLevel award k = getD (0 ∷ award) k 0
 
 -- level v is above 0, and open to a developer with these levels, low and high
 unfoldable pub mayGet : List ℕ → ℕ → ℕ → ℕ → Bool
-mayGet levels low high v = ltb 0 v && member v levels && leb low v && leb v high
+mayGet levels low high v = ltb 0 v && openBetween levels low high v
 
 -- the developer at place i has a higher study value than that at place j, or the same and an earlier start day
 unfoldable pub preferredAt : List ℕ → List ℕ → ℕ → ℕ → Bool

@@ -3,7 +3,7 @@ ghost use mathlib.Core.Path.{_≡_};
 ghost use Prim.Native.Nat.{_<_, _≤_};
 ghost use Rattle.levels.specs.Held.{levelsIn};
 ghost use Rattle.awarding.specs.Awarding.{Winners};
-ghost use Rattle.awarding.specs.Choosing.{levelOf, mayGet, foremost};
+ghost use Rattle.awarding.specs.Choosing.{awardedLevel, mayGet, foremost};
 use levels::Levels;
 
 // The developer of each awarded level: of those to whom it is open the one with the highest study value, then the earliest start day,
@@ -35,7 +35,7 @@ pub fn winners(
 
 // The level awarded to project k; 0 where k is no project's number.
 fn awarded(award: [u32; 32], k: usize) -> u32
-    ensures { λ r. ⌜ r ≡ levelOf award k ⌝ }
+    ensures { λ r. ⌜ r ≡ awardedLevel award k ⌝ }
 {
     if k < 1 {
         return 0;

@@ -1,15 +1,12 @@
-// The checks of the calls and of a closing that need no auction: over plain numbers, the arrays of 32 developers and lent lists.
+// The checks of set-up, registration and settling that need no auction: over plain numbers, the arrays of 32 developers and lent lists.
 // Each ensures the rule's own test (crate `rules`).
 ghost use mathlib.Core.Path.{_≡_};
 ghost use mathlib.Core.Bool.{_&&_};
-ghost use Prim.Native.Nat.{min, _-_, _<_, _^_};
-ghost use lib.IntN.{pos, _-ℤ_};
+ghost use Prim.Native.Nat.{min, _-_};
 ghost use lib.ListN.{getD};
-ghost use Rattle.rules.specs.Refusals.{settingsOk, numbersOk, isKind, levelsOk, isOfKind, pricesOk};
-ghost use Rattle.rules.specs.Rounds.{withdrawsAll, clears};
+ghost use Rattle.rules.specs.Refusals.{settingsOk, numbersOk, isKind, levelsOk};
 ghost use Rattle.rules.specs.Ledger.{settingsOf};
 ghost use Rattle.supply.specs.ByProject.{joins};
-use history::History;
 
 // The highest price that an auction can have: 2 CE at the largest CE (document 01, Demand).
 pub const TOP_PRICE: u32 = 1_000_000;
@@ -82,68 +79,6 @@ pub fn declaration_ok(
         return false;
     }
     supply::may_join(projects, kinds, project, kind)
-}
-
-// ---- offers and lodged lists
-
-// Whether a number is that of a developer of this kind: kind 2 makes offers, kind 1 lodges lists.
-pub fn is_of_kind(kinds: [u8; 32], developer: u8, kind: u8) -> bool
-    ensures { λ r. ⌜ r ≡ isOfKind kind developer (getD kinds (developer - 1) 0) ⌝ }
-{
-    if !supply::is_number(developer) {
-        return false;
-    }
-    let i = (developer - 1) as usize;
-    kinds[i] == kind
-}
-
-// Whether there are as many prices as levels, at most 8, and the prices fall from below `opening` and are at least `closing`.
-pub fn prices_ok(closing: u32, opening: u32, prices: &[u32], levels: &[u32]) -> bool
-    ensures { λ r. ⌜ r ≡ pricesOk closing opening (now (prices .entry)) (now (levels .entry)) ⌝ }
-{
-    if prices.len() != levels.len() {
-        return false;
-    }
-    if History::MOST < prices.len() {
-        return false;
-    }
-    history::prices_fall(closing, opening, prices)
-}
-
-// ---- closing
-
-// Whether a developer without an offer withdraws: one of kind 2 that is above 0.
-pub fn withdraws(kind: u8, quantity: u32) -> bool
-    ensures { λ r. ⌜ r ≡ withdrawsAll kind quantity ⌝ }
-{
-    if kind != supply::NEW {
-        return false;
-    }
-    0 < quantity
-}
-
-// A thousandth of a GWh in kWh: an excess below it reads as none (document 02, 1).
-const THOUSANDTH: u64 = 1_000;
-
-// Whether a round closes the auction: the excess is below a thousandth of a GWh, or C is the floor.
-pub fn clears(supply: u64, demand: u64, closing: u32, floor: u32) -> bool
-    ensures { λ r. ⌜ r ≡ clears supply demand closing floor ⌝ }
-{
-    if supply <= demand {
-        return true;
-    }
-    if supply - demand < THOUSANDTH {
-        return true;
-    }
-    closing == floor
-}
-
-// The excess: supply less demand, signed.
-pub fn excess_of(supply: u64, demand: u64) -> i64
-    requires { ⌜ (supply < 2 ^ 62) × (demand < 2 ^ 62) ⌝ }
-    ensures { λ r. ⌜ r ≡ pos supply -ℤ pos demand ⌝ }
-{
-    supply as i64 - demand as i64
 }
 
 // ---- settling

@@ -24,11 +24,11 @@ pub fn with_offers_applied(
     for i in 0..32 {
         let h = histories[i];
         let q = quantities[i];
-        let missing = checks::withdraws(kinds[i], q);
-        let reached = h.reach(closing);
+        let missing = closing_checks::withdraws(kinds[i], q);
+        let reached = withdrawals::reach(h, closing);
         let applied = reached.close(missing, opening);
         next.histories[i] = applied;
-        next.quantities[i] = applied.last_level(q);
+        next.quantities[i] = withdrawals::last_level(applied, q);
     }
     next
 }

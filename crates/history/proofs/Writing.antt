@@ -11,13 +11,12 @@ use lib.ListN.{length, getD, take, set, length-append, length-map, List·getD-ma
 use lib.Seq.{take-all}
 use Rattle.numbers.specs.Lists.{padded}
 use Rattle.rules.specs.Ledger.{Step, Standing, none, made}
-use Rattle.rules.specs.Rounds.{steps, reached, unreached}
+use Rattle.rules.specs.Rounds.{steps}
 use Rattle.sound.specs.Sound.{pricesOf, levelsOf}
-use Rattle.sound.specs.LodgedLaws.{reached-front}
 use Rattle.history.specs.declared.History.{History}
-use Rattle.history.specs.Held.{heldHistory, pending, additions, Offered, Cancelled, Lodged, ReachedNumber, Reached, Applied}
+use Rattle.history.specs.Held.{heldHistory, pending, additions, Offered, Cancelled, Lodged, Applied}
 use Rattle.history.specs.HeldLaws.{steps-prices, steps-levels, steps-length}
-use Rattle.history.proofs.Places.{same, count-of, offered-of, lodged-of, padded-more, padded-next, noStep, padded-at}
+use Rattle.history.specs.Places.{same, count-of, offered-of, lodged-of, padded-more, padded-next, noStep, padded-at}
 
 -- a column of the arrays
 column : (f : Step → ℕ) (ws ss : List Step) (xs : List ℕ) → map f ss ≡ xs → padded 8 (map f ws ++ xs) ≡ padded 8 (map f (ws ++ ss))
@@ -195,41 +194,6 @@ module _ (h₀ h : History) (n i : ℕ) (t : Keeping h₀ h n i) where
         (offered-of g)
         (lodged-of g);
   }
-
--- ---- reach
-
--- the lodged steps reached stand in front of the others: in place already
-pub reach-lodged :
-    (h : History) (c k : ℕ) → ReachedNumber h c k →
-    Reached h c (record { prices = h .prices; levels = h .levels; count = h .count + k; offered = h .offered; lodged = h .lodged - k })
-reach-lodged h c k r = record {
-  right = λ ws s ls f o e d g w.
-      let n = r .right ws s ls f o e d g w in
-      let front = reached-front f o c o ls (le-refl o) g in
-      let l = length-append (reached c o ls) (unreached c o ls) in
-      let m : length (reached c o ls ++ unreached c o ls) ≡ length ls = ap length front in
-      same _ (heldHistory (ws ++ reached c o ls) s (unreached c o ls))
-      (ap (λ (x : History). x .prices) e ∙ ap (λ (x : List Step). padded 8 (pricesOf x)) (moved ws s ls (reached c o ls) (unreached c o ls) front d))
-      (ap (λ (x : History). x .levels) e ∙ ap (λ (x : List Step). padded 8 (levelsOf x)) (moved ws s ls (reached c o ls) (unreached c o ls) front d))
-      (omega (arith, count-of e, length-append ws (reached c o ls)))
-      (offered-of e)
-      (omega (arith, lodged-of e));
-}
-  where
-    moved : (ws : List Step) (s : Standing) (ls rs us : List Step) → rs ++ us ≡ ls → (s ≡ none) ⊎ (ls ≡ []) → ws ++ (pending s ++ ls) ≡ (ws ++ rs) ++ (pending s ++ us)
-    moved ws none ls rs us e d = ap (λ (x : List Step). ws ++ x) (sym e) ∙ sym (append-assoc ws rs us)
-    moved ws (made ss) ls [] us e d = ap (λ (x : List Step). ws ++ (ss ++ x)) (sym e) ∙ ap (λ (x : List Step). x ++ (ss ++ us)) (sym (append-nil ws))
-    moved ws (made ss) ls (t ∷ rs) us e d = ⊎-elim (λ z. absurd (let y : _≡_ {A = ℕ} 0 1 = cc in omega arith)) (λ z. absurd (omega (arith, ap length (e ∙ z)))) d
-
--- no more are reached than there are, and there is room for all
-pub reached-fits : (h r : History) (c k : ℕ) → ReachedNumber h c k → (8 < h .count + k) ⊎ (h .lodged < k) → Reached h c r
-reached-fits h r c k n b = record {
-  right = λ ws s ls f o e d g w.
-      let m = n .right ws s ls f o e d g w in
-      let l = length-append (reached c o ls) (unreached c o ls) in
-      let q : length (reached c o ls ++ unreached c o ls) ≡ length ls = ap length (reached-front f o c o ls (le-refl o) g) in
-      absurd (⊎-elim (λ z. omega (arith, count-of e)) (λ z. omega (arith, lodged-of e)) b);
-}
 
 -- ---- close
 

@@ -31,7 +31,7 @@ pub fn lows_at(histories: [History; 32], highest: [u32; 32], p: u32) -> [u32; 32
     let mut out = [0u32; 32];
     for i in 0..32 {
         let history = histories[i];
-        out[i] = history.level_at(highest[i], p);
+        out[i] = withdrawals::level_at(history, highest[i], p);
     }
     out
 }

@@ -15,10 +15,11 @@ use Rattle.choices.specs.Numbered.{count}
 use Rattle.choices.specs.Through.{Strided, rowOf, eachLevel, through}
 use Rattle.table.specs.Places.{part, RowLaid, startOf, rowIn}
 use Rattle.table.specs.PlaceLaws.{part-cons, row-ends, row-laid}
-use Rattle.searching.specs.declared.Found.{Found}
-use Rattle.searching.specs.Behind.{rowsBehind}
-use Rattle.searching.specs.Going.{more, offered, strided, left, Ready}
-use Rattle.searching.specs.InOrder.{number-at, order-cons, from-cons, from-none, from-levels, from-fits}
+use Rattle.tally.specs.declared.Found.{Found}
+use Rattle.rows_behind.specs.Behind.{rowsBehind}
+use Rattle.tally.specs.Tally.{more}
+use Rattle.searching.specs.Going.{offered, strided, left, Ready}
+use Rattle.rows_behind.specs.InOrder.{number-at, order-cons, from-cons, from-none, from-levels, from-fits}
 use Rattle.searching.proofs.Tallying.{count-cons, through-none, through-all, through-covers, through-fewer}
 
 module _ {levels ends order strides ways lows highs : List ℕ} {i at base ix : ℕ} {f : Found} (r : Ready levels ends order strides ways lows highs i at base ix f) where

@@ -22,17 +22,19 @@ use Rattle.choices.specs.CoveringCount.{coveringFrom, covering-any, covering-co
 use Rattle.choices.specs.Through.{Strided, rowOf, through, Among, through-relates, through-keeps, through-meets, among-between}
 use Rattle.choices.specs.SearchedThrough.{tried, tried-case, searched-through}
 use Rattle.choices.specs.Numbered.{count, numbered, count-some, numbered-from, choice-place, BestPlace, place-best}
-use Rattle.searching.specs.declared.Found.{Found}
+use Rattle.tally.specs.declared.Found.{Found}
 use Rattle.table.specs.Rows.{rowsIn}
 use Rattle.table.specs.Places.{startOf, rowIn}
 use Rattle.table.specs.PlaceLaws.{rows-numbered, row-ends, row-some, row-laid}
 use Rattle.ordering.specs.Ranks.{searchOrder}
-use Rattle.searching.specs.Behind.{Orders, Behind}
-use Rattle.searching.specs.Going.{more, offered, strided, left, Ready}
+use Rattle.rows_behind.specs.Behind.{Orders, Behind}
+use Rattle.tally.specs.Tally.{more}
+use Rattle.tally.specs.TallyLaws.{keeping, more-case, more-above}
+use Rattle.searching.specs.Going.{offered, strided, left, Ready}
 use Rattle.searching.specs.Searches.{Searchable, Searches}
-use Rattle.searching.specs.InOrder.{high-fits, number-at, order-cons, from-cons, from-each, from-levels, from-fits}
+use Rattle.rows_behind.specs.InOrder.{high-fits, number-at, order-cons, from-cons, from-each, from-levels, from-fits}
 use Rattle.searching.proofs.Orders.{top, numbers-order, strides-small, in-order, ordered, ordered-rows-are, same-choices}
-use Rattle.searching.proofs.Tallying.{keeping, more-case, more-above, through-covers}
+use Rattle.searching.proofs.Tallying.{through-covers}
 
 -- none found yet: no total is above its
 abbrev pub none : Found

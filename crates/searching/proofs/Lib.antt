@@ -1,4 +1,3 @@
-mod Looking
 mod Tallying
 mod Exploring
 mod Orders

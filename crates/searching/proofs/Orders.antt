@@ -16,11 +16,11 @@ use Rattle.table.specs.Rows.{rowsIn}
 use Rattle.table.specs.Places.{rowIn, numbersFrom}
 use Rattle.table.specs.PlaceLaws.{rows-numbered}
 use Rattle.ordering.specs.Ranks.{rankIn, searchOrder}
-use Rattle.searching.specs.Behind.{Orders}
-use Rattle.searching.specs.ByNumber.{by-number}
+use Rattle.rows_behind.specs.Behind.{Orders}
+use Rattle.rows_behind.specs.ByNumber.{by-number}
 use Rattle.searching.specs.Searches.{Searchable}
 use Rattle.searching.specs.Going.{strided}
-use Rattle.searching.specs.InOrder.{from-few}
+use Rattle.rows_behind.specs.InOrder.{from-few}
 
 -- above all highs
 abbrev pub top : ℕ

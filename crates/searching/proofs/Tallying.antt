@@ -1,15 +1,14 @@
 -- Laws of the tally: what a part of which no choice covers leaves, and what a part of which all cover.
-use Prim.Native.Nat.{ℕ, max, _+_, _≤_, _<_}
+use Prim.Native.Nat.{ℕ, _+_, _≤_, _<_}
 use mathlib.Core.Path.{_≡_, refl, ap, _∙_}
 use mathlib.Core.Bool.{Bool, true, false, cond}
-use mathlib.Core.Logic.{_⊎_, inl, inr, ⊎-elim}
+use mathlib.Core.Logic.{⊎-elim}
 use mathlib.Core.List.{List, [], _∷_, map, List·Memᴰ·head, List·Memᴰ·tail, List·Memᴰ·cases-cons}
 use native.Mathlib.Omega.{arith}
 use native.Mathlib.Nat.{add-zero, zero-add, add-assoc, suc-mul, one-mul}
-use lib.Dec.{leb, ltb, eqb}
+use lib.Dec.{leb}
 use lib.ListN.{length}
-use borrow.Author.Tests.{le-leb, lt-leb, lt-ltb, le-ltb, eq-eqb, ne-eqb}
-use Rattle.numbers.specs.Cases.{le-or-lt, three-way}
+use borrow.Author.Tests.{le-leb, lt-leb}
 use Rattle.numbers.specs.Lists.{total}
 use Rattle.numbers.specs.ListLaws.{Each}
 use Rattle.choices.specs.Choices.{choices}
@@ -20,58 +19,10 @@ use Rattle.choices.specs.Kept.{Levels}
 use Rattle.choices.specs.Numbered.{count, count-row}
 use Rattle.choices.specs.Through.{Strided, rowOf, eachLevel, through, Among, through-relates, through-keeps, among-between}
 use Rattle.choices.specs.SearchedThrough.{counted, through-counted}
-use Rattle.searching.specs.declared.Found.{Found}
-use Rattle.searching.specs.Going.{onlyCounted, more, offered}
-
--- the best of n choices is kept, at the place j
-abbrev pub keeping : ℕ → ℕ → ℕ → Found → Found
-keeping n t j f = record { covering = f .covering + n; kept = f .kept + 1; total = t; index = j }
-
-module _ (n t i : ℕ) (f : Found) where
-  pub more-above : f .total < t → more n t i f ≡ onlyCounted n f
-  unfolding more
-  more-above h = rw (lt-ltb (f .total) t h)
-
-  pub more-below : t < f .total → more n t i f ≡ keeping n t i f
-  unfolding more
-  more-below h = rw (le-ltb (f .total) t (omega arith), ne-eqb t (f .total) (λ e. omega arith))
-
-  -- at an equal total the later place is better
-  pub more-later : t ≡ f .total → f .index ≤ i → more n t i f ≡ keeping n t i f
-  unfolding more
-  more-later h k = let m : max i (f .index) ≡ i = omega arith in rw (le-ltb (f .total) t (omega arith), eq-eqb t (f .total) h, m)
-
-  pub more-earlier : t ≡ f .total → i < f .index → more n t i f ≡ keeping n t (f .index) f
-  unfolding more
-  more-earlier h k = let m : max i (f .index) ≡ f .index = omega arith in rw (le-ltb (f .total) t (omega arith), eq-eqb t (f .total) h, m)
-
-  -- what holds in each case: above the best, or not, with the place that is kept
-  abbrev KeptPlace : ℕ → Type 0
-  KeptPlace j = ((t < f .total) × (j ≡ i)) ⊎ ((t ≡ f .total) × (j ≡ max i (f .index)))
-
-  pub more-case : (P : Found → Type 0) → (f .total < t → P (onlyCounted n f)) → ((j : ℕ) → KeptPlace j → P (keeping n t j f)) → P (more n t i f)
-  more-case P above best =
-      ⊎-elim
-      (λ e. ⊎-elim
-      (λ k. rw (more-later e k) (best i (inr (e, omega arith))))
-      (λ k. rw (more-earlier e k) (best (f .index) (inr (e, omega arith))))
-      (le-or-lt (f .index) i))
-      (⊎-elim (λ h. rw (more-below h) (best i (inl (h, refl)))) (λ h. rw (more-above h) (above h)))
-      (three-way t (f .total))
-
-  more-counted : (m : ℕ) → onlyCounted m (more n t i f) ≡ more (n + m) t i f
-  unfolding more
-  more-counted m = go (ltb (f .total) t)
-    where
-      e : f .covering + n + m ≡ f .covering + (n + m)
-      e = omega arith
-
-      j : ℕ
-      j = cond (eqb t (f .total)) (max i (f .index)) i
-
-      go : (b : Bool) → onlyCounted m (cond b (onlyCounted n f) (keeping n t j f)) ≡ cond b (onlyCounted (n + m) f) (keeping (n + m) t j f)
-      go true = rw e
-      go false = rw e
+use Rattle.tally.specs.declared.Found.{Found}
+use Rattle.tally.specs.Tally.{onlyCounted, more}
+use Rattle.tally.specs.TallyLaws.{more-above, more-case, more-counted, more-total}
+use Rattle.searching.specs.Going.{offered}
 
 -- ---- parts of which no choice covers, or all do
 
@@ -93,9 +44,6 @@ module _ (d : ℕ) (rs : List Strided) (t i : ℕ) (f : Found) (rise : Each Stri
           let b = among-between rs t i u j rise a .0 in
           let c : f .covering + n + 1 ≡ f .covering + (n + 1) = omega arith in
           rw (e, le-leb d u (omega arith)) (more-above 1 u j (onlyCounted n f) (omega arith) ∙ rw c)
-
-more-total : (n t i : ℕ) (f : Found) → more n t i f .total ≤ t
-more-total n t i f = more-case n t i f (λ x. x .total ≤ t) (λ h. omega arith) (λ j k. omega arith)
 
 -- by the first level of the first row
 pub count-cons : (v : ℕ) (vs : List ℕ) (rows : List (List ℕ)) → count ((v ∷ vs) ∷ rows) ≡ count rows + count (vs ∷ rows)

@@ -1,26 +1,15 @@
 -- Going through choices with a tally: how many cover, how many of these are kept, and the best of them, by its total and its place.
-use Prim.Native.Nat.{ℕ, max, _+_, _*_, _≤_, _<_}
+use Prim.Native.Nat.{ℕ, _+_, _*_, _≤_, _<_}
 use mathlib.Core.Bool.{cond}
 use mathlib.Core.List.{List, _∷_, map}
-use lib.Dec.{leb, ltb, eqb}
+use lib.Dec.{leb}
 use lib.ListN.{drop, getD}
 use Rattle.choices.specs.Numbered.{count}
 use Rattle.choices.specs.Through.{Strided}
 use Rattle.table.specs.Places.{part, RowLaid, LaidOut, rowIn}
-use Rattle.searching.specs.Behind.{Orders, rowsBehind, Behind}
-use Rattle.searching.specs.declared.Found.{Found}
-
--- n covering choices more that are set aside
-abbrev pub onlyCounted : ℕ → Found → Found
-onlyCounted n f = record { covering = f .covering + n; kept = f .kept; total = f .total; index = f .index }
-
--- n covering choices more, the best of them of total t and at the place i. Above the best total found they are set aside; else the best of them
--- is kept, and at an equal total the later place is better
-unfoldable pub more : ℕ → ℕ → ℕ → Found → Found
-more n t i f =
-    cond (ltb (f .total) t)
-    (onlyCounted n f)
-    (record { covering = f .covering + n; kept = f .kept + 1; total = t; index = cond (eqb t (f .total)) (max i (f .index)) i })
+use Rattle.rows_behind.specs.Behind.{Orders, rowsBehind, Behind}
+use Rattle.tally.specs.Tally.{more}
+use Rattle.tally.specs.declared.Found.{Found}
 
 -- one choice of total t, at the place i
 abbrev pub offered : ℕ → ℕ → ℕ → Found → Found

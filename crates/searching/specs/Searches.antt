@@ -9,8 +9,8 @@ use Rattle.choices.specs.Search.{kept}
 use Rattle.choices.specs.Numbered.{count}
 use Rattle.table.specs.Rows.{rowsIn}
 use Rattle.table.specs.Places.{LaidOut, numbersFrom}
-use Rattle.searching.specs.Behind.{EachBehind}
-use Rattle.searching.specs.declared.Found.{Found}
+use Rattle.rows_behind.specs.Behind.{EachBehind}
+use Rattle.tally.specs.declared.Found.{Found}
 
 -- a table with few enough choices, and strides that number them as they are listed
 pub record Searchable (levels ends strides : List ℕ) : Type 0 where

@@ -13,9 +13,9 @@ use Rattle.table.specs.Rows.{rowsIn}
 use Rattle.table.specs.Places.{startOf, rowIn, numbersFrom}
 use Rattle.table.specs.PlaceLaws.{rows-numbered, row-ends, row-length}
 use Rattle.searching.specs.Searches.{Searchable}
-use Rattle.searching.specs.Behind.{Orders}
-use Rattle.searching.specs.ByNumber.{number-is, by-number}
-use Rattle.searching.specs.InOrder.{from-cons, from-none, from-levels}
+use Rattle.rows_behind.specs.Behind.{Orders}
+use Rattle.rows_behind.specs.ByNumber.{number-is, by-number}
+use Rattle.rows_behind.specs.InOrder.{from-cons, from-none, from-levels}
 
 -- the rows from row i on
 abbrev pub rowsFrom : List ℕ → List ℕ → ℕ → List (List ℕ)

@@ -14,18 +14,18 @@ use Rattle.table.specs.Rows.{rowsIn, Lays}
 use Rattle.table.specs.Places.{Laid, LaidOut, numbersFrom}
 use Rattle.table.specs.declared.Table.{Table}
 use Rattle.counting.specs.Counted.{Tells, CountedTo}
-use Rattle.searching.specs.Behind.{Orders, EachBehind}
-use Rattle.searching.specs.ByNumber.{by-number}
+use Rattle.rows_behind.specs.Behind.{Orders, EachBehind}
+use Rattle.rows_behind.specs.ByNumber.{by-number}
 use Rattle.searching.specs.Searches.{Searchable, Searches}
-use Rattle.searching.specs.declared.Found.{Found}
+use Rattle.tally.specs.declared.Found.{Found}
 use Rattle.selection.specs.declared.Selected.{Selected}
-use Rattle.selection.specs.Selection.{selectedOf, refusedBy, Selects}
+use Rattle.selection.specs.Selection.{selectedOf, refusedSelection, Selects}
 
 laid-of : {t : Table} {rows : List (List ℕ)} → Lays t rows → Laid (t .levels) 0 (t .ends)
 laid-of l = (l .ends-rise, rw (l .rows-are) (λ row m. (l .rising row m, (λ v k. l .small row v m k))))
 
 -- a table that is not laid out holds no rows
-pub not-laid : {t : Table} {d limit : ℕ} (b : Bool) → Tells b (Laid (t .levels) 0 (t .ends)) → b ≡ false → Selects t d limit (refusedBy 2)
+pub not-laid : {t : Table} {d limit : ℕ} (b : Bool) → Tells b (Laid (t .levels) 0 (t .ends)) → b ≡ false → Selects t d limit (refusedSelection 2)
 not-laid b tells e = record { right = λ rows l some. absurd (clash (tells .1 (laid-of l)) e) }
 
 -- what holds of the rows that a table has holds of the rows that it holds
@@ -47,7 +47,7 @@ module _ {t : Table} {limit n : ℕ} (k : Counted t limit n) where
   abbrev rows : List (List ℕ)
   rows = rowsIn (t .levels) 0 (t .ends)
 
-  pub too-many : {d : ℕ} → limit < n → Selects t d limit (refusedBy 10)
+  pub too-many : {d : ℕ} → limit < n → Selects t d limit (refusedSelection 10)
   unfolding selectedOf
   too-many h = selects λ some.
       let over : limit < count rows =

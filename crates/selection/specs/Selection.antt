@@ -27,8 +27,8 @@ selectedOf limit d rows =
     (record { number = 10; choices = 0; covering = 0; kept = 0; total = 0; award = replicate 32 0 })
 
 -- a refusal: every other number is 0
-abbrev pub refusedBy : ℕ → Selected
-refusedBy n = record { number = n; choices = 0; covering = 0; kept = 0; total = 0; award = replicate 32 0 }
+abbrev pub refusedSelection : ℕ → Selected
+refusedSelection n = record { number = n; choices = 0; covering = 0; kept = 0; total = 0; award = replicate 32 0 }
 
 -- on a table that holds rows of which some choice covers
 pub record Selects (t : Table) (d limit : ℕ) (r : Selected) : Type 0 where

@@ -8,7 +8,7 @@ ghost use Rattle.choices.specs.Choices.{choices};
 ghost use Rattle.choices.specs.Numbered.{count};
 ghost use Rattle.table.specs.Rows.{rowsIn};
 ghost use Rattle.searching.specs.Searches.{Searchable};
-ghost use Rattle.selection.specs.Selection.{refusedBy, Selects};
+ghost use Rattle.selection.specs.Selection.{refusedSelection, Selects};
 use table::Table;
 
 // What settling a table comes to.
@@ -25,7 +25,7 @@ pub struct Selected {
 
 impl Selected {
     fn refused(number: u8) -> Selected
-        ensures { λ r. ⌜ r ≡ refusedBy number ⌝ }
+        ensures { λ r. ⌜ r ≡ refusedSelection number ⌝ }
     {
         Selected {
             number,
@@ -90,7 +90,7 @@ pub fn select(t: Table, demand: u64, limit: u64) -> Selected
         return Selected::refused(10);
     }
     let numbers = BY_NUMBER;
-    let behind = searching::look_behind(&levels, &ends, &numbers);
+    let behind = rows_behind::look_behind(&levels, &ends, &numbers);
     let strides = behind.ways;
     let found = searching::find(&levels, &ends, &strides, demand);
     let award = choice_at(&levels, &ends, &strides, found.index);

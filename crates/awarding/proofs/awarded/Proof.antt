@@ -1,4 +1,4 @@
--- `awarded` is `levelOf`: behind the two tests k is the number of one of the 32 projects.
+-- `awarded` is `awardedLevel`: behind the two tests k is the number of one of the 32 projects.
 use borrow.Author.Needs.{needs}
 use Rattle.awarding.proofs.Preferring.{awarded-none, awarded-beyond, awarded-at}
 use Rattle.awarding.proofs.awarded.Statement.{statement}

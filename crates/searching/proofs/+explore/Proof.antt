@@ -12,7 +12,7 @@ use Rattle.searching.proofs.explore.Reads as explore
 use Rattle.searching.proofs.explore.Kinds as kinds
 use Rattle.searching.proofs.+explore.Lts-explore as lts
 use Rattle.ordering.proofs.start_of.Reads as start-of
-use Rattle.searching.proofs.with_more.Reads as with-more
+use Rattle.tally.proofs.with_more.Reads as with-more
 use Rattle.searching.proofs.+explore.{statement}
 use Rattle.searching.proofs.+explore.Tie.{close}
 

@@ -2,7 +2,7 @@
 use mathlib.Core.Path.{ap, _∙_}
 use native.Mathlib.Omega.{arith}
 use borrow.Author.Needs.{needs}
-use Rattle.checks.specs.Signed.{difference-back}
+use Rattle.closing_checks.specs.Signed.{difference-back}
 use Rattle.clock.specs.Tests.{phaseNumberAfter}
 use Rattle.auction.proofs.ClosingRound.{close-phase, close-taken}
 use Rattle.auction.proofs.Auction.close.Statement.{statement}

@@ -1,0 +1,22 @@
+-- The rows of a table by number are one order of them.
+use Prim.Native.Nat.{ℕ, zero, suc, _+_, _≤_, _<_}
+use mathlib.Core.Path.{_≡_, refl, sym}
+use mathlib.Core.List.{List}
+use native.Mathlib.Omega.{arith}
+use native.Mathlib.Nat.{add-zero}
+use lib.ListN.{getD}
+use Rattle.choices.specs.Numbered.{count}
+use Rattle.table.specs.Rows.{rowsIn}
+use Rattle.table.specs.Places.{LaidOut, numbersFrom}
+use Rattle.table.specs.PlaceLaws.{rows-numbered, in-numbers}
+use Rattle.rows_behind.specs.Behind.{Orders}
+
+pub number-is : (k n i : ℕ) → i < n → getD (numbersFrom k n) i 0 ≡ k + i
+unfolding numbersFrom
+number-is k zero i h = absurd (omega arith)
+number-is k (suc n) zero h = sym (add-zero k)
+number-is k (suc n) (suc i) h = rw (number-is (suc k) n i (omega arith)) (omega arith)
+
+pub by-number : {levels ends : List ℕ} → LaidOut levels ends → count (rowsIn levels 0 ends) ≤ 65536 → Orders levels ends (numbersFrom 0 32)
+unfolding numbersFrom
+by-number t few = record { long = refl; numbers = λ k m. in-numbers k 0 32 m; few = rw (← rows-numbered t) few }
