@@ -19,9 +19,9 @@ use Rattle.replies.specs.Orders.{Order, Malformed, Asks, Settle, orderIn}
 use Rattle.replies.specs.Replies.{answerLine, after, repliesFrom, replies}
 use Rattle.auction.specs.Holds.{auctionOf}
 use Rattle.auction.specs.declared.Auction.{Auction}
-use Rattle.reply_writing.specs.Texts.{textOf}
-use Rattle.answering.specs.Turns.{asked, Takes}
-use Rattle.answering.specs.declared.Turn.{Turn}
+use Rattle.reply_sizes.specs.Texts.{textOf}
+use Rattle.turns.specs.Turns.{asked, Takes}
+use Rattle.turns.specs.declared.Turn.{Turn}
 use Rattle.record_replay.specs.Replayed.{over, hosted, printed}
 
 -- the calls that an order asks give the ledger after it

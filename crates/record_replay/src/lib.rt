@@ -8,10 +8,10 @@ ghost use lib.ListN.{length};
 ghost use Rattle.numbers.specs.Tails.{laid};
 ghost use Rattle.replies.specs.Orders.{orderIn};
 ghost use Rattle.replies.specs.Replies.{answerLine, replies};
-ghost use Rattle.answering.specs.Turns.{Takes};
+ghost use Rattle.turns.specs.Turns.{Takes};
 ghost use Rattle.record_replay.specs.Replayed.{hosted, over, printed};
-use answering::Turn;
 use auction::Auction;
+use turns::Turn;
 
 // What a host gets for refusal 11: 2^64 less 11.
 const REFUSAL_11: u64 = 0xffff_ffff_ffff_fff5;
@@ -34,10 +34,10 @@ fn sizes_fit(bytes: &[u8], limit: usize) -> bool
     let mut at: usize = 0;
     let mut used: usize = 0;
     while at < bytes.len() {
-        let line = frames::next_line(bytes, at);
+        let line = lines::next_line(bytes, at);
         let turn = step(auction, line);
         let reply = turn.reply;
-        let n = reply_writing::size(reply);
+        let n = reply_sizes::size(reply);
         if limit - used < n {
             return false;
         }
@@ -68,7 +68,7 @@ fn write(bytes: &[u8], out: &mut [u8]) -> usize
     let mut read: usize = 0;
     let mut written: usize = 0;
     while read < bytes.len() {
-        let line = frames::next_line(bytes, read);
+        let line = lines::next_line(bytes, read);
         let turn = step(auction, line);
         let reply = turn.reply;
         written += reply_writing::put(&mut out[written..], reply);

@@ -4,7 +4,7 @@ use mathlib.Core.Path.{_≡_, refl}
 use mathlib.Core.Bool.{true}
 use mathlib.Core.List.{[], _∷_}
 use Rattle.decimal_text.specs.Decimal.{bytesOf, decimal, decimalIn}
-use Rattle.decimal_text.specs.Items.{number, signed, item, signedItem}
+use Rattle.decimal_text.specs.Items.{numberItem, signed, item, signedItem}
 use Rattle.trace_text.specs.Words.{quantityAt, awardLine, previewLine}
 
 pub shown :
@@ -13,5 +13,5 @@ pub shown :
     × (item (bytesOf "price ") 26000 ≡ bytesOf "price 26000\n")
     × (item (bytesOf "remainder ") 0 ≡ bytesOf "remainder 0\n")
     × (awardLine (1 ∷ 1 ∷ 0 ∷ 0 ∷ 3 ∷ 52 ∷ []) 0 ≡ bytesOf "award 1 1 820\n")
-unfolding previewLine signedItem signed item number awardLine quantityAt decimal decimalIn
+unfolding previewLine signedItem signed item numberItem awardLine quantityAt decimal decimalIn
 shown = (refl, refl, refl, refl, refl)

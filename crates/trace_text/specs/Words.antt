@@ -5,10 +5,10 @@ use mathlib.Core.List.{List, [], _++_}
 use lib.Dec.{eqb}
 use lib.ListN.{getD}
 use Rattle.settling.specs.declared.Settled.{Settled}
-use Rattle.reply_writing.specs.declared.Reply.{Reply}
-use Rattle.reply_writing.specs.Texts.{textOf}
+use Rattle.reply_sizes.specs.declared.Reply.{Reply}
+use Rattle.reply_sizes.specs.Texts.{textOf}
 use Rattle.decimal_text.specs.Decimal.{bytesOf}
-use Rattle.decimal_text.specs.Items.{number, signed, item, signedItem}
+use Rattle.decimal_text.specs.Items.{numberItem, signed, item, signedItem}
 use Rattle.trace_text.specs.declared.PreviewShown.{PreviewShown}
 
 -- the award record that starts at place i: project, developer, and the quantity in 4 bytes, high byte first
@@ -16,7 +16,7 @@ unfoldable pub quantityAt : List ℕ → ℕ → ℕ
 quantityAt awards i = ((getD awards (i + 2) 0 * 256 + getD awards (i + 3) 0) * 256 + getD awards (i + 4) 0) * 256 + getD awards (i + 5) 0
 
 unfoldable pub awardLine : List ℕ → ℕ → List ℕ
-awardLine awards i = bytesOf "award " ++ number (getD awards i 0) 32 ++ number (getD awards (i + 1) 0) 32 ++ number (quantityAt awards i) 10
+awardLine awards i = bytesOf "award " ++ numberItem (getD awards i 0) 32 ++ numberItem (getD awards (i + 1) 0) 32 ++ numberItem (quantityAt awards i) 10
 
 -- the first n award records, in their order: they stand by rising project
 unfoldable pub awardLines : List ℕ → ℕ → List ℕ
@@ -52,7 +52,7 @@ wordsOf r excess remainder s =
 -- what the preview of a closing says (document 02, 6): its number, excess and remainder, and 1 where the auction would then be closed
 unfoldable pub previewLine : PreviewShown → List ℕ
 previewLine p =
-    bytesOf "preview " ++ number (p .number) 32 ++ signed (p .excess) 32 ++ number (p .remainder) 32 ++ number (cond (p .closed) 1 0) 10
+    bytesOf "preview " ++ numberItem (p .number) 32 ++ signed (p .excess) 32 ++ numberItem (p .remainder) 32 ++ numberItem (cond (p .closed) 1 0) 10
 
 -- before a reply, by its kind: that line where it is a closing's, accepted or refused
 unfoldable pub linesBefore : ℕ → PreviewShown → List ℕ

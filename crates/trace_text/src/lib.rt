@@ -6,9 +6,9 @@ ghost use Prim.Native.Nat.{_+_, _*_, _≤_, _<_, min};
 ghost use lib.ListN.{length, getD};
 ghost use Rattle.numbers.specs.Tails.{laid};
 ghost use Rattle.trace_text.specs.Words.{quantityAt, awardLine, awardLines, items, itemsBehind, closedLines, settledLines, previewLine, linesBefore, traceOf};
-ghost use Rattle.reply_writing.specs.Texts.{textOf};
+ghost use Rattle.reply_sizes.specs.Texts.{textOf};
 ghost use Rattle.decimal_text.specs.Puts.{Puts};
-use reply_writing::Reply;
+use reply_sizes::Reply;
 use settling::Settled;
 
 // ---- award records

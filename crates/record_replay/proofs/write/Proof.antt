@@ -2,7 +2,7 @@
 use Prim.Native.Nat.{_+_, _-_, _≤_}
 use native.Mathlib.Omega.{arith}
 use lib.ListN.{length}
-use Rattle.reply_writing.specs.Texts.{textOf}
+use Rattle.reply_sizes.specs.Texts.{textOf}
 use Rattle.record_replay.proofs.Running.{Steps, steps, Written, written-first, room, tail-room, written-again, written-end}
 use Rattle.record_replay.proofs.write.Statement.{statement}
 use Rattle.record_replay.proofs.write.Tie as tie
