@@ -9,8 +9,8 @@ use lib.Dec.{leb}
 use lib.ListN.{length}
 use Rattle.replies.specs.Replies.{replies}
 use Rattle.replies.specs.Lengths.{mostIn, replies-bound}
-use Rattle.record_replay.proofs.fits.Statement.{statement}
-use Rattle.record_replay.proofs.fits.Tie as tie
+use Rattle.record_replies.proofs.fits.Statement.{statement}
+use Rattle.record_replies.proofs.fits.Tie as tie
 
 enough-fits : (s : List ℕ) (limit : ℕ) → true ≡ leb (mostIn s) limit → true ≡ leb (length (replies s)) limit
 enough-fits s limit e = sym (le-leb (length (replies s)) limit (omega (arith, replies-bound s, leb-true (mostIn s) limit (sym e))))

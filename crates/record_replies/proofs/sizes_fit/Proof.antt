@@ -2,9 +2,9 @@
 use Prim.Native.Nat.{_-_}
 use native.Mathlib.Omega.{arith}
 use lib.ListN.{length}
-use Rattle.record_replay.proofs.Running.{Steps, steps, Sized, sized-first, sized-over, sized-again, sized-end}
-use Rattle.record_replay.proofs.sizes_fit.Statement.{statement}
-use Rattle.record_replay.proofs.sizes_fit.Tie as tie
+use Rattle.record_replies.proofs.Running.{Steps, steps, Sized, sized-first, sized-over, sized-again, sized-end}
+use Rattle.record_replies.proofs.sizes_fit.Statement.{statement}
+use Rattle.record_replies.proofs.sizes_fit.Tie as tie
 
 abbrev Inv-loop : tie.InvT-loop
 Inv-loop bytes limit auction₀ at₀ used₀ auction at used = Sized bytes limit auction at used

@@ -8,7 +8,6 @@ use borrow.Author.Tests.{le-leb, lt-leb, leb-true}
 use borrow.Rule.Slice.PartMut.{putMid, midOf}
 use lib.Dec.{leb}
 use lib.ListN.{length, take, drop, length-append, length-take, length-drop}
-use Rattle.format.specs.Hex.{charOf, digits}
 use Rattle.format.specs.Lines.{lines, part, lineStart, lineEnd}
 use Rattle.format.specs.LineLaws.{line-inside, next-line, no-line}
 use Rattle.numbers.specs.Tails.{laid, grow, length-laid, tail-is, Filled, filled-more, filled-all}
@@ -16,17 +15,16 @@ use Rattle.rules.specs.Ledger.{Call, Ledger}
 use Rattle.rules.specs.Rounds.{stepAll, ledger}
 use Rattle.reachable.specs.Steps.{ledger-snoc}
 use Rattle.replies.specs.Orders.{Order, Malformed, Asks, Settle, orderIn}
-use Rattle.replies.specs.Replies.{answerLine, after, repliesFrom, replies}
+use Rattle.replies.specs.Replies.{ledgerAfter, repliesFrom, replies}
 use Rattle.auction.specs.Holds.{auctionOf}
 use Rattle.auction.specs.declared.Auction.{Auction}
 use Rattle.reply_sizes.specs.Texts.{textOf}
 use Rattle.turns.specs.Turns.{asked, Takes}
 use Rattle.turns.specs.declared.Turn.{Turn}
-use Rattle.record_replay.specs.Replayed.{over, hosted, printed}
 
 -- the calls that an order asks give the ledger after it
-after-asked : (cs : List Call) (o : Order) → ledger (cs ++ asked o) ≡ after (ledger cs) o
-unfolding after
+after-asked : (cs : List Call) (o : Order) → ledger (cs ++ asked o) ≡ ledgerAfter (ledger cs) o
+unfolding ledgerAfter
 after-asked cs Malformed = ap ledger (append-nil cs)
 after-asked cs (Asks c) = ledger-snoc cs c
 after-asked cs (Settle limit) = ap ledger (append-nil cs)
@@ -147,53 +145,3 @@ module _ (s l o out : List ℕ) (a : Auction) (at used : ℕ) (t : Turn) (fit : 
 pub written-end : (s o out : List ℕ) (a : Auction) (at used : ℕ) → Written s o out a at used → length s ≤ at
     → (used ≡ length (replies s)) × (out ≡ laid (replies s) o)
 written-end s o out a at used z h = filled-all (replies s) o out (left (z .calls) at s) used (z .filled) (left-none (z .calls) at s h)
-
--- ---- the whole
-
-module _ (t o : List ℕ) (b : Bool) (e : b ≡ leb (length t) (length o)) where
-  pub fit-yes : b ≡ true → (length t ≡ hosted t o) × (laid t o ≡ over t o)
-  unfolding hosted over
-  fit-yes h = let g : leb (length t) (length o) ≡ true = sym e ∙ h in (rw g, rw g)
-
-  pub fit-no : b ≡ false → (18446744073709551605 ≡ hosted t o) × (o ≡ over t o)
-  unfolding hosted over
-  fit-no h = let g : leb (length t) (length o) ≡ false = sym e ∙ h in (rw g, rw g)
-
--- ---- the program
-
--- FF0B and 0A, one behind the other
-pub refusal-laid : (o xs ys : List ℕ) → xs ≡ laid (digits 4 65291) o → ys ≡ laid (10 ∷ []) (midOf 4 (length xs - 4) xs)
-    → (5 ≡ length (answerLine 255 11 [])) × (putMid 4 (length xs - 4) xs ys ≡ laid (answerLine 255 11 []) o)
-unfolding digits charOf answerLine
-refusal-laid o xs ys e f = (refl, grow (digits 4 65291) (10 ∷ []) o xs ys 4 e refl f)
-
-refusal-length : length (answerLine 255 11 []) ≡ 5
-unfolding digits charOf answerLine
-refusal-length = refl
-
--- the text that the program prints, which its buffer holds
-module _ (s : List ℕ) where
-  abbrev pub Prints : List ℕ → Type 0
-  Prints t = (printed s ≡ t) × (length t ≤ 65536)
-
-  pub print-long : 65536 < length s → Prints (answerLine 255 11 [])
-  unfolding printed
-  print-long h = (rw (lt-leb (length s) 65536 h), omega (arith, refusal-length))
-
-  module _ (b : Bool) (h : length s ≤ 65536) (e : b ≡ leb (length (replies s)) 65536) where
-    pub print-replies : b ≡ true → Prints (replies s)
-    unfolding printed
-    print-replies y =
-        let g : leb (length (replies s)) 65536 ≡ true = sym e ∙ y in
-        (rw (le-leb (length s) 65536 h, g), leb-true (length (replies s)) 65536 g)
-
-    pub print-over : b ≡ false → Prints (answerLine 255 11 [])
-    unfolding printed
-    print-over y =
-        let g : leb (length (replies s)) 65536 ≡ false = sym e ∙ y in
-        (rw (le-leb (length s) 65536 h, g), omega (arith, refusal-length))
-
-  -- it was written
-  pub prints : (t o out : List ℕ) (n : ℕ) → Prints t → (n ≡ length t) × (out ≡ laid t o)
-      → (n ≡ length (printed s)) × (n ≤ 65536) × (out ≡ laid (printed s) o)
-  prints t o out n e w = (w .0 ∙ ap length (sym (e .0)), omega (arith, w .0, e .1), w .1 ∙ ap (λ (x : List ℕ). laid x o) (sym (e .0)))

@@ -3,8 +3,8 @@ use mathlib.Core.Path.{sym, _∙_}
 use Rattle.format.specs.FieldLaws.{formed}
 use Rattle.replies.specs.Orders.{orderIn}
 use borrow.Author.Needs.{needs}
-use Rattle.record_replay.proofs.step.Statement.{statement}
-use Rattle.record_replay.proofs.step.Tie as tie
+use Rattle.record_replies.proofs.step.Statement.{statement}
+use Rattle.record_replies.proofs.step.Tie as tie
 
 decode-requires : tie.Need-decode-requires
 decode-requires c κs = search needs

@@ -3,9 +3,9 @@ use Prim.Native.Nat.{_+_, _-_, _≤_}
 use native.Mathlib.Omega.{arith}
 use lib.ListN.{length}
 use Rattle.reply_sizes.specs.Texts.{textOf}
-use Rattle.record_replay.proofs.Running.{Steps, steps, Written, written-first, room, tail-room, written-again, written-end}
-use Rattle.record_replay.proofs.write.Statement.{statement}
-use Rattle.record_replay.proofs.write.Tie as tie
+use Rattle.record_replies.proofs.Running.{Steps, steps, Written, written-first, room, tail-room, written-again, written-end}
+use Rattle.record_replies.proofs.write.Statement.{statement}
+use Rattle.record_replies.proofs.write.Tie as tie
 
 abbrev Inv-loop : tie.InvT-loop
 Inv-loop bytes out₀ auction₀ read₀ written₀ out auction read written = Written bytes out₀ out auction read written
