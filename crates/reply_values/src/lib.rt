@@ -52,11 +52,11 @@ pub fn closing_values(bits: u64, remainder: u32) -> Values
     }
 }
 
-// The mark of a second price: 1 where it is short.
-fn mark(short: bool) -> u64
-    ensures { λ r. ⌜ r ≡ cond short 1 0 ⌝ }
+// A mark as a number: 1 where it is set.
+pub fn mark(set: bool) -> u64
+    ensures { λ r. ⌜ r ≡ cond set 1 0 ⌝ }
 {
-    if short {
+    if set {
         return 1;
     }
     0

@@ -18,7 +18,8 @@ use Rattle.reply_sizes.specs.Texts.{addedText, shownText, textOf}
 use Rattle.reply_sizes.specs.TextLaws.{small, text-length}
 use Rattle.decimal_text.specs.Puts.{Puts}
 use Rattle.decimal_text.specs.PutsLaws.{puts-then, puts-laid}
-use Rattle.trace_text.specs.Words.{closedLines, settledLines, wordsOf, previewLine, linesBefore, traceOf}
+use Rattle.settling_text.specs.SettledLines.{settledLines}
+use Rattle.trace_text.specs.Words.{closedLines, wordsOf, previewLine, linesBefore, traceOf}
 use Rattle.trace_text.specs.declared.PreviewShown.{PreviewShown}
 
 -- ---- a reply's line

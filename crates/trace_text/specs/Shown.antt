@@ -5,7 +5,8 @@ use mathlib.Core.Bool.{true}
 use mathlib.Core.List.{[], _∷_}
 use Rattle.decimal_text.specs.Decimal.{bytesOf, decimal, decimalIn}
 use Rattle.decimal_text.specs.Items.{numberItem, signed, item, signedItem}
-use Rattle.trace_text.specs.Words.{quantityAt, awardLine, previewLine}
+use Rattle.award_text.specs.AwardLines.{quantityAt, awardLine}
+use Rattle.trace_text.specs.Words.{previewLine}
 
 pub shown :
     (previewLine (record { number = 0; excess = 2 ^ 64 - 55; remainder = 0; closed = true }) ≡ bytesOf "preview 0 -55 0 1\n")

@@ -1,8 +1,8 @@
 -- Four bytes, high first.
 use native.Mathlib.Omega.{arith}
-use Rattle.trace_text.specs.Words.{quantityAt}
-use Rattle.trace_text.proofs.quantity_at.Statement.{statement}
-use Rattle.trace_text.proofs.quantity_at.Tie as tie
+use Rattle.award_text.specs.AwardLines.{quantityAt}
+use Rattle.award_text.proofs.quantity_at.Statement.{statement}
+use Rattle.award_text.proofs.quantity_at.Tie as tie
 
 add-byte-at : tie.Need-add-byte-at
 add-byte-at c = omega arith

@@ -4,8 +4,8 @@ use mir.Syntax.{w8}
 use mir.Val.{Fits}
 use lib.ListN.{getD}
 use borrow.Author.Needs.{needs}
-use Rattle.trace_text.proofs.byte_at.Statement.{statement}
-use Rattle.trace_text.proofs.byte_at.Tie as tie
+use Rattle.award_text.proofs.byte_at.Statement.{statement}
+use Rattle.award_text.proofs.byte_at.Tie as tie
 
 array-read-result : tie.Need-array-read-result
 array-read-result c = search needs

@@ -2,10 +2,10 @@
 use mathlib.Core.Path.{refl}
 use native.Mathlib.Omega.{arith}
 use borrow.Author.Needs.{needs}
-use Rattle.trace_text.specs.Words.{settledLines}
+use Rattle.settling_text.specs.SettledLines.{settledLines}
 use Rattle.decimal_text.specs.PutsLaws.{puts-as, puts-then}
-use Rattle.trace_text.proofs.put_settled.Statement.{statement}
-use Rattle.trace_text.proofs.put_settled.Tie as tie
+use Rattle.settling_text.proofs.put_settled.Statement.{statement}
+use Rattle.settling_text.proofs.put_settled.Tie as tie
 
 put-items-requires : tie.Need-put-items-requires
 put-items-requires c κs = omega arith

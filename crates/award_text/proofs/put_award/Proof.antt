@@ -2,10 +2,10 @@
 use mathlib.Core.Path.{refl}
 use native.Mathlib.Omega.{arith}
 use borrow.Author.Needs.{needs}
-use Rattle.trace_text.specs.Words.{awardLine}
+use Rattle.award_text.specs.AwardLines.{awardLine}
 use Rattle.decimal_text.specs.PutsLaws.{puts-as, puts-then}
-use Rattle.trace_text.proofs.put_award.Statement.{statement}
-use Rattle.trace_text.proofs.put_award.Tie as tie
+use Rattle.award_text.proofs.put_award.Statement.{statement}
+use Rattle.award_text.proofs.put_award.Tie as tie
 
 slice-aggregate-put-name : tie.Need-slice-aggregate-put-name
 slice-aggregate-put-name c = refl

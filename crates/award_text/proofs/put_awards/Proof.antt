@@ -4,11 +4,11 @@ use mathlib.Core.Path.{_≡_, refl}
 use native.Mathlib.Numerals.{add-one}
 use native.Mathlib.Omega.{arith}
 use lib.ListN.{length}
-use Rattle.trace_text.specs.Words.{awardLines}
+use Rattle.award_text.specs.AwardLines.{awardLines}
 use Rattle.decimal_text.specs.Puts.{Puts}
 use Rattle.decimal_text.specs.PutsLaws.{puts-none, puts-then, puts-as, puts-length}
-use Rattle.trace_text.proofs.put_awards.Statement.{statement}
-use Rattle.trace_text.proofs.put_awards.Tie as tie
+use Rattle.award_text.proofs.put_awards.Statement.{statement}
+use Rattle.award_text.proofs.put_awards.Tie as tie
 
 abbrev Inv-loop : tie.InvT-loop
 Inv-loop out₀ at awards n next₀ i₀ out next i = (i ≤ n) × (length out ≡ length out₀) × Puts (awardLines awards i) (69 * i) out₀ out at next
