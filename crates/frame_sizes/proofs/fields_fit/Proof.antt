@@ -5,9 +5,9 @@ use native.Mathlib.Omega.{arith}
 use borrow.Author.Needs.{needs}
 use borrow.Author.Tests.{not-true, not-false}
 use lib.ListN.{length}
-use Rattle.frame_writing.proofs.Widths.{Fits, fits-first, fits-stop, fits-next, fits-end}
-use Rattle.frame_writing.proofs.fields_fit.Statement.{statement}
-use Rattle.frame_writing.proofs.fields_fit.Tie as tie
+use Rattle.frame_sizes.proofs.Widths.{Fits, fits-first, fits-stop, fits-next, fits-end}
+use Rattle.frame_sizes.proofs.fields_fit.Statement.{statement}
+use Rattle.frame_sizes.proofs.fields_fit.Tie as tie
 
 abbrev Inv-loop : tie.InvT-loop
 Inv-loop widths fields j₀ j = Fits widths fields j

@@ -1,9 +1,9 @@
 -- The number is divided by 16 for each digit; the loop keeps `Dividing`.
 use Prim.Native.Nat.{_-_}
 use native.Mathlib.Omega.{arith}
-use Rattle.frame_writing.proofs.Widths.{Dividing, dividing-first, dividing-next, dividing-end}
-use Rattle.frame_writing.proofs.fits_width.Statement.{statement}
-use Rattle.frame_writing.proofs.fits_width.Tie as tie
+use Rattle.frame_sizes.proofs.Widths.{Dividing, dividing-first, dividing-next, dividing-end}
+use Rattle.frame_sizes.proofs.fits_width.Statement.{statement}
+use Rattle.frame_sizes.proofs.fits_width.Tie as tie
 
 abbrev Inv-loop : tie.InvT-loop
 Inv-loop value width left₀ i₀ left i = Dividing value width left i

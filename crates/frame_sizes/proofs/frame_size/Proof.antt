@@ -14,10 +14,10 @@ use Rattle.format.specs.WrittenLaws.{Writable, length-line, length-frame}
 use Rattle.field_table.specs.Shapes.{Shaped}
 use Rattle.field_table.specs.Fitting.{fitting-kind}
 use Rattle.field_table.specs.ShapeLaws.{shape-kind, shape-unknown}
-use Rattle.frame_writing.specs.Lodged.{call}
-use Rattle.frame_writing.specs.LodgedLaws.{as-many, few-fields, line-long, no-size, the-size, widths-are, fit-few}
-use Rattle.frame_writing.proofs.frame_size.Statement.{statement}
-use Rattle.frame_writing.proofs.frame_size.Tie as tie
+use Rattle.frame_sizes.specs.FrameSizes.{call}
+use Rattle.frame_sizes.specs.FrameSizeLaws.{as-many, few-fields, line-long, no-size, the-size, widths-are, fit-few}
+use Rattle.frame_sizes.proofs.frame_size.Statement.{statement}
+use Rattle.frame_sizes.proofs.frame_size.Tie as tie
 
 abbrev start : tie.After-shape-of → tie.Start
 start c = c .before .before
