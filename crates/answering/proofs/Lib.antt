@@ -1,4 +1,1 @@
-pub mod Columns
-pub mod Minus
-pub mod Taking
-mod Stepping
+mod Taking

@@ -1,56 +1,32 @@
--- From a call's contract to the turn's: its reply's text is the ledger's, and the next auction holds the next ledger.
+-- From the contract of a closing or of a settling to the turn's, and the order of a frame.
 use Prim.Native.Nat.{ℕ, min, _*_}
-use mathlib.Core.Path.{_≡_, refl, sym, ap, ap₂, _∙_}
-use mathlib.Core.Bool.{Bool, true, false, cond}
-use mathlib.Core.List.{List, [], append-nil}
+use mathlib.Core.Path.{_≡_, refl, sym, ap, _∙_}
+use mathlib.Core.Bool.{Bool, true, false}
+use mathlib.Core.List.{List, append-nil}
 use native.Mathlib.Omega.{arith}
 use lib.Dec.{eqb}
-use lib.ListN.{length, drop, getD}
-use borrow.Author.Tests.{ne-eqb, eqb-true, eqb-false}
+use lib.ListN.{length}
+use borrow.Author.Tests.{eqb-true, eqb-false}
 use Rattle.numbers.specs.Lists.{padded}
-use Rattle.rules.specs.Ledger.{Settings, Declaration, Move, Call, SetUp, Register, Open, By, Close, Ledger}
-use Rattle.rules.specs.Rounds.{ledger, Answered, numberAlone}
+use Rattle.rules.specs.Ledger.{Call, Close, Ledger}
+use Rattle.rules.specs.Rounds.{ledger, Answered}
 use Rattle.rules.specs.Settling.{Settlement, settlingNumber, settlement}
-use Rattle.replies.specs.Orders.{Malformed, Asks, Settle, firsts, seconds, setUpOf, registrationOf, moveOf, orderOf, ordered}
+use Rattle.replies.specs.Orders.{Malformed, Asks, Settle, orderOf, ordered}
 use Rattle.replies.specs.Lengths.{six, few}
-use Rattle.replies.specs.Replies.{kindOf, twosComplement, valuesOf, closingFields, closingText, settlingText}
-use Rattle.replies.specs.Replies.{answerLine, awardRoom, replyTo}
-use Rattle.auction.specs.Called.{Called, setsUp, registers}
+use Rattle.replies.specs.Replies.{valuesOf, closingFields, closingText, settlingText, answerLine, awardRoom, replyTo}
+use Rattle.auction.specs.Called.{Called}
 use Rattle.auction.specs.Holds.{auctionOf}
 use Rattle.auction.specs.declared.Auction.{Auction}
 use Rattle.settling.specs.Settles.{Settles, settledAs}
 use Rattle.settling.specs.declared.Settled.{Settled}
-use Rattle.frames.specs.Decoded.{held, callIn, call-none, call-some}
+use Rattle.frames.specs.Decoded.{heldFrame, callIn, call-none, call-some}
 use Rattle.frames.specs.declared.Frame.{Frame}
-use Rattle.reply_writing.specs.Texts.{Valued, addedText, textOf}
-use Rattle.reply_writing.specs.TextLaws.{plain-added, closing-added, settling-added}
-use Rattle.reply_writing.specs.declared.Reply.{Reply}
-use Rattle.answering.specs.Turns.{fieldsOf, Framed, Reads, Answers, Takes}
-use Rattle.answering.specs.declared.Turn.{Turn}
-
--- ---- texts
-
--- what is added to an accepted reply is read only there
-added-line : (k n : ℕ) (x y : List ℕ) → (n ≡ 0 → x ≡ y) → answerLine k n x ≡ answerLine k n y
-unfolding answerLine
-added-line k n x y e = go (eqb n 0) refl
-  where
-    go : (b : Bool) → eqb n 0 ≡ b → answerLine k n x ≡ answerLine k n y
-    go true z = ap (answerLine k n) (e (eqb-true n 0 z))
-    go false z = rw (ne-eqb n 0 (eqb-false n 0 z))
-
-text-of : (r : Reply) (kind n : ℕ) (added : List ℕ) → r .kind ≡ kind → r .number ≡ n → (n ≡ 0 → addedText r ≡ added) → textOf r ≡ answerLine kind n added
-unfolding textOf
-text-of r kind n added ek en e = ap₂ (λ (k m : ℕ). answerLine k m (addedText r)) ek en ∙ added-line kind n (addedText r) added e
-
--- a kind that adds nothing
-abbrev pub Bare : ℕ → Type 0
-Bare k = (k ≡ 5 → ⊥) × (k ≡ 6 → ⊥)
-
-plain-text : (r : Reply) (kind n : ℕ) → r .kind ≡ kind → r .number ≡ n → Bare kind → textOf r ≡ answerLine kind n []
-plain-text r kind n ek en bare = text-of r kind n [] ek en (λ z. plain-added r (λ e. bare .0 (sym ek ∙ e)) (λ e. bare .1 (sym ek ∙ e)))
-
--- ---- turns
+use Rattle.frame_fields.specs.FrameFields.{fieldsOf, Framed, Reads}
+use Rattle.reply_sizes.specs.Texts.{Valued, textOf}
+use Rattle.reply_sizes.specs.TextLaws.{text-of, plain-text, closing-added, settling-added}
+use Rattle.reply_sizes.specs.declared.Reply.{Reply}
+use Rattle.turns.specs.Turns.{Answers, Takes}
+use Rattle.turns.specs.declared.Turn.{Turn}
 
 pub takes-none : (a : Auction) (t : Turn) → t .auction ≡ a → t .reply .kind ≡ 255 → t .reply .number ≡ 12 → Takes a Malformed t
 unfolding replyTo
@@ -58,19 +34,6 @@ takes-none a t ea ek en = record {
   text = λ cs h. plain-text (t .reply) 255 12 ek en (omega arith, omega arith);
   next = λ cs h. ea ∙ h ∙ ap (λ (xs : List Call). auctionOf (ledger xs)) (sym (append-nil cs));
 }
-
--- the engine's call is the order's
-pub takes-call : (c d : Call) (a next : Auction) (n : ℕ) (t : Turn) → c ≡ d → Bare (kindOf d) → Called c a next (numberAlone n) → Answers (kindOf d) next n t
-    → Takes a (Asks d) t
-unfolding replyTo
-takes-call c d a next n t e bare was answers =
-    let called : Called d a next (numberAlone n) = rw e at was in
-    record {
-      text = λ cs h. plain-text (t .reply) (kindOf d) n (answers .kind) (answers .number) bare
-          ∙ sym (ap (λ (b : Bool). answerLine (kindOf d) n (cond b (closingText (numberAlone n)) [])) (ne-eqb (kindOf d) 5 (bare .0)))
-          ∙ ap (λ (r : Answered). answerLine (kindOf d) (r .number) (cond (eqb (kindOf d) 5) (closingText r) [])) (called .answer cs h);
-      next = λ cs h. answers .auction ∙ called .next cs h;
-    }
 
 pub takes-close : (a next : Auction) (r : Answered) (t : Turn) → Called Close a next r → Answers 5 next (r .number) t
     → t .reply .values .head ≡ padded 8 (valuesOf closingFields r) → Takes a (Asks Close) t
@@ -80,19 +43,6 @@ takes-close a next r t called answers head = record {
       ∙ ap (λ (x : Answered). answerLine 5 (x .number) (closingText x)) (called .answer cs h);
   next = λ cs h. answers .auction ∙ called .next cs h;
 }
-
--- ---- the calls of the fields
-
-pub set-up-is : (ns : List ℕ) (ce d m1 m2 a : ℕ) → ce ≡ getD ns 0 0 → d ≡ getD ns 1 0 → m1 ≡ getD ns 2 0 → m2 ≡ getD ns 3 0 → a ≡ getD ns 4 0
-    → setsUp ce d m1 m2 a ≡ setUpOf ns
-set-up-is ns ce d m1 m2 a e0 e1 e2 e3 e4 = rw (e0, e1, e2, e3, e4)
-
-pub registration-is : (ns ls : List ℕ) (k n kind study day : ℕ) → k ≡ getD ns 0 0 → n ≡ getD ns 1 0 → kind ≡ getD ns 2 0 → study ≡ getD ns 3 0
-    → day ≡ getD ns 4 0 → ls ≡ drop 6 ns → registers k n kind study day ls ≡ registrationOf ns
-registration-is ns ls k n kind study day e0 e1 e2 e3 e4 e = rw (e0, e1, e2, e3, e4, e)
-
-pub move-is : (move : List ℕ → List ℕ → Move) (ns ps qs : List ℕ) (n : ℕ) → n ≡ getD ns 0 0 → ps ≡ firsts (drop 2 ns) → qs ≡ seconds (drop 2 ns) → By n (move ps qs) ≡ moveOf move ns
-move-is move ns ps qs n e f g = rw (e, f, g)
 
 -- ---- settling
 
@@ -128,11 +78,11 @@ module _ (a : Auction) (f : Frame) (t : Turn) where
   pub ordered-as : (k : ℕ) → (k ≡ 0 → ⊥) → f .kind ≡ k → Takes a (orderOf (record { kind = k; fields = fieldsOf f })) t → Takes a (ordered (callIn f)) t
   unfolding ordered fieldsOf
   ordered-as k z e w =
-      let o : Takes a (orderOf (held f)) t = rw (sym e) at w in
+      let o : Takes a (orderOf (heldFrame f)) t = rw (sym e) at w in
       rw (call-some f (λ y. z (sym e ∙ y))) o
 
   -- a kind that asks nothing
-  pub ordered-none : orderOf (held f) ≡ Malformed → Takes a Malformed t → Takes a (ordered (callIn f)) t
+  pub ordered-none : orderOf (heldFrame f) ≡ Malformed → Takes a Malformed t → Takes a (ordered (callIn f)) t
   unfolding ordered
   ordered-none e w = go (eqb (f .kind) 0) refl
     where
@@ -142,4 +92,4 @@ module _ (a : Auction) (f : Frame) (t : Turn) where
 
 -- a frame of this kind that a line reads as
 pub framed : (k : ℕ) (f : Frame) → Reads f → (k ≡ 0 → ⊥) → f .kind ≡ k → Framed k f
-framed k f r z e = record { kind = e; formed = r (held f) (call-some f (λ y. z (sym e ∙ y))) }
+framed k f r z e = record { kind = e; formed = r (heldFrame f) (call-some f (λ y. z (sym e ∙ y))) }

@@ -6,16 +6,16 @@ use lib.Dec.{ltb}
 use Rattle.decimal_text.specs.Decimal.{decimal}
 
 -- a number and the byte behind it: a blank, or 0A at the line's end
-unfoldable pub number : ℕ → ℕ → List ℕ
-number n behind = decimal n ++ (behind ∷ [])
+unfoldable pub numberItem : ℕ → ℕ → List ℕ
+numberItem n behind = decimal n ++ (behind ∷ [])
 
 -- the same of the signed number that 64 bits in two's complement stand for
 unfoldable pub signed : ℕ → ℕ → List ℕ
-signed bits behind = cond (ltb bits (2 ^ 63)) (number bits behind) (45 ∷ number (2 ^ 64 - bits) behind)
+signed bits behind = cond (ltb bits (2 ^ 63)) (numberItem bits behind) (45 ∷ numberItem (2 ^ 64 - bits) behind)
 
 -- a name and a number
 unfoldable pub item : List ℕ → ℕ → List ℕ
-item name n = name ++ number n 10
+item name n = name ++ numberItem n 10
 
 unfoldable pub signedItem : List ℕ → ℕ → List ℕ
 signedItem name bits = name ++ signed bits 10

@@ -2,7 +2,7 @@
 ghost use Prim.Native.Nat.{_+_, _≤_};
 ghost use lib.ListN.{length};
 ghost use Rattle.decimal_text.specs.Decimal.{decimal};
-ghost use Rattle.decimal_text.specs.Items.{number, signed, item, signedItem};
+ghost use Rattle.decimal_text.specs.Items.{numberItem, signed, item, signedItem};
 ghost use Rattle.decimal_text.specs.Puts.{Puts};
 
 // ---- parts of a line
@@ -36,7 +36,7 @@ fn put_decimal(out: &mut [u8], at: usize, n: u64) -> usize
 // A number and the byte behind it.
 pub fn put_number(out: &mut [u8], at: usize, n: u64, behind: u8) -> usize
     requires { ⌜ at + 21 ≤ length (now out) ⌝ }
-    ensures { λ r. ⌜ Puts (number n behind) 21 (now (out .entry)) (now (out .exit)) at r ⌝ }
+    ensures { λ r. ⌜ Puts (numberItem n behind) 21 (now (out .entry)) (now (out .exit)) at r ⌝ }
 {
     let next = put_decimal(out, at, n);
     out[next] = behind;

@@ -12,7 +12,7 @@ use Rattle.format.specs.HexLaws.{length-digits}
 use Rattle.format.specs.Fields.{textAt}
 use Rattle.format.specs.Written.{widthsOf, lineOf, frameOf}
 use Rattle.format.specs.WrittenLaws.{length-line}
-use Rattle.frame_writing.specs.Lodged.{call}
+use Rattle.frame_sizes.specs.FrameSizes.{call}
 
 -- in a buffer that the line fits
 module _ (k : ℕ) (ns old : List ℕ) (room : length (lineOf (call k ns)) ≤ length old) where

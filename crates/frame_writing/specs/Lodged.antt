@@ -1,7 +1,7 @@
 -- What a writing function answers and leaves in the buffer that it was lent, as one record (document 02, 2).
 use Prim.Native.Nat.{ℕ, _≤_, _<_}
 use mathlib.Core.Path.{_≡_}
-use mathlib.Core.Bool.{Bool, cond}
+use mathlib.Core.Bool.{Bool}
 use mathlib.Core.List.{List}
 use lib.ListN.{length}
 use Rattle.format.specs.Fields.{RawCall}
@@ -15,17 +15,10 @@ pub record Lodges (ok : Bool) (frame old new : List ℕ) (r : Written) : Type 0 
   pub buffer : new ≡ lodged ok frame old
 
 -- of a call
-abbrev pub call : ℕ → List ℕ → RawCall
-call k ns = record { kind = k; fields = ns }
-
 abbrev pub Encodes : RawCall → List ℕ → List ℕ → Written → Type 0
 Encodes c old new r = Lodges (writable c) (frameOf c) old new r
 
 -- ---- on the way
-
--- the bytes of a writable call's frame, 0 of any other call
-unfoldable pub frameSize : RawCall → ℕ
-frameSize c = cond (writable c) (length (frameOf c)) 0
 
 -- which refusal the size of a frame and the room for it ask
 pub record Refuses (size room n : ℕ) : Type 0 where

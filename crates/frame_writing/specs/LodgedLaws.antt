@@ -1,27 +1,21 @@
--- Laws of writing, as the code writes: each answer by its test, and how many fields and characters a writable call has.
-use Prim.Native.Nat.{ℕ, _+_, _-_, _*_, _^_, _≤_, _<_}
-use mathlib.Core.Path.{_≡_, refl, sym, ap, _∙_, subst}
-use mathlib.Core.Bool.{Bool, true, false, cond}
+-- Laws of writing, as the code writes: each answer by its test.
+use Prim.Native.Nat.{ℕ, _+_, _≤_, _<_}
+use mathlib.Core.Path.{_≡_, sym, _∙_, subst}
+use mathlib.Core.Bool.{Bool, true, false}
 use mathlib.Core.Logic.{⊎-elim}
 use mathlib.Core.List.{List}
 use native.Mathlib.Omega.{arith}
-use lib.ListN.{length, take, getD}
-use lib.Seq.{getD-take}
-use Rattle.numbers.specs.Cases.{le-or-lt, not-true}
-use Rattle.numbers.specs.Lists.{total}
+use lib.ListN.{length}
+use Rattle.numbers.specs.Cases.{le-or-lt}
 use Rattle.numbers.specs.Tails.{laid}
-use Rattle.format.specs.HexLaws.{power-pos}
-use Rattle.format.specs.Fields.{RawCall, listed, fixed, each, count, repeats, layout}
-use Rattle.format.specs.FieldLaws.{total-layout, length-layout, layout-at}
-use Rattle.format.specs.Written.{widthsOf, lineOf, frameOf, fit, writable}
+use Rattle.format.specs.Fields.{RawCall}
+use Rattle.format.specs.Written.{lineOf, frameOf, writable}
 use Rattle.format.specs.WrittenLaws as laws
-use Rattle.format.specs.WrittenLaws.{Writable, is-writable, writable-test, fitting, length-line, length-frame}
-use Rattle.field_table.specs.Fitting.{fitting-kind, repeats-few}
-use Rattle.field_table.specs.declared.Shape.{Shape}
-use Rattle.field_table.specs.Shapes.{Shaped}
-use Rattle.field_table.specs.ShapeLaws.{shape-layout}
+use Rattle.format.specs.WrittenLaws.{length-line, length-frame}
+use Rattle.frame_sizes.specs.FrameSizes.{call, frameSize}
+use Rattle.frame_sizes.specs.FrameSizeLaws.{size-none, size-some}
 use Rattle.frame_writing.specs.declared.Written.{Written}
-use Rattle.frame_writing.specs.Lodged.{Lodges, call, Encodes, frameSize, Refuses}
+use Rattle.frame_writing.specs.Lodged.{Lodges, Encodes, Refuses}
 
 -- ---- refused, or written
 
@@ -41,64 +35,19 @@ module _ (ok : Bool) (frame old new : List ℕ) (r : Written) where
       let a = laws.is-written ok frame old e h in
       record { number = z ∙ sym (a .0); bytes = b ∙ sym (a .1); buffer = there ∙ sym (a .2) }
 
--- ---- how many fields and characters
-
-module _ (k : ℕ) (ns : List ℕ) where
-  pub line-long : length (lineOf (call k ns)) ≡ 2 + total (fixed k) + listed * repeats k ns
-  unfolding widthsOf
-  line-long = omega (arith, length-line (call k ns), total-layout k (repeats k ns))
-
-  pub as-many : Writable (call k ns) → length ns ≡ length (fixed k) + repeats k ns
-  unfolding widthsOf
-  as-many w = fitting (layout k (repeats k ns)) ns (w .fields-fit) .0 ∙ length-layout k (repeats k ns)
-
-  -- a line of more fields is over 160 characters, whatever their widths
-  pub few-fields : Writable (call k ns) → length ns ≤ 27
-  few-fields w = omega (arith, as-many w, line-long, w .short, fitting-kind k .few)
-
-  pub too-many : 27 < length ns → writable (call k ns) ≡ false
-  too-many h = not-true (writable (call k ns)) (λ e. let f = few-fields (is-writable (call k ns) e) in omega arith)
-
--- ---- the size of the frame, and what it decides
+-- ---- by the size of the frame, and the refusal that it asks
 
 module _ (k : ℕ) (ns : List ℕ) where
   abbrev c : RawCall
   c = call k ns
 
-  pub no-size : (Writable c → ⊥) → 0 ≡ frameSize c
-  unfolding frameSize
-  no-size h = rw (not-true (writable c) (λ e. h (is-writable c e)))
-
-  pub the-size : Writable c → length (frameOf c) ≡ frameSize c
-  unfolding frameSize
-  the-size w = rw (writable-test c w)
-
-  frame-pos : 1 ≤ length (frameOf c)
-  frame-pos = omega (arith, length-frame c)
-
-  size-none : frameSize c ≡ 0 → writable c ≡ false
-  unfolding frameSize
-  size-none z = go (writable c) refl z
-    where
-      go : (b : Bool) → writable c ≡ b → cond b (length (frameOf c)) 0 ≡ 0 → writable c ≡ false
-      go true e z = absurd (omega (arith, frame-pos))
-      go false e z = e
-
-  pub size-some : 1 ≤ frameSize c → (writable c ≡ true) × (frameSize c ≡ length (frameOf c))
-  unfolding frameSize
-  size-some h = go (writable c) refl h
-    where
-      go : (b : Bool) → writable c ≡ b → 1 ≤ cond b (length (frameOf c)) 0 → (writable c ≡ true) × (cond b (length (frameOf c)) 0 ≡ length (frameOf c))
-      go true e h = (e, refl)
-      go false e h = absurd (omega arith)
-
   module _ (size n : ℕ) (old : List ℕ) (s : size ≡ frameSize c) (f : Refuses size (length old) n) where
     -- a refusal
     pub encode-refused : (new : List ℕ) (r : Written) → (n ≡ 0 → ⊥) → (r .number ≡ n) × (r .bytes ≡ 0) → new ≡ old → Encodes c old new r
     encode-refused new r h z same = ⊎-elim
-        (λ g. let e : size ≡ 0 = omega arith in not-writable _ _ _ _ r (z .0 ∙ f .unwritable e, z .1) (size-none (sym s ∙ e)) same)
+        (λ g. let e : size ≡ 0 = omega arith in not-writable _ _ _ _ r (z .0 ∙ f .unwritable e, z .1) (size-none k ns (sym s ∙ e)) same)
         (λ g.
-        let w = size-some (subst (λ (m : ℕ). 1 ≤ m) s g) in
+        let w = size-some k ns (subst (λ (m : ℕ). 1 ≤ m) s g) in
         let b : length old < size = ⊎-elim (λ i. absurd (h (f .none g i))) (λ i. i) (le-or-lt size (length old)) in
         too-short _ _ _ _ r (z .0 ∙ f .short g b, z .1) (w .0) (omega (arith, w .1)) same)
         (le-or-lt size 0)
@@ -107,36 +56,10 @@ module _ (k : ℕ) (ns : List ℕ) where
     pub encode-room : n ≡ 0 → (writable c ≡ true) × (size ≡ length (frameOf c)) × (size ≡ length (lineOf c) + 1) × (size ≤ length old)
     encode-room z =
         let g : 1 ≤ size = ⊎-elim (λ i. let e : size ≡ 0 = omega arith in absurd (omega (arith, f .unwritable e))) (λ i. i) (le-or-lt size 0) in
-        let w = size-some (subst (λ (m : ℕ). 1 ≤ m) s g) in
+        let w = size-some k ns (subst (λ (m : ℕ). 1 ≤ m) s g) in
         let b : size ≤ length old = ⊎-elim (λ i. i) (λ i. absurd (omega (arith, f .short g i))) (le-or-lt size (length old)) in
         let l : size ≡ length (frameOf c) = s ∙ w .1 in
         (w .0, l, omega (arith, length-frame c, length-line c), b)
 
     pub encode-written : (new : List ℕ) (r : Written) → n ≡ 0 → r .number ≡ 0 → r .bytes ≡ size → new ≡ laid (frameOf c) old → Encodes c old new r
     encode-written new r z a b there = let w = encode-room z in is-written _ _ _ _ r a (b ∙ w .1) (w .0) (omega (arith, w .1, w .3)) there
-
--- ---- the widths of a shape
-
-module _ (k : ℕ) (ns : List ℕ) (s : Shape) (w : Shaped k s) (n : ℕ) (e : n ≡ length ns) (few : n ≤ 32) where
-  pub widths-layout : s .fixed ≤ n → take n (s .widths) ≡ layout k (n - s .fixed)
-  widths-layout h =
-      let m : s .fixed + (n - s .fixed) ≡ n = omega arith in
-      subst (λ (i : ℕ). take i (s .widths) ≡ layout k (n - s .fixed)) m (shape-layout k s w (n - s .fixed) (omega arith))
-
-  pub widths-are : length ns ≡ length (fixed k) + repeats k ns → take n (s .widths) ≡ widthsOf (call k ns)
-  unfolding widthsOf
-  widths-are q =
-      let m : n - s .fixed ≡ repeats k ns = omega (arith, w .many) in
-      widths-layout (omega (arith, w .many)) ∙ ap (layout k) m
-
-  -- fields that fit the first widths count few
-  pub fit-few : s .fixed ≤ n → fit (take n (s .widths)) ns ≡ true → repeats k ns ≤ 512
-  unfolding count
-  fit-few h f =
-      let l : List ℕ = layout k (n - s .fixed) in
-      let below : getD ns (length (fixed k) - 1) 0 < 16 ^ getD (fixed k) (length (fixed k) - 1) listed =
-      rw layout-at at (fitting l ns (rw (widths-layout h) at f) .1 (length (fixed k) - 1)) in
-      repeats-few k ns (⊎-elim
-      (λ z. let y : length (fixed k) ≡ 0 = omega arith in rw y (power-pos _))
-      (λ z. rw (getD-take (length (fixed k)) ns (length (fixed k) - 1) 0 (omega arith)) below)
-      (le-or-lt (length (fixed k)) 0))

@@ -2,14 +2,12 @@
 // The contracts are equations with the definitions of the crate `format`.
 ghost use mathlib.Core.Path.{_≡_};
 ghost use mathlib.Core.Bool.{true};
-ghost use Prim.Native.Nat.{_^_, _≤_};
-ghost use lib.Dec.{ltb};
+ghost use Prim.Native.Nat.{_≤_};
 ghost use lib.ListN.{length};
 ghost use Rattle.numbers.specs.Tails.{laid};
-ghost use Rattle.format.specs.Written.{fit, lineOf, writable};
-ghost use Rattle.frame_writing.specs.Lodged.{call, frameSize, Refuses, Encodes};
-use field_table::LISTED;
-use field_table::LONGEST;
+ghost use Rattle.format.specs.Written.{lineOf, writable};
+ghost use Rattle.frame_sizes.specs.FrameSizes.{call};
+ghost use Rattle.frame_writing.specs.Lodged.{Refuses, Encodes};
 
 // What writing answers: 0 and how many bytes were written, or a refusal's number and 0.
 pub struct Written {
@@ -31,64 +29,6 @@ impl Written {
             bytes: 0,
         }
     }
-}
-
-// Whether a number has at most so many hexadecimal digits.
-fn fits_width(value: u64, width: usize) -> bool
-    ensures { λ r. ⌜ r ≡ ltb value (16 ^ width) ⌝ }
-{
-    let mut left = value;
-    let mut i: usize = 0;
-    while i < width {
-        left = left / 16;
-        i += 1;
-    }
-    left == 0
-}
-
-// Whether each field fits its own width.
-fn fields_fit(widths: &[usize], fields: &[u64]) -> bool
-    requires { ⌜ length (now widths) ≡ length (now fields) ⌝ }
-    ensures { λ r. ⌜ r ≡ fit (now (widths .entry)) (now (fields .entry)) ⌝ }
-{
-    let mut j: usize = 0;
-    while j < fields.len() {
-        if !fits_width(fields[j], widths[j]) {
-            return false;
-        }
-        j += 1;
-    }
-    true
-}
-
-// How many bytes the frame of a call has; 0 where the call is not writable. A line that is not too long has at most 32 fields.
-fn frame_size(kind: usize, fields: &[u64]) -> usize
-    ensures { λ r. ⌜ r ≡ frameSize (call kind (now (fields .entry))) ⌝ }
-{
-    let shape = field_table::shape_of(kind);
-    if shape.kind == 0 {
-        return 0;
-    }
-    let n = fields.len();
-    if 32 < n {
-        return 0;
-    }
-    if n < shape.fixed {
-        return 0;
-    }
-    let widths = shape.widths;
-    if !fields_fit(&widths[..n], fields) {
-        return 0;
-    }
-    let more = field_table::repeated(shape, fields);
-    if n != shape.fixed + more {
-        return 0;
-    }
-    let length = 2 + shape.span + LISTED * more;
-    if LONGEST < length {
-        return 0;
-    }
-    length + 1
 }
 
 // Which refusal, 0 if none: 14 where the call is not writable, tested first; 13 where the buffer is too short for the frame, tested last.
@@ -120,7 +60,7 @@ fn put_line(kind: usize, fields: &[u64], out: &mut [u8])
 pub fn encode(kind: usize, fields: &[u64], out: &mut [u8]) -> Written
     ensures { λ r. ⌜ Encodes (call kind (now (fields .entry))) (now (out .entry)) (now (out .exit)) r ⌝ }
 {
-    let size = frame_size(kind, fields);
+    let size = frame_sizes::frame_size(kind, fields);
     let number = refusal_of(size, out.len());
     if number != 0 {
         return Written::refused(number);

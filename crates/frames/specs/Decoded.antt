@@ -11,11 +11,11 @@ use Rattle.format.specs.Fields.{RawCall, read}
 use Rattle.format.specs.FieldLaws.{Formed, formed}
 use Rattle.frames.specs.declared.Frame.{Frame}
 
-abbrev pub held : Frame → RawCall
-held f = record { kind = f .kind; fields = take (f .count) (f .fields) }
+abbrev pub heldFrame : Frame → RawCall
+heldFrame f = record { kind = f .kind; fields = take (f .count) (f .fields) }
 
 unfoldable pub callIn : Frame → Option RawCall
-callIn f = cond (eqb (f .kind) 0) none (some (held f))
+callIn f = cond (eqb (f .kind) 0) none (some (heldFrame f))
 
 -- zero in every place
 abbrev pub Zero : Frame → Type 0
@@ -28,7 +28,7 @@ module _ (f : Frame) where
   unfolding callIn
   call-none e = rw (eq-eqb (f .kind) 0 e)
 
-  pub call-some : (f .kind ≡ 0 → ⊥) → callIn f ≡ some (held f)
+  pub call-some : (f .kind ≡ 0 → ⊥) → callIn f ≡ some (heldFrame f)
   unfolding callIn
   call-some h = rw (ne-eqb (f .kind) 0 h)
 
@@ -37,5 +37,5 @@ module _ (f : Frame) where
     pub read-none : f .kind ≡ 0 → read l ≡ none
     read-none z = sym e ∙ call-none z
 
-    pub read-some : (f .kind ≡ 0 → ⊥) → (read l ≡ some (held f)) × Formed (held f)
-    read-some h = let r : read l ≡ some (held f) = sym e ∙ call-some h in (r, formed l (held f) r)
+    pub read-some : (f .kind ≡ 0 → ⊥) → (read l ≡ some (heldFrame f)) × Formed (heldFrame f)
+    read-some h = let r : read l ≡ some (heldFrame f) = sym e ∙ call-some h in (r, formed l (heldFrame f) r)

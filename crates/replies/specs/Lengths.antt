@@ -25,8 +25,8 @@ use Rattle.rules.specs.Award.{award, winner, admissible}
 use Rattle.rules.specs.Clearing.{closingPrice}
 use Rattle.rules.specs.Settling.{recordOf, recordsFrom, records, settlementAt, settlement, settlingNumber}
 use Rattle.replies.specs.Orders.{Order, Malformed, Asks, Settle, orderOf, ordered, orderIn}
-use Rattle.replies.specs.Replies.{kindOf, widthsOf, valuesOf, closingFields, settlingHead, settlingTail, recordDigits, closingText, settlingText}
-use Rattle.replies.specs.Replies.{answerLine, awardRoom, replyTo, after, repliesFrom, replies}
+use Rattle.replies.specs.Replies.{callKind, widthsOf, valuesOf, closingFields, settlingHead, settlingTail, recordDigits, closingText, settlingText}
+use Rattle.replies.specs.Replies.{answerLine, awardRoom, replyTo, ledgerAfter, repliesFrom, replies}
 
 -- what a reply of this kind can add: the widths of the fields before its award records, the most bytes of those, the widths behind them
 unfoldable pub headWidths : ℕ → List ℕ
@@ -147,13 +147,13 @@ settling-most l limit e = omega (arith, settled-length l, few l limit e)
 -- by what is asked: the most bytes of the reply
 unfoldable most : Order → ℕ
 most Malformed = bare
-most (Asks c) = mostOf (kindOf c)
+most (Asks c) = mostOf (callKind c)
 most (Settle limit) = mostOf 6
 
 reply-most : (l : Ledger) (o : Order) → length (replyTo l o) ≤ most o
 unfolding replyTo most
 reply-most l Malformed = line-length 255 12 bare [] (λ e. omega arith) (omega arith)
-reply-most l (Asks c) = line-length (kindOf c) (answer l c .number) (mostOf (kindOf c)) _ (λ e. call-most (answer l c) (kindOf c)) (least-most (kindOf c))
+reply-most l (Asks c) = line-length (callKind c) (answer l c .number) (mostOf (callKind c)) _ (λ e. call-most (answer l c) (callKind c)) (least-most (callKind c))
 reply-most l (Settle limit) = line-length 6 (settlingNumber l limit awardRoom) (mostOf 6) _ (settling-most l limit) (least-most 6)
 
 -- ---- the second digit of a line says what it asks
@@ -216,7 +216,7 @@ bound-from : (l : Ledger) (ls : List (List ℕ)) → length (repliesFrom l ls) �
 unfolding repliesFrom total
 bound-from l [] = omega arith
 bound-from l (line ∷ ls) =
-    let next : Ledger = after l (orderIn line) in
+    let next : Ledger = ledgerAfter l (orderIn line) in
     omega (arith, length-append (replyTo l (orderIn line)) (repliesFrom next ls), reply-bound l line, bound-from next ls)
 
 pub replies-bound : (bytes : List ℕ) → length (replies bytes) ≤ mostIn bytes

@@ -13,14 +13,14 @@ use Rattle.rules.specs.Rounds.{step, Answered, answer}
 use Rattle.rules.specs.Settling.{Settlement, settlement, settlingNumber}
 use Rattle.replies.specs.Orders.{Order, Malformed, Asks, Settle, orderIn}
 
-abbrev pub kindOf : Call → ℕ
-kindOf (SetUp s) = 1
-kindOf (Register n x) = 2
-kindOf (Open c) = 3
-kindOf (By n (Offer ps qs)) = 4
-kindOf (By n (Lodge ps qs)) = 7
-kindOf (By n Cancel) = 9
-kindOf Close = 5
+abbrev pub callKind : Call → ℕ
+callKind (SetUp s) = 1
+callKind (Register n x) = 2
+callKind (Open c) = 3
+callKind (By n (Offer ps qs)) = 4
+callKind (By n (Lodge ps qs)) = 7
+callKind (By n Cancel) = 9
+callKind Close = 5
 
 -- a signed number in two's complement, as a number of 64 bits
 abbrev pub twosComplement : ℤ → ℕ
@@ -88,18 +88,18 @@ awardRoom = 192
 -- a malformed line gets FF0C
 unfoldable pub replyTo : Ledger → Order → List ℕ
 replyTo l Malformed = answerLine 255 12 []
-replyTo l (Asks c) = answerLine (kindOf c) (answer l c .number) (cond (eqb (kindOf c) 5) (closingText (answer l c)) [])
+replyTo l (Asks c) = answerLine (callKind c) (answer l c .number) (cond (eqb (callKind c) 5) (closingText (answer l c)) [])
 replyTo l (Settle limit) = answerLine 6 (settlingNumber l limit awardRoom) (settlingText (settlement l))
 
 -- settling and malformed lines change no auction
-unfoldable pub after : Ledger → Order → Ledger
-after l Malformed = l
-after l (Asks c) = step l c
-after l (Settle limit) = l
+unfoldable pub ledgerAfter : Ledger → Order → Ledger
+ledgerAfter l Malformed = l
+ledgerAfter l (Asks c) = step l c
+ledgerAfter l (Settle limit) = l
 
 unfoldable pub repliesFrom : Ledger → List (List ℕ) → List ℕ
 repliesFrom l [] = []
-repliesFrom l (line ∷ rest) = replyTo l (orderIn line) ++ repliesFrom (after l (orderIn line)) rest
+repliesFrom l (line ∷ rest) = replyTo l (orderIn line) ++ repliesFrom (ledgerAfter l (orderIn line)) rest
 
 -- the replies to a record, from a fresh auction
 unfoldable pub replies : List ℕ → List ℕ

@@ -24,7 +24,7 @@ use Rattle.format.specs.Written.{widthsOf, lineOf, frameOf}
 use Rattle.format.specs.Example.{codes}
 use Rattle.replies.specs.Orders.{Order, Asks, Settle, firsts, seconds, orderOf, ordered, orderIn}
 use Rattle.replies.specs.WrittenOrders.{paired, rawOf, frameOfOrder}
-use Rattle.replies.specs.Replies.{closingText, settlingText, answerLine, replyTo, after, repliesFrom, replies}
+use Rattle.replies.specs.Replies.{closingText, settlingText, answerLine, replyTo, ledgerAfter, repliesFrom, replies}
 
 -- a line, ended by 0A
 unfoldable pub line : String → List ℕ
@@ -85,7 +85,7 @@ unfolding codes line text flatten oneTo keep total greatest lastOr any all least
     lodgedApplied takenOut remaining short secondPrice
     recordsFrom records settlingNumber settlementAt settlement
     isHex valueOf charOf digits numberFrom known fixed each count layout fieldsAt textAt kindOf asked wellFormed callOf read onFirst lines
-    firsts seconds orderOf ordered orderIn closingText settlingText answerLine replyTo after repliesFrom replies
+    firsts seconds orderOf ordered orderIn closingText settlingText answerLine replyTo ledgerAfter repliesFrom replies
 sample-replied = refl
 
 -- the ten marked cases with their remainders, the sample's settling, and the sample as bytes, jointly

@@ -22,7 +22,7 @@ use Rattle.format.specs.WrittenLaws.{reads-back, writes-back, frame-first}
 use Rattle.rules.specs.Ledger.{Ledger, start, Move, Offer, Lodge, Cancel, SetUp, Register, Open, By, Close}
 use Rattle.replies.specs.Orders.{Order, Malformed, Asks, Settle, firsts, seconds, orderOf, ordered, orderIn}
 use Rattle.replies.specs.WrittenOrders.{raw, paired, rawOf, listsMatch, writableOrder, frameOfOrder}
-use Rattle.replies.specs.Replies.{replyTo, after, repliesFrom, replies}
+use Rattle.replies.specs.Replies.{replyTo, ledgerAfter, repliesFrom, replies}
 
 -- ---- steps, and their prices and levels
 
@@ -212,12 +212,12 @@ record-asks (o ∷ os) e =
 -- the replies to orders, one after the other
 unfoldable pub repliesTo : Ledger → List Order → List ℕ
 repliesTo l [] = []
-repliesTo l (o ∷ os) = replyTo l o ++ repliesTo (after l o) os
+repliesTo l (o ∷ os) = replyTo l o ++ repliesTo (ledgerAfter l o) os
 
 replies-asked : (l : Ledger) (ls : List (List ℕ)) → repliesFrom l ls ≡ repliesTo l (map orderIn ls)
 unfolding repliesFrom repliesTo
 replies-asked l [] = refl
-replies-asked l (line ∷ ls) = ap (λ (r : List ℕ). replyTo l (orderIn line) ++ r) (replies-asked (after l (orderIn line)) ls)
+replies-asked l (line ∷ ls) = ap (λ (r : List ℕ). replyTo l (orderIn line) ++ r) (replies-asked (ledgerAfter l (orderIn line)) ls)
 
 -- so the replies to a written record are those to the orders
 pub record-replies : (os : List Order) → all writableOrder os ≡ true → replies (flatten (map frameOfOrder os)) ≡ repliesTo start os

@@ -8,9 +8,9 @@ fn most(line: &[u8]) -> usize
     ensures { λ r. ⌜ r ≡ mostTo (now (line .entry)) ⌝ }
 {
     if line.len() < 2 {
-        return reply_writing::most(0);
+        return reply_sizes::most(0);
     }
-    reply_writing::most(frames::value_of(line[1]) as u8)
+    reply_sizes::most(field_reading::value_of(line[1]) as u8)
 }
 
 // Whether so many bytes are surely enough for the replies.
@@ -20,7 +20,7 @@ pub fn enough(bytes: &[u8], limit: usize) -> bool
     let mut start: usize = 0;
     let mut sum: usize = 0;
     while start < bytes.len() {
-        let line = frames::next_line(bytes, start);
+        let line = lines::next_line(bytes, start);
         let n = most(line);
         if limit - sum < n {
             return false;

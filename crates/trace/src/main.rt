@@ -2,9 +2,9 @@
 // numbers, and before a closing's what a preview says; FF0B alone where the record is longer.
 ghost use mathlib.Core.Path.{_≡_};
 ghost use lib.ListN.{length};
-use answering::Turn;
 use auction::Auction;
 use trace_text::PreviewShown;
+use turns::Turn;
 
 // The most bytes of a record (document 01, Frames).
 const LONGEST: usize = 65_536;
@@ -26,7 +26,7 @@ fn look(auction: Auction) -> PreviewShown {
     let preview = auction.preview();
     PreviewShown {
         number: preview.number,
-        excess: answering::bits_of(preview.excess),
+        excess: reply_values::bits_of(preview.excess),
         remainder: preview.remainder,
         closed: preview.closed,
     }
@@ -52,7 +52,7 @@ fn trace(bytes: &[u8]) {
     let mut auction = Auction::new();
     let mut at: usize = 0;
     while at < bytes.len() {
-        let line = frames::next_line(bytes, at);
+        let line = lines::next_line(bytes, at);
         let preview = look(auction);
         let turn = step(auction, line);
         show(preview, turn);

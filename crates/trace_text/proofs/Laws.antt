@@ -11,14 +11,15 @@ use lib.Seq.{length-take-le}
 use borrow.Rule.Slice.PartMut.{putMid, midOf}
 use Rattle.numbers.specs.Tails.{laid, tail-is, grow}
 use Rattle.settling.specs.declared.Settled.{Settled}
-use Rattle.reply_writing.specs.declared.Reply.{Reply}
+use Rattle.reply_sizes.specs.declared.Reply.{Reply}
 use Rattle.format.specs.WidthLaws.{length-text}
 use Rattle.replies.specs.Lengths.{bytes-length}
-use Rattle.reply_writing.specs.Texts.{addedText, shownText, textOf}
-use Rattle.reply_writing.specs.TextLaws.{small, text-length}
+use Rattle.reply_sizes.specs.Texts.{addedText, shownText, textOf}
+use Rattle.reply_sizes.specs.TextLaws.{small, text-length}
 use Rattle.decimal_text.specs.Puts.{Puts}
 use Rattle.decimal_text.specs.PutsLaws.{puts-then, puts-laid}
-use Rattle.trace_text.specs.Words.{closedLines, settledLines, wordsOf, previewLine, linesBefore, traceOf}
+use Rattle.settling_text.specs.SettledLines.{settledLines}
+use Rattle.trace_text.specs.Words.{closedLines, wordsOf, previewLine, linesBefore, traceOf}
 use Rattle.trace_text.specs.declared.PreviewShown.{PreviewShown}
 
 -- ---- a reply's line

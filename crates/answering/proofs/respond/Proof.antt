@@ -3,7 +3,7 @@ use mathlib.Core.Path.{_≡_}
 use native.Mathlib.Omega.{arith}
 use borrow.Author.Tests.{ne-eqb}
 use Rattle.replies.specs.Orders.{Malformed, orderOf}
-use Rattle.frames.specs.Decoded.{held}
+use Rattle.frames.specs.Decoded.{heldFrame}
 use Rattle.answering.proofs.Taking.{framed, ordered-as, ordered-none}
 use Rattle.answering.proofs.respond.Statement.{statement}
 use Rattle.answering.proofs.respond.Tie as tie
@@ -73,7 +73,7 @@ returns-9 c =
     let f4 = c .before .before .before .before .before in
     let f1 = f4 .before .before .before in
     let f = f1 .before .args .frame in
-    let none : orderOf (held f) ≡ Malformed =
+    let none : orderOf (heldFrame f) ≡ Malformed =
     rw (
       ne-eqb (f .kind) 1 (f1 .if1 .left),
       ne-eqb (f .kind) 2 (f4 .before .before .if2 .left),

@@ -5,7 +5,7 @@ use lib.ListN.{length, length-replicate}
 use borrow.Author.Needs.{needs}
 use Rattle.format.specs.Fields.{fixed}
 use Rattle.answering.proofs.Taking.{takes-settling}
-use Rattle.answering.proofs.Columns.{below}
+use Rattle.frame_fields.specs.FieldColumns.{below}
 use Rattle.answering.proofs.settle_turn.Statement.{statement}
 use Rattle.answering.proofs.settle_turn.Tie as tie
 

@@ -3,7 +3,7 @@ use mathlib.Core.Path.{refl}
 use native.Mathlib.Omega.{arith}
 use borrow.Author.Needs.{needs}
 use Rattle.decimal_text.specs.DecimalLaws.{decimal-short}
-use Rattle.decimal_text.specs.Items.{number}
+use Rattle.decimal_text.specs.Items.{numberItem}
 use Rattle.decimal_text.specs.PutsLaws.{puts-byte, puts-as, puts-then}
 use Rattle.decimal_text.proofs.put_number.Statement.{statement}
 use Rattle.decimal_text.proofs.put_number.Tie as tie
@@ -21,7 +21,7 @@ same-length : tie.Need-same-length
 same-length c = search needs
 
 returns : tie.Need-returns
-unfolding number
+unfolding numberItem
 returns c =
     let s = c .before .before .before .before .before in
     let d = c .before .before .put-decimal in

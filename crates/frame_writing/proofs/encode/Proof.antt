@@ -7,7 +7,7 @@ use borrow.Author.Needs.{needs}
 use lib.ListN.{length}
 use Rattle.numbers.specs.Tails.{length-laid}
 use Rattle.format.specs.Written.{lineOf, frameOf, writable}
-use Rattle.frame_writing.specs.Lodged.{call}
+use Rattle.frame_sizes.specs.FrameSizes.{call}
 use Rattle.frame_writing.specs.LodgedLaws.{encode-refused, encode-room, encode-written}
 use Rattle.frame_writing.proofs.Lines.{tail-room, frame-there}
 use Rattle.frame_writing.proofs.encode.Statement.{statement}

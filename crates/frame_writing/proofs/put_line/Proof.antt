@@ -7,8 +7,8 @@ use lib.ListN.{length, take, length-take}
 use lib.Seq.{length-take-le}
 use Rattle.format.specs.Written.{widthsOf}
 use Rattle.format.specs.WrittenLaws.{is-writable}
-use Rattle.frame_writing.specs.Lodged.{call}
-use Rattle.frame_writing.specs.LodgedLaws.{as-many, few-fields, widths-are}
+use Rattle.frame_sizes.specs.FrameSizes.{call}
+use Rattle.frame_sizes.specs.FrameSizeLaws.{as-many, few-fields, widths-are}
 use Rattle.frame_writing.proofs.Lines.{kind-room, kind-same, fields-room, line-there}
 use Rattle.frame_writing.proofs.put_line.Statement.{statement}
 use Rattle.frame_writing.proofs.put_line.Tie as tie

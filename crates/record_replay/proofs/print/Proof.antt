@@ -6,7 +6,7 @@ use borrow.Author.Needs.{needs}
 use borrow.Author.Tests.{leb-true}
 use lib.ListN.{length}
 use Rattle.replies.specs.Replies.{replies}
-use Rattle.record_replay.proofs.Running.{print-long, print-replies, print-over, prints}
+use Rattle.record_replay.proofs.Replaying.{print-long, print-replies, print-over, prints}
 use Rattle.record_replay.proofs.print.Statement.{statement}
 use Rattle.record_replay.proofs.print.Tie as tie
 

@@ -1,6 +1,6 @@
 -- FF0B, and 0A behind it.
 use borrow.Author.Needs.{needs}
-use Rattle.record_replay.proofs.Running.{refusal-laid}
+use Rattle.record_replay.proofs.Replaying.{refusal-laid}
 use Rattle.record_replay.proofs.put_refusal.Statement.{statement}
 use Rattle.record_replay.proofs.put_refusal.Tie as tie
 

@@ -2,7 +2,7 @@
 use mathlib.Core.Path.{sym, _∙_}
 use borrow.Author.Needs.{needs}
 use borrow.Author.Tests.{leb-true}
-use Rattle.record_replay.proofs.Running.{fit-yes, fit-no}
+use Rattle.record_replay.proofs.Replaying.{fit-yes, fit-no}
 use Rattle.record_replay.proofs.replay.Statement.{statement}
 use Rattle.record_replay.proofs.replay.Tie as tie
 

@@ -9,9 +9,9 @@ use lib.ListN.{length}
 use Rattle.format.specs.Hex.{digits}
 use Rattle.format.specs.HexLaws.{length-digits}
 use Rattle.replies.specs.Replies.{answerLine}
-use Rattle.reply_writing.specs.declared.Reply.{Reply}
-use Rattle.reply_writing.specs.Texts.{shownText, textOf}
-use Rattle.reply_writing.specs.TextLaws.{text-length}
+use Rattle.reply_sizes.specs.declared.Reply.{Reply}
+use Rattle.reply_sizes.specs.Texts.{shownText, textOf}
+use Rattle.reply_sizes.specs.TextLaws.{text-length}
 use Rattle.reply_writing.proofs.Laws.{Held, held-first, held-room, held-next}
 use Rattle.reply_writing.proofs.put.Statement.{statement}
 use Rattle.reply_writing.proofs.put.Tie as tie

@@ -13,9 +13,9 @@ use Rattle.format.specs.Fields.{textAt}
 use Rattle.format.specs.WidthLaws.{length-text}
 use Rattle.replies.specs.Replies.{recordDigits}
 use Rattle.replies.specs.Lengths.{bytes-length}
-use Rattle.reply_writing.specs.declared.Form.{Form}
-use Rattle.reply_writing.specs.declared.Reply.{Reply}
-use Rattle.reply_writing.specs.TextLaws.{shown-refused, Parts, parts}
+use Rattle.reply_sizes.specs.declared.Form.{Form}
+use Rattle.reply_sizes.specs.declared.Reply.{Reply}
+use Rattle.reply_sizes.specs.TextLaws.{shown-refused, Parts, parts}
 use Rattle.reply_writing.proofs.Laws.{Held, held-first, held-room, held-next}
 use Rattle.reply_writing.proofs.put_added.Statement.{statement}
 use Rattle.reply_writing.proofs.put_added.Tie as tie

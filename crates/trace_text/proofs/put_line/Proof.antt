@@ -1,7 +1,7 @@
 -- A reply's line in the tail behind the place.
 use native.Mathlib.Omega.{arith}
 use borrow.Author.Needs.{needs}
-use Rattle.reply_writing.specs.Texts.{textOf}
+use Rattle.reply_sizes.specs.Texts.{textOf}
 use Rattle.trace_text.proofs.Laws.{line-short, tail-room, tail-puts}
 use Rattle.trace_text.proofs.put_line.Statement.{statement}
 use Rattle.trace_text.proofs.put_line.Tie as tie

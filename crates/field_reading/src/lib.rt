@@ -1,0 +1,70 @@
+// Digits and fields read.
+ghost use mathlib.Core.Path.{_≡_};
+ghost use Prim.Native.Nat.{_+_, _≤_};
+ghost use lib.ListN.{length, take, drop};
+ghost use Rattle.format.specs.Hex.{isHex, allHex, valueOf, number};
+
+// Whether a byte is one of 0-9 and A-F.
+fn is_hex(c: u8) -> bool
+    ensures { λ r. ⌜ r ≡ isHex c ⌝ }
+{
+    if c < 48 {
+        return false;
+    }
+    if c <= 57 {
+        return true;
+    }
+    if c < 65 {
+        return false;
+    }
+    c <= 70
+}
+
+// Whether all bytes are.
+pub fn all_hex(line: &[u8]) -> bool
+    ensures { λ r. ⌜ r ≡ allHex (now (line .entry)) ⌝ }
+{
+    let mut i: usize = 0;
+    while i < line.len() {
+        if !is_hex(line[i]) {
+            return false;
+        }
+        i += 1;
+    }
+    true
+}
+
+// The value of a digit; some number below 16 of any other byte.
+pub fn value_of(c: u8) -> u64
+    ensures { λ r. ⌜ r ≡ valueOf c ⌝ }
+{
+    if c < 48 {
+        return 0;
+    }
+    if c <= 57 {
+        return (c - 48) as u64;
+    }
+    ((c - 55) % 16) as u64
+}
+
+// The number that at most 16 digits stand for.
+fn number_of(digits: &[u8]) -> u64
+    requires { ⌜ length (now digits) ≤ 16 ⌝ }
+    ensures { λ r. ⌜ r ≡ number (now (digits .entry)) ⌝ }
+{
+    let mut n: u64 = 0;
+    let mut i: usize = 0;
+    while i < digits.len() {
+        n = n * 16 + value_of(digits[i]);
+        i += 1;
+    }
+    n
+}
+
+// The field of `width` digits at `start`.
+pub fn field(line: &[u8], start: usize, width: usize) -> u64
+    requires { ⌜ (start + width ≤ length (now line)) × (width ≤ 16) ⌝ }
+    ensures { λ r. ⌜ r ≡ number (take width (drop start (now (line .entry)))) ⌝ }
+{
+    number_of(&line[start..start + width])
+}

@@ -1,0 +1,45 @@
+-- The fields of a frame as a call has them.
+use Prim.Native.Nat.{ℕ, zero, suc, _+_, _*_, _≤_}
+use mathlib.Core.Path.{_≡_}
+use mathlib.Core.List.{List, [], _∷_, _++_}
+use mathlib.Core.Option.{some}
+use lib.ListN.{length, getD, take, drop}
+use Rattle.format.specs.Fields.{RawCall, fixed, each}
+use Rattle.format.specs.FieldLaws.{Formed}
+use Rattle.replies.specs.Orders.{firsts, seconds}
+use Rattle.frames.specs.Decoded.{heldFrame, callIn}
+use Rattle.frames.specs.declared.Frame.{Frame}
+use Rattle.frame_fields.specs.declared.Steps.{Steps}
+
+unfoldable pub fieldsOf : Frame → List ℕ
+fieldsOf f = heldFrame f .fields
+
+-- n numbers of a list, from a place on and so far apart
+unfoldable pub every : ℕ → ℕ → ℕ → List ℕ → List ℕ
+every from apart zero ns = []
+every from apart (suc n) ns = every from apart n ns ++ (getD ns (from + apart * n) 0 ∷ [])
+
+-- a frame that a line reads as, of this kind
+pub record Framed (k : ℕ) (f : Frame) : Type 0 where
+  pub kind : f .kind ≡ k
+  pub formed : Formed (heldFrame f)
+
+-- the same, of a kind whose frames have a developer and counted steps of price and level
+pub record Stepped (f : Frame) : Type 0 where
+  pub of : ℕ
+  pub framed : Framed of f
+  pub widths : fixed of ≡ 2 ∷ 2 ∷ []
+  pub pairs : each of ≡ 2
+
+-- these, as a move has them
+pub record StepsIn (f : Frame) (r : Steps) : Type 0 where
+  pub developer : r .developer ≡ getD (fieldsOf f) 0 0
+  pub few : r .count ≤ 9
+  pub long-prices : length (r .prices) ≡ 16
+  pub long-levels : length (r .levels) ≡ 16
+  pub prices : take (r .count) (r .prices) ≡ firsts (drop 2 (fieldsOf f))
+  pub levels : take (r .count) (r .levels) ≡ seconds (drop 2 (fieldsOf f))
+
+-- a frame that a line reads as, or that is none
+abbrev pub Reads : Frame → Type 0
+Reads f = (c : RawCall) → callIn f ≡ some c → Formed c

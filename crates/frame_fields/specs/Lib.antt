@@ -1,0 +1,3 @@
+pub mod FrameFields
+pub mod FieldColumns
+pub mod Stepping

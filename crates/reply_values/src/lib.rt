@@ -1,0 +1,101 @@
+// The values of a reply's fields, from what a closing or a settling answered.
+ghost use mathlib.Core.Path.{_≡_};
+ghost use mathlib.Core.Bool.{cond};
+ghost use Prim.Native.Nat.{min, _*_};
+ghost use lib.ListN.{replicate};
+ghost use Rattle.numbers.specs.Lists.{padded};
+ghost use Rattle.rules.specs.Rounds.{Answered};
+ghost use Rattle.rules.specs.Settling.{Settlement};
+ghost use Rattle.replies.specs.Replies.{twosComplement, valuesOf, closingFields};
+ghost use Rattle.settling.specs.Settles.{settledAs};
+ghost use Rattle.reply_sizes.specs.Texts.{Valued};
+use reply_sizes::Reply;
+use reply_sizes::Values;
+use settling::Settled;
+
+// A reply of this kind and number, zero in every other place.
+pub fn blank(kind: u8, number: u8) -> Reply
+    ensures { λ r. ⌜ (r .kind ≡ kind) × (r .number ≡ number) × (r .awards ≡ replicate 192 0) ⌝ }
+    ensures { λ r. ⌜ (r .filled ≡ 0) × (r .values .head ≡ replicate 8 0) × (r .values .tail ≡ replicate 8 0) ⌝ }
+{
+    let values = Values {
+        head: [0; 8],
+        tail: [0; 8],
+    };
+    Reply {
+        kind: kind,
+        number: number,
+        values: values,
+        filled: 0,
+        awards: [0; 192],
+    }
+}
+
+// The 64 bits of a signed number, in two's complement.
+pub fn bits_of(x: i64) -> u64
+    ensures { λ r. ⌜ r ≡ twosComplement x ⌝ }
+{
+    if x < 0 {
+        let y = -1 - x;
+        return 18446744073709551615 - (y as u64);
+    }
+    x as u64
+}
+
+// Of a closing, by the excess in two's complement and the remainder.
+pub fn closing_values(bits: u64, remainder: u32) -> Values
+    ensures { λ r. ⌜ ((x : Answered) → bits ≡ twosComplement (x .excess) → remainder ≡ x .remainder → r .head ≡ padded 8 (valuesOf closingFields x)) ⌝ }
+{
+    Values {
+        head: [bits, remainder as u64, 0, 0, 0, 0, 0, 0],
+        tail: [0, 0, 0, 0, 0, 0, 0, 0],
+    }
+}
+
+// A mark as a number: 1 where it is set.
+pub fn mark(set: bool) -> u64
+    ensures { λ r. ⌜ r ≡ cond set 1 0 ⌝ }
+{
+    if set {
+        return 1;
+    }
+    0
+}
+
+// Of a settling.
+pub fn settling_values(settled: Settled) -> Values
+    ensures { λ r. ⌜ ((s : Settlement) → settled ≡ settledAs s → Valued s r) ⌝ }
+{
+    Values {
+        head: [
+            settled.price as u64,
+            settled.demand,
+            settled.total,
+            settled.choices,
+            settled.covering,
+            settled.records as u64,
+            0,
+            0,
+        ],
+        tail: [
+            settled.remainder as u64,
+            settled.second as u64,
+            mark(settled.short),
+            0,
+            0,
+            0,
+            0,
+            0,
+        ],
+    }
+}
+
+// The bytes of so many award records: 192 bytes hold 32.
+pub fn award_bytes(records: usize) -> usize
+    ensures { λ r. ⌜ r ≡ 6 * min records 32 ⌝ }
+{
+    if records < 32 {
+        return 6 * records;
+    }
+    192
+}
