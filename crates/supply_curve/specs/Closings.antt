@@ -12,13 +12,16 @@ use lib.ListN.{length, length-map, length-append}
 use borrow.Author.Tests.{leb-true, le-leb, lt-leb, ltb-true, lt-ltb, le-ltb, eqb-true, eq-eqb, ne-eqb, eqb-false}
 use Rattle.numbers.specs.Cases.{le-or-lt}
 use Rattle.numbers.specs.Lists.{oneTo, keep, total, greatest}
-use Rattle.numbers.specs.ListLaws.{Each, in-keep, in-map, map-same, length-one-to, greatest-in, greatest-upper, in-one-to}
+use Rattle.numbers.specs.ListLaws.{Each, in-keep, in-map, map-same, length-one-to, greatest-in, greatest-upper, total-map-bound}
 use Rattle.numbers.specs.Falling.{distinctFalling, Falls, distinct-in, distinct-falls, distinct-length, falls-same, keep-falls, keep-all, front-next}
 use Rattle.rules.specs.Ledger.{highestDeclared, Step, Declaration, Developer, Phase, Round, Ledger, nobody, withDevelopers}
 use Rattle.rules.specs.Clearing.{highest, quantityAfter, high, low, developersOf, greatestOf, supply}
 use Rattle.rules.specs.Refusals.{floor}
 use Rattle.rules.specs.Rounds.{withdrawsAll, reached, added, applied}
 use Rattle.sound.specs.Sound.{appliedTo, started, Descends, SoundLodged, RoundPrices, Registered, Sound}
+use Rattle.clearing.specs.Course.{courses}
+use Rattle.clearing.specs.HighLow.{low-le-highest}
+use Rattle.clearing.specs.Supply.{greatest-of-bound}
 use Rattle.clearing.specs.ClosingPrice.{settings-facts}
 use Rattle.reachable.specs.Bounds.{withdrawals-few, descends-each}
 use Rattle.reachable.specs.Closing.{added-descends}
@@ -245,3 +248,30 @@ module _ (l : Ledger) (s : Sound l) (round : l .phase ≡ Round) where
       (λ k. let b = before-bound (r .0) (w .step) k in (omega (arith, b .0, w .at-price, floor-positive), omega (arith, b .1, w .at-price)))
       (λ k. let b = more-bound (r .0) (w .step) k in (omega (arith, b .0, w .at-price, floor-positive), omega (arith, b .1, w .at-price)))
       (List·Memᴰ·append-cases (l .developers (r .0) .withdrawals) (w .withdrawn))
+
+-- ---- bounds of a sound ledger's curve
+
+-- prices are at most 10^6, twice the largest CE; supply is at most 32 times the highest level that may be declared
+pub curve-small : (l : Ledger) → Sound l → Each (λ x. (x .price ≤ 1000000) × (x .after ≤ 32000000000)) (supplyCurve l)
+unfolding supplyCurve pointAt supply
+curve-small l s x m =
+    let r = in-map (pointAt l) x (curvePrices l) .0 m in
+    let p = r .0 in
+    let w = withdrawal-prices-in l p .0 (distinct-in p (withdrawalPrices l) .0 (r .1)) in
+    (omega (arith, ap (λ (y : Point). y .price) (r .2), price-bound p (w .0) (w .1)), omega (arith, ap (λ (y : Point). y .after) (r .2), sum-bound p))
+  where
+    low-bound : (n p : ℕ) → low p (l .developers n) ≤ 1000000000
+    low-bound n p = let k = courses l s n in omega (arith, low-le-highest (l .developers n) (k .falls) p)
+
+    sum-bound : (p : ℕ) → supply (low p) l ≤ 32000000000
+    sum-bound p = omega (arith, length-one-to 32, total-map-bound (greatestOf (low p) l) 1000000000 (oneTo 32) (λ k i. greatest-of-bound (low p) l 1000000000 (λ n. low-bound n p) k))
+
+    price-bound : (p n : ℕ) → WithdrewAt l p n → p ≤ 1000000
+    price-bound p n w = go (started (l .phase)) refl
+      where
+        go : (b : Bool) → started (l .phase) ≡ b → p ≤ 1000000
+        go true e =
+            let b = settings-facts l s e in
+            let c = b .bounds in
+            omega (arith, w .at-price, descends-each _ (l .settings .a) (w .step) _ (w .withdrawn) (courses l s n .prices) .1)
+        go false e = absurd (List·Memᴰ·not-nil (subst (λ (ws : List Step). List·Memᴰ (w .step) ws) (s .idle e n) (w .withdrawn)))
