@@ -1,3 +1,4 @@
 pub mod Curve
 pub mod CurveLaws
 pub mod Closings
+pub mod CurveSample
