@@ -6,7 +6,7 @@ use mathlib.Core.Bool.{true, false}
 use mathlib.Core.List.{[]}
 use native.Mathlib.Omega.{arith}
 use lib.Dec.{eqb}
-use lib.ListN.{length, getD, set}
+use lib.ListN.{length, getD}
 use borrow.Author.Tests.{eq-eqb, ne-eqb}
 use Rattle.rules.specs.Ledger.{none, Developer, Cancel, By, Ledger}
 use Rattle.rules.specs.Refusals.{isOfKind, isNone, moveNumber, number}
@@ -20,7 +20,7 @@ use Rattle.history.specs.declared.History.{History}
 use Rattle.auction.specs.declared.Auction.{Auction}
 use Rattle.auction.specs.Holds.{heldCourse, auctionOf}
 use Rattle.auction.specs.Called.{Called}
-use Rattle.auction.specs.Parts.{withCourses}
+use Rattle.auction.specs.Parts.{withHistory}
 use Rattle.auction.proofs.Calls.{Refused, refused}
 use Rattle.auction.proofs.Phases.{round-is, in-round}
 use Rattle.auction.proofs.DeveloperHeld.{history-at, offered-at, kindHeld, kind-is, none-lodged}
@@ -69,9 +69,9 @@ module _ (n : ℕ) (a : Auction) where
 
       -- the auction without the offer
       abbrev pub cancelling : Auction
-      cancelling = withCourses a (a .quantities) (set (a .histories) (n - 1) r)
+      cancelling = withHistory a n r
 
       pub cancel-taken : Called (By n Cancel) a cancelling (numberAlone 0)
       unfolding moved
       cancel-taken =
-          move-taken n Cancel a r low high (λ l s h. record { number = passes l h; declared = refl; quantity = refl; history = history-next l s h })
+          move-taken n Cancel a r low high (λ l s h. record { number = passes l h; declared = refl; quantity = refl; withdrawals = refl; history = history-next l s h })

@@ -1,5 +1,5 @@
--- Closing a round: refused unless one is open; else the offers are applied, the excess is supply less Dem(C), the remainder that of Dem(C),
--- and the phase follows from the excess.
+-- Closing a round: refused unless one is open; else the offers are applied, the supply curve is extended, the excess is supply less Dem(C), the
+-- remainder that of Dem(C), and the phase follows from the excess.
 use Prim.Native.Nat.{ℕ, _/_}
 use mathlib.Core.Path.{_≡_, refl, ap, ap₂, _∙_}
 use mathlib.Core.Bool.{Bool, true, false, cond}
@@ -18,6 +18,11 @@ use Rattle.rules.specs.CheckLaws.{in-settings}
 use Rattle.reachable.specs.Bounds.{closing-in-range}
 use Rattle.supply.specs.ByProject.{supplyOf}
 use Rattle.supply.specs.ByProjectLaws.{supply-of}
+use Rattle.supply_curve.specs.Curve.{supplyCurve}
+use Rattle.kept_curve.specs.Held.{heldCurve}
+use Rattle.kept_curve.specs.declared.Curve.{Curve}
+use Rattle.lows.specs.Lows.{Highests}
+use Rattle.curve_closing.specs.Extends.{Extended}
 use Rattle.auction.specs.declared.Auction.{Auction}
 use Rattle.auction.specs.Holds.{phaseNumber, heldCourse, auctionOf}
 use Rattle.auction.specs.Called.{Called}
@@ -33,21 +38,23 @@ pub close-phase : (a : Auction) → (a .phase ≡ 2 → ⊥) → Refused Close a
 unfolding number
 close-phase a z = refused Close a 2 (omega arith) (λ l s h. simp (round-is a l h ∙ ne-eqb _ 2 z))
 
--- what the engine computed of the auction a: the courses b with the offers applied, supply, demand at C with its remainder, the phase and the
--- excess
-pub record Computed (a : Auction) (b : Courses) (supply demand remainder phase : ℕ) (excess : ℤ) : Type 0 where
+-- what the engine computed of the auction a: the courses b with the offers applied, the highest levels and the curve, supply, demand at C with
+-- its remainder, the phase and the excess
+pub record Computed (a : Auction) (b : Courses) (firsts : List ℕ) (curve : Curve) (supply demand remainder phase : ℕ) (excess : ℤ) : Type 0 where
   pub round : a .phase ≡ 2
   pub applied : OffersApplied (a .kinds) (a .quantities) (a .histories) (a .opening) (a .closing) b
+  pub highests : Highests (a .declared) firsts
+  pub extended : Extended (a .curve) (a .projects) firsts (b .histories) (a .opening) curve
   pub supply-is : supply ≡ supplyOf (a .projects) (b .quantities)
   pub demand-is : demand ≡ demandBy (a .settings) (a .closing)
   pub remainder-is : remainder ≡ remainderBy (a .settings) (a .closing)
   pub phase-is : phase ≡ phaseNumberAfter (clears supply demand (a .closing) (a .settings .ce / 2))
   pub excess-is : excess ≡ pos supply -ℤ pos demand
 
-module _ (a : Auction) (b : Courses) (q d r n : ℕ) (e : ℤ) (k : Computed a b q d r n e) where
+module _ (a : Auction) (b : Courses) (fs : List ℕ) (v : Curve) (q d r n : ℕ) (e : ℤ) (k : Computed a b fs v q d r n e) where
   -- the auction with the offers applied, in its next phase
   abbrev applied-only : Auction
-  applied-only = withCourses a (b .quantities) (b .histories)
+  applied-only = withCourses a (b .quantities) (b .histories) v
 
   abbrev pub closed : Auction
   closed = withClock applied-only n (a .settings) (a .opening) (a .closing)
@@ -68,6 +75,15 @@ module _ (a : Auction) (b : Courses) (q d r n : ℕ) (e : ℤ) (k : Computed a b
     after : (b .quantities ≡ ofEach (λ x. afterRound l x .quantity) l) × (b .histories ≡ ofEach (λ x. heldCourse (afterRound l x)) l)
     unfolding auctionOf
     after = k .applied .right l s round (λ i. h i .kinds) (λ i. h i .quantities) (λ i. h i .histories) (λ i. h i .opening) (λ i. h i .closing)
+
+    -- the ledger with the offers applied
+    abbrev later : Ledger
+    later = withDevelopers l (λ m. afterRound l (l .developers m))
+
+    curve-after : v ≡ heldCurve (supplyCurve later)
+    unfolding auctionOf
+    curve-after =
+        k .extended .right l s round (λ i. h i .curve) (λ i. h i .projects) (k .highests .right l s (λ i. h i .declared)) (after .1) (λ i. h i .opening)
 
     supply-held : q ≡ supplyAfter l
     unfolding auctionOf applied supplyAfter
@@ -95,16 +111,16 @@ module _ (a : Auction) (b : Courses) (q d r n : ℕ) (e : ℤ) (k : Computed a b
     unfolding excess
     excess-held = k .excess-is ∙ ap₂ (λ (x y : ℕ). pos x -ℤ pos y) supply-held demand-held
 
-    courses-after : applied-only ≡ auctionOf (withDevelopers l (λ m. afterRound l (l .developers m)))
+    courses-after : applied-only ≡ auctionOf later
     unfolding applied
-    courses-after = courses-held a l (λ m. afterRound l (l .developers m)) h (λ m. refl) (after .0) (after .1)
+    courses-after = courses-held a l (λ m. afterRound l (l .developers m)) h (λ m. refl) (after .0) (after .1) curve-after
 
     held-closed : Taken Close closed (record { number = 0; excess = e; remainder = r }) l
     unfolding number granted accepted auctionOf
     held-closed = record {
       number = simp open-round;
       answer = λ i. record { number = 0; excess = excess-held i; remainder = remainder-held i };
-      next = clock-held applied-only (withDevelopers l (λ m. afterRound l (l .developers m))) (phaseAfter l) (l .settings) courses-after phase-held (λ i. h i .settings) (λ i. h i .opening) (λ i. h i .closing);
+      next = clock-held applied-only later (phaseAfter l) (l .settings) courses-after phase-held (λ i. h i .settings) (λ i. h i .opening) (λ i. h i .closing);
     }
 
   pub close-taken : Called Close a closed (record { number = 0; excess = e; remainder = r })

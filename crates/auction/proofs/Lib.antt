@@ -10,3 +10,4 @@ mod Cancelling
 mod Lodging
 mod ClosingRound
 mod Previewing
+mod ReadingCurve

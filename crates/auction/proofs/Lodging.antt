@@ -5,7 +5,7 @@ use mathlib.Core.Logic.{⊎-elim}
 use mathlib.Core.Bool.{true, false}
 use mathlib.Core.List.{List}
 use native.Mathlib.Omega.{arith}
-use lib.ListN.{getD, set}
+use lib.ListN.{getD}
 use borrow.Author.Tests.{eq-eqb, ne-eqb}
 use Rattle.numbers.specs.Cases.{clash}
 use Rattle.rules.specs.Ledger.{Step, Standing, none, made, Developer, Lodge, By, Ready, Ledger, withLodged}
@@ -22,7 +22,7 @@ use Rattle.history.specs.declared.History.{History}
 use Rattle.auction.specs.declared.Auction.{Auction}
 use Rattle.auction.specs.Holds.{heldCourse, auctionOf}
 use Rattle.auction.specs.Called.{Called}
-use Rattle.auction.specs.Parts.{withCourses}
+use Rattle.auction.specs.Parts.{withHistory}
 use Rattle.auction.proofs.Calls.{Refused, refused}
 use Rattle.auction.proofs.Moving.{Moves, move-taken}
 use Rattle.auction.proofs.Phases.{ready-is}
@@ -94,7 +94,7 @@ module _ (n : ℕ) (ps qs : List ℕ) (a : Auction) where
 
         -- the auction with the list lodged
         abbrev pub lodging : Auction
-        lodging = withCourses a (a .quantities) (set (a .histories) (n - 1) r)
+        lodging = withHistory a n r
 
         pub lodge-taken : Called (By n (Lodge ps qs)) a lodging (numberAlone 0)
         unfolding number moveNumber moved
@@ -102,5 +102,6 @@ module _ (n : ℕ) (ps qs : List ℕ) (a : Auction) where
           number = simp (ready z l h, kind-is n a 1 l h ∙ w, prices-at l h ∙ f, lowering-at l s h ∙ g);
           declared = refl;
           quantity = refl;
+          withdrawals = refl;
           history = history-next l s h;
         })

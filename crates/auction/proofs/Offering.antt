@@ -5,7 +5,7 @@ use mathlib.Core.Bool.{Bool, true, false, cond, _&&_}
 use mathlib.Core.List.{List, []}
 use mathlib.Core.Logic.{⊎-elim}
 use native.Mathlib.Omega.{arith}
-use lib.ListN.{length, getD, set}
+use lib.ListN.{length, getD}
 use borrow.Author.Tests.{eq-eqb, ne-eqb}
 use Rattle.rules.specs.Ledger.{none, made, Developer, Offer, By, Ledger, nobody, withOffer}
 use Rattle.rules.specs.Refusals.{inRound, isOfKind, isNone, pricesOk, lowering, moveNumber, number}
@@ -23,7 +23,7 @@ use Rattle.history.specs.declared.History.{History}
 use Rattle.auction.specs.declared.Auction.{Auction}
 use Rattle.auction.specs.Holds.{heldCourse, auctionOf}
 use Rattle.auction.specs.Called.{Called}
-use Rattle.auction.specs.Parts.{withCourses}
+use Rattle.auction.specs.Parts.{withHistory}
 use Rattle.auction.proofs.Calls.{Refused, refused}
 use Rattle.auction.proofs.Moving.{Moves, move-taken}
 use Rattle.auction.proofs.Phases.{round-is, in-round}
@@ -116,8 +116,8 @@ module _ (n : ℕ) (ps qs : List ℕ) (a : Auction) where
 
           -- the auction with the offer standing
           abbrev pub offering : Auction
-          offering = withCourses a (a .quantities) (set (a .histories) (n - 1) r)
+          offering = withHistory a n r
 
           pub offer-taken : Called (By n (Offer ps qs)) a offering (numberAlone 0)
           unfolding moved
-          offer-taken = move-taken n (Offer ps qs) a r low high (λ l s h. record { number = passes l h; declared = refl; quantity = refl; history = history-next l s h })
+          offer-taken = move-taken n (Offer ps qs) a r low high (λ l s h. record { number = passes l h; declared = refl; quantity = refl; withdrawals = refl; history = history-next l s h })

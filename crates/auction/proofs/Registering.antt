@@ -3,7 +3,7 @@ use Prim.Native.Nat.{ℕ, _-_, _≤_}
 use mathlib.Core.Path.{_≡_, refl, sym, ap, _∙_}
 use mathlib.Core.Logic.{⊎-elim}
 use mathlib.Core.Bool.{Bool, true, false, _&&_}
-use mathlib.Core.List.{List, map}
+use mathlib.Core.List.{List, [], map}
 use native.Mathlib.Omega.{arith}
 use lib.Dec.{eqb}
 use lib.ListN.{length, getD, set}
@@ -15,8 +15,11 @@ use Rattle.rules.specs.Clearing.{ofEach}
 use Rattle.rules.specs.Refusals.{isNumber, numbersOk, isKind, levelsOk, declarationOk, check, number}
 use Rattle.rules.specs.CheckLaws.{is-number}
 use Rattle.rules.specs.Rounds.{accepted, numberAlone, granted}
-use Rattle.sound.specs.Sound.{Sound}
+use Rattle.sound.specs.Sound.{started, Sound}
+use Rattle.supply_curve.specs.Closings.{curve-empty}
+use Rattle.reachable.specs.Held.{by-put, is-ready}
 use Rattle.reachable.specs.Checks.{RegisterPassed, register-passed, Numbers, numbers-facts, declaration-facts, levels-facts}
+use Rattle.kept_curve.specs.Held.{heldCurve}
 use Rattle.levels.specs.declared.Levels.{Levels}
 use Rattle.levels.specs.Held.{heldLevels, Copied, Highest}
 use Rattle.supply.specs.ByProject.{joins}
@@ -89,6 +92,7 @@ module _ (a : Auction) (k n kind study day : ℕ) (ls : List ℕ) where
     quantities = set (a .quantities) (n - 1) q;
     declared = set (a .declared) (n - 1) v;
     histories = a .histories;
+    curve = a .curve;
   }
 
   module _ (v : Levels) (q : ℕ) (copied : Copied ls v) (highest : Highest v q) where
@@ -106,6 +110,7 @@ module _ (a : Auction) (k n kind study day : ℕ) (ls : List ℕ) where
       quantities = stored (λ x. x .quantity) (λ j. h j .quantities) (highest .right ls levels few) i;
       declared = stored (λ x. heldLevels (x .declared .levels)) (λ j. h j .declared) levels i;
       histories = (ap (λ (x : Auction). x .histories) h ∙ sym (put-keeps heldCourse l n new kept)) i;
+      curve = (ap (λ (x : Auction). x .curve) h ∙ ap heldCurve (curve-empty l idle ∙ sym (curve-empty (accepted l call) still-idle))) i;
     }
       where
         passed : RegisterPassed l n declaration
@@ -119,6 +124,13 @@ module _ (a : Auction) (k n kind study day : ℕ) (ls : List ℕ) where
 
         levels : v ≡ heldLevels ls
         levels = copied .right few
+
+        -- nothing is withdrawn before the first round
+        idle : (m : ℕ) → l .developers m .withdrawals ≡ []
+        idle = s .idle (ap started (is-ready (l .phase) (passed .phase)))
+
+        still-idle : (m : ℕ) → put n new (l .developers) m .withdrawals ≡ []
+        still-idle = by-put (λ _ y. y .withdrawals ≡ []) n new (l .developers) refl idle
 
         kept : heldCourse new ≡ heldCourse (l .developers n)
         kept = ap heldCourse (sym (unused-nobody s n (numbers .unused)))

@@ -1,11 +1,14 @@
--- The one auction that holds a ledger: developer n stands at place n - 1 of each array, what is not used is zero.
+-- The one auction that holds a ledger: developer n stands at place n - 1 of each array, what is not used is zero; and the
+-- supply curve, computed from the histories.
 use Prim.Native.Nat.{ℕ}
 use mathlib.Core.Path.{_≡_}
 use Rattle.rules.specs.Ledger.{Phase, Fresh, Ready, Round, Between, Closed, Ledger}
 use Rattle.rules.specs.Clearing.{ofEach}
 use Rattle.sound.specs.Sound.{Sound}
+use Rattle.supply_curve.specs.Curve.{supplyCurve}
 use Rattle.levels.specs.Held.{heldLevels}
 pub use Rattle.courses.specs.Courses.{heldCourse}
+use Rattle.kept_curve.specs.Held.{heldCurve}
 use Rattle.auction.specs.declared.Auction.{Auction}
 
 abbrev pub phaseNumber : Phase → ℕ
@@ -34,6 +37,7 @@ auctionOf l = record {
   quantities = ofEach (λ x. x .quantity) l;
   declared = ofEach (λ x. heldLevels (x .declared .levels)) l;
   histories = ofEach heldCourse l;
+  curve = heldCurve (supplyCurve l);
 }
 
 -- P of every sound ledger that the auction holds

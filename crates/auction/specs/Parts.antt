@@ -1,14 +1,19 @@
 -- The auction with some of its parts replaced, and the ledger that it then holds: the only laws that name its arrays, besides those of a
 -- registration, which stores to most of them.
-use Prim.Native.Nat.{ℕ}
-use mathlib.Core.Path.{_≡_, sym, ap, _∙_, fun-ext}
+use Prim.Native.Nat.{ℕ, _-_}
+use mathlib.Core.Path.{_≡_, refl, sym, ap, _∙_, fun-ext}
 use mathlib.Core.List.{List, map}
+use lib.ListN.{set}
 use Rattle.numbers.specs.Lists.{oneTo}
 use Rattle.rules.specs.Ledger.{Declaration, Developer, Phase, Ledger, withPhase, withSettings, withPrices, withDevelopers}
 use Rattle.rules.specs.Ledger as rules
 use Rattle.rules.specs.Clearing.{ofEach}
+use Rattle.supply_curve.specs.Curve.{supplyCurve}
+use Rattle.supply_curve.specs.Closings.{curve-same}
 use Rattle.levels.specs.Held.{heldLevels}
 use Rattle.history.specs.declared.History.{History}
+use Rattle.kept_curve.specs.Held.{heldCurve}
+use Rattle.kept_curve.specs.declared.Curve.{Curve}
 use Rattle.clock.specs.declared.Settings.{Settings}
 use Rattle.auction.specs.declared.Auction.{Auction}
 use Rattle.auction.specs.Holds.{phaseNumber, heldCourse, auctionOf}
@@ -28,18 +33,22 @@ withClock a phase settings opening closing = record {
   quantities = a .quantities;
   declared = a .declared;
   histories = a .histories;
+  curve = a .curve;
 }
 
 -- the settings as the auction holds them
 abbrev pub settingsHeld : rules.Settings → Settings
 settingsHeld s = record { ce = s .ce; d = s .d; m1 = s .m1; m2 = s .m2; a = s .a }
 
+abbrev pub clocked : Ledger → Phase → rules.Settings → ℕ → ℕ → Ledger
+clocked l p s opening closing = withPhase (withPrices (withSettings l s) opening closing) p
+
 pub clock-held :
     (a : Auction) (l : Ledger) (p : Phase) (s : rules.Settings) {n o c o′ c′ : ℕ} {t : Settings} → a ≡ auctionOf l →
     n ≡ phaseNumber p → t ≡ settingsHeld s → o ≡ o′ → c ≡ c′ →
-    withClock a n t o c ≡ auctionOf (withPhase (withPrices (withSettings l s) o′ c′) p)
+    withClock a n t o c ≡ auctionOf (clocked l p s o′ c′)
 unfolding auctionOf
-clock-held a l p s h en et eo ec = λ i. record {
+clock-held a l p s {o′ = o′} {c′ = c′} h en et eo ec = λ i. record {
   phase = en i;
   settings = et i;
   opening = eo i;
@@ -51,12 +60,13 @@ clock-held a l p s h en et eo ec = λ i. record {
   quantities = h i .quantities;
   declared = h i .declared;
   histories = h i .histories;
+  curve = (ap (λ (x : Auction). x .curve) h ∙ ap heldCurve (curve-same l (clocked l p s o′ c′) (λ m. refl) (λ m. refl))) i;
 }
 
--- ---- other quantities and histories: what a developer's offers and a closing change, its registration staying
+-- ---- other quantities, histories and supply curve: what a developer's offers and a closing change, its registration staying
 
-abbrev pub withCourses : Auction → List ℕ → List History → Auction
-withCourses a quantities histories = record {
+abbrev pub withCourses : Auction → List ℕ → List History → Curve → Auction
+withCourses a quantities histories curve = record {
   phase = a .phase;
   settings = a .settings;
   opening = a .opening;
@@ -68,7 +78,12 @@ withCourses a quantities histories = record {
   quantities = quantities;
   declared = a .declared;
   histories = histories;
+  curve = curve;
 }
+
+-- the history r for developer n
+abbrev pub withHistory : Auction → ℕ → History → Auction
+withHistory a n r = withCourses a (a .quantities) (set (a .histories) (n - 1) r) (a .curve)
 
 module _ (a : Auction) (l : Ledger) (f : ℕ → Developer) (h : a ≡ auctionOf l) (e : (n : ℕ) → f n .declared ≡ l .developers n .declared) where
   abbrev next : Ledger
@@ -78,10 +93,11 @@ module _ (a : Auction) (l : Ledger) (f : ℕ → Developer) (h : a ≡ auctionOf
   keeps {A} g w = w ∙ ap (λ (k : ℕ → A). map k (oneTo 32)) (fun-ext (λ n. ap g (sym (e n))))
 
   pub courses-held :
-      {qs : List ℕ} {hs : List History} → qs ≡ ofEach (λ y. y .quantity) next → hs ≡ ofEach heldCourse next →
-      withCourses a qs hs ≡ auctionOf next
+      {qs : List ℕ} {hs : List History} {k : Curve} →
+      qs ≡ ofEach (λ y. y .quantity) next → hs ≡ ofEach heldCourse next → k ≡ heldCurve (supplyCurve next) →
+      withCourses a qs hs k ≡ auctionOf next
   unfolding auctionOf
-  courses-held eq eh = λ i. record {
+  courses-held eq eh ek = λ i. record {
     phase = h i .phase;
     settings = h i .settings;
     opening = h i .opening;
@@ -93,4 +109,10 @@ module _ (a : Auction) (l : Ledger) (f : ℕ → Developer) (h : a ≡ auctionOf
     quantities = eq i;
     declared = keeps (λ y. heldLevels (y .levels)) (λ j. h j .declared) i;
     histories = eh i;
+    curve = ek i;
   }
+
+  -- where nothing is withdrawn the supply curve stays
+  pub curve-stays : ((n : ℕ) → f n .withdrawals ≡ l .developers n .withdrawals) → a .curve ≡ heldCurve (supplyCurve next)
+  unfolding auctionOf
+  curve-stays w = ap (λ (x : Auction). x .curve) h ∙ ap heldCurve (curve-same l next (λ n. sym (w n)) (λ n. sym (e n)))

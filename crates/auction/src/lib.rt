@@ -1,16 +1,17 @@
-// The auction: its state, passed by value, the seven calls that change it, and a preview of closing. Each call's contract is an equation with the
-// ledger of document 01, for every list of calls (specs/Called.antt).
+// The auction: its state, passed by value, the seven calls that change it, a preview of closing, and the supply curve read. Each call's contract
+// is an equation with the ledger of document 01, for every list of calls (specs/Called.antt).
 ghost use mathlib.Core.Path.{_≡_};
 ghost use mathlib.Core.List.{[]};
 ghost use Rattle.rules.specs.Ledger.{Open, By, Offer, Lodge, Cancel};
 ghost use Rattle.rules.specs.Rounds.{ledger};
 ghost use Rattle.auction.specs.Holds.{auctionOf};
-ghost use Rattle.auction.specs.Called.{AnswersNumber, AnswersClosing, Previews, setsUp, registers, refusedAnswer};
+ghost use Rattle.auction.specs.Called.{AnswersNumber, AnswersClosing, Previews, ReadsCurve, setsUp, registers, refusedAnswer};
 use clock::Settings;
 use history::History;
+use kept_curve::Curve;
 use levels::Levels;
 
-// Developer n stands at place n - 1 of each array; a place that is not used is zero.
+// Developer n stands at place n - 1 of each array; a place that is not used is zero. The curve is that of the histories (document 02, 9).
 pub struct Auction {
     pub phase: u8,
     pub settings: Settings,
@@ -23,6 +24,7 @@ pub struct Auction {
     pub quantities: [u32; 32],
     pub declared: [Levels; 32],
     pub histories: [History; 32],
+    pub curve: Curve,
 }
 
 // The answer of a call: 0 or a refusal's number, and the next auction.
@@ -45,6 +47,14 @@ pub struct Preview {
     pub excess: i64,
     pub remainder: u32,
     pub closed: bool,
+}
+
+// The number of points of the supply curve, and the one at a place, zero past the end. It holds no auction.
+pub struct SupplyPoint {
+    pub entries: usize,
+    pub price: u32,
+    pub before: u64,
+    pub after: u64,
 }
 
 impl Auction {
@@ -77,6 +87,7 @@ impl Auction {
     {
         let none = Levels::none();
         let empty = History::new();
+        let curve = Curve::new();
         let settings = Settings {
             ce: 0,
             d: 0,
@@ -98,6 +109,7 @@ impl Auction {
             quantities: [0; 32],
             declared: declared,
             histories: histories,
+            curve: curve,
         }
     }
 
@@ -303,6 +315,10 @@ impl Auction {
         let left = after.quantities;
         let withdrawn = after.histories;
         let projects = self.projects;
+        let declared = self.declared;
+        let curve = self.curve;
+        let highest = lows::highest_levels(declared);
+        let longer = curve_closing::extended(curve, projects, highest, withdrawn, opening);
         let settings = self.settings;
         let supply = supply::supply(projects, left);
         let demand = settings.demand_at(closing);
@@ -313,6 +329,7 @@ impl Auction {
         next.phase = clock::phase_after(cleared);
         next.quantities = left;
         next.histories = withdrawn;
+        next.curve = longer;
         Closing {
             number: 0,
             excess: excess,
@@ -333,6 +350,24 @@ impl Auction {
             excess: closing.excess,
             remainder: closing.remainder,
             closed: clock::is_closed(number, phase),
+        }
+    }
+
+    // The supply curve, point by point (document 02, 9). Before its first point supply is that of the highest levels.
+    pub fn supply_point(self, place: usize) -> SupplyPoint
+        ensures { λ r. ⌜ ReadsCurve self place r ⌝ }
+    {
+        let projects = self.projects;
+        let declared = self.declared;
+        let curve = self.curve;
+        let highest = lows::highest_levels(declared);
+        let first = supply::supply(projects, highest);
+        let point = curve.point(first, place);
+        SupplyPoint {
+            entries: curve.count,
+            price: point.price,
+            before: point.before,
+            after: point.after,
         }
     }
 }

@@ -35,6 +35,7 @@ use Rattle.auction.proofs.Auction.lodge.Statement as lodge-states
 use Rattle.auction.proofs.Auction.cancel.Statement as cancel-states
 use Rattle.auction.proofs.Auction.close.Statement as close-states
 use Rattle.auction.proofs.Auction.preview.Statement as preview-states
+use Rattle.auction.proofs.Auction.supply_point.Statement as supply-point-states
 use Rattle.auction.proofs.Auction.new.Met as new-met
 use Rattle.auction.proofs.Auction.set_up.Met as set-up-met
 use Rattle.auction.proofs.Auction.register.Met as register-met
@@ -44,6 +45,7 @@ use Rattle.auction.proofs.Auction.lodge.Met as lodge-met
 use Rattle.auction.proofs.Auction.cancel.Met as cancel-met
 use Rattle.auction.proofs.Auction.close.Met as close-met
 use Rattle.auction.proofs.Auction.preview.Met as preview-met
+use Rattle.auction.proofs.Auction.supply_point.Met as supply-point-met
 
 -- `Made c a r b`: the call c, made on the auction a, is answered r and returns b, as the method's own contract says
 pub data Made : Call → Auction → Answered → Auction → Type 0 where
@@ -101,6 +103,7 @@ pub record EveryList (M : Type 1) : Type 2 where
   pub cancel-meets : cancel-states.statement M
   pub close-meets : close-states.statement M
   pub preview-meets : preview-states.statement M
+  pub supply-point-meets : supply-point-states.statement M
   pub held : {cs : List Call} {rs : List Answered} {a : Auction} → Run cs rs a → a ≡ auctionOf (ledger cs)
   pub answered : {cs : List Call} {rs : List Answered} {a : Auction} → Run cs rs a → rs ≡ answers cs
 
@@ -115,6 +118,7 @@ every-list = record {
   cancel-meets = cancel-met.met;
   close-meets = close-met.met;
   preview-meets = preview-met.met;
+  supply-point-meets = supply-point-met.met;
   held = λ w. reached w .0;
   answered = λ w. reached w .1;
 }

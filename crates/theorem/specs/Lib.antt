@@ -1,5 +1,6 @@
 pub mod EveryList
 pub mod Previewed
+pub mod SupplyCurves
 pub mod ReadBack
 pub mod Runs
 pub mod AwardRecords

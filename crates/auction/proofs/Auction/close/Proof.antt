@@ -1,4 +1,5 @@
--- Refused unless a round is open; else the offers are applied, and supply, demand at C with its remainder, excess and phase are the ledger's.
+-- Refused unless a round is open; else the offers are applied, and the curve, supply, demand at C with its remainder, excess and phase are the
+-- ledger's.
 use mathlib.Core.Path.{ap, _∙_}
 use native.Mathlib.Omega.{arith}
 use borrow.Author.Needs.{needs}
@@ -13,6 +14,12 @@ returns c = close-phase _ (c .if1 .taken)
 
 with-offers-applied-requires : tie.Need-with-offers-applied-requires
 with-offers-applied-requires c κs = search needs
+
+highest-levels-requires : tie.Need-highest-levels-requires
+highest-levels-requires c κs = search needs
+
+extended-requires : tie.Need-extended-requires
+extended-requires c κs = search needs
 
 supply-requires : tie.Need-supply-requires
 supply-requires c κs = search needs
@@ -39,10 +46,13 @@ returns-2 c =
     let remainder = c .before .before .before .before in
     let demand = remainder .before .demand-at in
     let supply = remainder .before .before .supply in
-    let offers = remainder .before .before .before .before .before .before .before in
-    close-taken _ _ _ _ _ _ _ (record {
+    let curve = remainder .before .before .before .before in
+    let offers = curve .before .before .before .before .before .before .before in
+    close-taken _ _ _ _ _ _ _ _ _ (record {
       round = offers .before .before .before .before .if1 .left;
       applied = offers .with-offers-applied .ensures;
+      highests = curve .before .highest-levels .ensures;
+      extended = curve .extended .ensures;
       supply-is = supply .ensures .0;
       demand-is = demand .ensures .0;
       remainder-is = remainder .remainder-at .ensures;
@@ -56,6 +66,8 @@ close-spec =
     (tie.spec
     returns
     with-offers-applied-requires
+    highest-levels-requires
+    extended-requires
     supply-requires
     demand-at-requires
     remainder-at-requires

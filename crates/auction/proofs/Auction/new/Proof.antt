@@ -1,7 +1,10 @@
--- A fresh auction holds the empty ledger: every array is a repeat of what stands for nobody.
-use mathlib.Core.Path.{refl}
+-- A fresh auction holds the empty ledger: every array is a repeat of what stands for nobody, and the curve has no point.
+use mathlib.Core.Path.{refl, sym, ap, _∙_}
 use borrow.Author.Needs.{needs}
+use Rattle.rules.specs.Ledger.{start}
 use Rattle.rules.specs.Rounds.{stepAll, ledger}
+use Rattle.supply_curve.specs.Closings.{curve-empty}
+use Rattle.kept_curve.specs.Held.{heldCurve}
 use Rattle.levels.specs.Held.{heldLevels}
 use Rattle.auction.specs.Holds.{heldCourse, auctionOf}
 use Rattle.courses.specs.Places.{fresh-places}
@@ -13,6 +16,9 @@ none-requires c κs = search needs
 
 new-requires : tie.Need-new-requires
 new-requires c κs = search needs
+
+new-requires-2 : tie.Need-new-requires-2
+new-requires-2 c κs = search needs
 
 returns : tie.Need-returns
 unfolding auctionOf ledger stepAll
@@ -26,9 +32,10 @@ returns c = λ i. record {
   studies = fresh-places (λ x. x .declared .study) 0 refl i;
   days = fresh-places (λ x. x .declared .day) 0 refl i;
   quantities = fresh-places (λ x. x .quantity) 0 refl i;
-  declared = fresh-places (λ x. heldLevels (x .declared .levels)) (c .before .none .result) (c .before .none .ensures) i;
-  histories = fresh-places heldCourse (c .new .result) (c .new .ensures) i;
+  declared = fresh-places (λ x. heldLevels (x .declared .levels)) (c .before .before .none .result) (c .before .before .none .ensures) i;
+  histories = fresh-places heldCourse (c .before .new .result) (c .before .new .ensures) i;
+  curve = (c .new2 .ensures ∙ ap heldCurve (sym (curve-empty start (λ n. refl)))) i;
 }
 
 pub new-spec : {M : Type 1} → statement M
-new-spec = tie.close (tie.spec none-requires new-requires returns)
+new-spec = tie.close (tie.spec none-requires new-requires new-requires-2 returns)
