@@ -2,19 +2,19 @@
 use Prim.Native.Nat.{ℕ}
 use mathlib.Core.Path.{_≡_, sym, ap, ap₂, subst, _∙_}
 use mathlib.Core.List.{List}
-use native.Mathlib.Omega.{arith}
-use Rattle.numbers.specs.ListLaws.{Each}
-use Rattle.rules.specs.Ledger.{Call, Ledger}
+use Rattle.rules.specs.Ledger.{Ledger}
 use Rattle.rules.specs.Clearing.{highest, supply}
 use Rattle.rules.specs.Rounds.{ledger}
+use Rattle.sound.specs.Sound.{Sound}
 use Rattle.reachable.specs.Reachable.{sound}
-use Rattle.supply_curve.specs.Curve.{Point, supplyCurve}
+use Rattle.supply_curve.specs.Curve.{supplyCurve}
 use Rattle.supply_curve.specs.CurveLaws.{Joined, curve-joined}
-use Rattle.supply_curve.specs.Closings.{curve-few, curve-small}
+use Rattle.supply_curve.specs.Closings.{curve-few}
 use Rattle.supply.specs.ByProject.{supplyOf}
 use Rattle.supply.specs.ByProjectLaws.{supply-of}
 use Rattle.lows.specs.Lows.{Highests}
-use Rattle.kept_curve.specs.Held.{heldCurve, Fits, PointAt}
+use Rattle.kept_curve.specs.Held.{heldCurve, PointAt}
+use Rattle.kept_curve.specs.HeldLaws.{curve-fits}
 use Rattle.kept_curve.specs.declared.CurvePoint.{CurvePoint}
 use Rattle.auction.specs.declared.Auction.{Auction}
 use Rattle.auction.specs.declared.SupplyPoint.{SupplyPoint}
@@ -27,22 +27,15 @@ module _ (a : Auction) (place : ℕ) (firsts : List ℕ) (first : ℕ) (p : Curv
   said = record { entries = a .curve .count; price = p .price; before = p .before; after = p .after }
 
   module _ (highests : Highests (a .declared) firsts) (first-is : first ≡ supplyOf (a .projects) firsts) (read : PointAt (a .curve) first place p) where
-    module _ (cs : List Call) (h : a ≡ auctionOf (ledger cs)) where
-      abbrev l : Ledger
-      l = ledger cs
-
-      first-held : first ≡ supply highest l
-      unfolding auctionOf
-      first-held =
-          first-is ∙ ap₂ (λ (ks qs : List ℕ). supplyOf ks qs) (λ i. h i .projects) (highests .right l (sound cs) (λ i. h i .declared)) ∙ supply-of highest l
-
-      fits : Each Fits (supplyCurve l)
-      fits x m = let b = curve-small l (sound cs) x m in record { price-high = b .0; after-high = omega arith }
+    first-held : (l : Ledger) → Sound l → a ≡ auctionOf l → first ≡ supply highest l
+    unfolding auctionOf
+    first-held l s h =
+        first-is ∙ ap₂ (λ (ks qs : List ℕ). supplyOf ks qs) (λ i. h i .projects) (highests .right l s (λ i. h i .declared)) ∙ supply-of highest l
 
     pub reads-curve : ReadsCurve a place said
     unfolding auctionOf heldCurve
     reads-curve = record {
       entries = λ cs h. ap (λ (x : Auction). x .curve .count) h;
-      point = λ cs h. read .right (supplyCurve (ledger cs)) (λ i. h i .curve) (curve-few (ledger cs) (sound cs)) (fits cs h)
-          (subst (λ (n : ℕ). Joined n (supplyCurve (ledger cs))) (sym (first-held cs h)) (curve-joined (ledger cs)));
+      point = λ cs h. let l = ledger cs in let s = sound cs in read .right (supplyCurve l) (λ i. h i .curve) (curve-few l s) (curve-fits l s)
+          (subst (λ (n : ℕ). Joined n (supplyCurve l)) (sym (first-held l s h)) (curve-joined l));
     }
