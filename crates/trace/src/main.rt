@@ -1,8 +1,9 @@
 // Replays the record on standard input, at most 65,536 bytes, and writes each reply as it comes, below it what it says in words and decimal
-// numbers, and before a closing's what a preview says; FF0B alone where the record is longer.
+// numbers, before a closing's what a preview says, and below an accepted one the supply curve; FF0B alone where the record is longer.
 ghost use mathlib.Core.Path.{_≡_};
 ghost use lib.ListN.{length};
 use auction::Auction;
+use reply_sizes::Reply;
 use trace_text::PreviewShown;
 use turns::Turn;
 
@@ -48,6 +49,28 @@ fn show(preview: PreviewShown, turn: Turn) {
     io::write_all(libc::STDOUT_FILENO, &text[..n]);
 }
 
+// How many points of the supply curve stand below a reply: all of them, below an accepted closing.
+fn points_shown(reply: Reply, auction: Auction) -> usize {
+    if reply.number != 0 {
+        return 0;
+    }
+    if reply.kind != 5 {
+        return 0;
+    }
+    let first = auction.supply_point(0);
+    first.entries
+}
+
+// Writes the first points of the supply curve (document 02, 9), one a line.
+fn show_curve(auction: Auction, points: usize) {
+    for place in 0..points {
+        let point = auction.supply_point(place);
+        let mut text = io::buffer();
+        let n = trace_text::put_point(&mut text, point.price, point.before, point.after);
+        io::write_all(libc::STDOUT_FILENO, &text[..n]);
+    }
+}
+
 fn trace(bytes: &[u8]) {
     let mut auction = Auction::new();
     let mut at: usize = 0;
@@ -57,6 +80,8 @@ fn trace(bytes: &[u8]) {
         let turn = step(auction, line);
         show(preview, turn);
         let next = turn.auction;
+        let reply = turn.reply;
+        show_curve(next, points_shown(reply, next));
         auction = next;
         at = at + line.len() + 1;
     }

@@ -27,6 +27,10 @@ unfoldable pub previewLine : PreviewShown → List ℕ
 previewLine p =
     bytesOf "preview " ++ numberItem (p .number) 32 ++ signed (p .excess) 32 ++ numberItem (p .remainder) 32 ++ numberItem (cond (p .closed) 1 0) 10
 
+-- a point of the supply curve (document 02, 9): its price, and total supply before and after it
+unfoldable pub pointLine : ℕ → ℕ → ℕ → List ℕ
+pointLine price before after = bytesOf "curve " ++ numberItem price 32 ++ numberItem before 32 ++ numberItem after 10
+
 -- before a reply, by its kind: that line where it is a closing's, accepted or refused
 unfoldable pub linesBefore : ℕ → PreviewShown → List ℕ
 linesBefore kind p = cond (eqb kind 5) (previewLine p) []

@@ -4,7 +4,7 @@ ghost use mathlib.Core.Path.{_≡_};
 ghost use Prim.Native.Nat.{_+_, _≤_};
 ghost use lib.ListN.{length};
 ghost use Rattle.numbers.specs.Tails.{laid};
-ghost use Rattle.trace_text.specs.Words.{closedLines, previewLine, linesBefore, traceOf};
+ghost use Rattle.trace_text.specs.Words.{closedLines, previewLine, pointLine, linesBefore, traceOf};
 ghost use Rattle.reply_sizes.specs.Texts.{textOf};
 ghost use Rattle.decimal_text.specs.Puts.{Puts};
 use reply_sizes::Reply;
@@ -37,6 +37,17 @@ fn put_preview(out: &mut [u8], at: usize, p: PreviewShown) -> usize
     let excess = decimal_text::put_signed(out, number, p.excess, 32);
     let remainder = decimal_text::put_number(out, excess, p.remainder as u64, 32);
     decimal_text::put_number(out, remainder, reply_values::mark(p.closed), 10)
+}
+
+// A point of the supply curve (document 02, 9), at the start of a buffer.
+pub fn put_point(out: &mut [u8], price: u32, before: u64, after: u64) -> usize
+    requires { ⌜ 100 ≤ length (now out) ⌝ }
+    ensures { λ r. ⌜ Puts (pointLine price before after) 100 (now (out .entry)) (now (out .exit)) 0 r ⌝ }
+{
+    let named = decimal_text::put_name(out, 0, b"curve ");
+    let priced = decimal_text::put_number(out, named, price as u64, 32);
+    let supplied = decimal_text::put_number(out, priced, before, 32);
+    decimal_text::put_number(out, supplied, after, 10)
 }
 
 // What stands before a reply of this kind, at the start of a buffer.

@@ -20,6 +20,10 @@ inside c =
     let loop = c .before .before in
     rw (c .next-line .ensures) (line-inside (loop .before .before .before .args .bytes .now) (loop .loop .at) (c .before .loop-test .taken))
 
+-- the way back from the end of a turn to its line
+abbrev turned : tie.After-show-curve Inv-loop μ-loop → tie.After-next-line Inv-loop μ-loop
+turned c = c .before .before .before .before .before .before .before
+
 new-requires : tie.Need-new-requires Inv-loop μ-loop
 new-requires c κs = tt
 
@@ -38,17 +42,23 @@ step-requires c κs = tt
 show-requires : tie.Need-show-requires Inv-loop μ-loop
 show-requires c κs = tt
 
+points-shown-requires : tie.Need-points-shown-requires Inv-loop μ-loop
+points-shown-requires c κs = tt
+
+show-curve-requires : tie.Need-show-curve-requires Inv-loop μ-loop
+show-curve-requires c κs = tt
+
 add-at : tie.Need-add-at Inv-loop μ-loop
-add-at c = omega (arith, inside (c .before .before .before .before))
+add-at c = omega (arith, inside (turned c))
 
 add-at-2 : tie.Need-add-at-2 Inv-loop μ-loop
-add-at-2 c = omega (arith, inside (c .before .before .before .before))
+add-at-2 c = omega (arith, inside (turned c))
 
 loop-less : tie.Need-loop-less Inv-loop μ-loop
-loop-less c = omega (arith, c .before .before .before .before .before .loop-test .taken)
+loop-less c = omega (arith, turned c .before .loop-test .taken)
 
 loop-again : tie.Need-loop-again Inv-loop μ-loop
-loop-again c = omega (arith, inside (c .before .before .before .before))
+loop-again c = omega (arith, inside (turned c))
 
 returns : tie.Need-returns Inv-loop μ-loop
 returns c = tt
@@ -65,6 +75,8 @@ trace-spec =
     look-requires
     step-requires
     show-requires
+    points-shown-requires
+    show-curve-requires
     add-at
     add-at-2
     loop-less
