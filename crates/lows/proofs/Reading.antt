@@ -10,7 +10,7 @@ use Rattle.rules.specs.Ledger.{Developer, Ledger}
 use Rattle.rules.specs.Clearing.{highest, quantityAfter, low, ofEach}
 use Rattle.sound.specs.Sound.{Sound}
 use Rattle.reachable.specs.Checks.{levels-facts}
-use Rattle.reachable.specs.Bounds.{withdrawals-few}
+use Rattle.reachable.specs.Bounds.{history-few}
 use Rattle.levels.specs.Held.{heldLevels, Highest}
 use Rattle.levels.specs.declared.Levels.{Levels}
 use Rattle.history.specs.Held.{LevelAt}
@@ -23,11 +23,6 @@ use Rattle.lows.specs.Lows.{Highests, Lows}
 
 pub levels-few : (l : Ledger) → Sound l → (n : ℕ) → length (l .developers n .declared .levels) ≤ 8
 levels-few l s n = ⊎-elim (λ e. subst (λ (x : Developer). length (x .declared .levels) ≤ 8) (sym e) (omega arith)) (λ r. levels-facts _ (r .developer .declared .levels) .few) (s .each n)
-
-pub history-few : (l : Ledger) → Sound l → (n : ℕ) → length (l .developers n .withdrawals) ≤ 8
-history-few l s n = ⊎-elim
-    (λ e. subst (λ (x : Developer). length (x .withdrawals) ≤ 8) (sym e) (omega arith))
-    (λ r. withdrawals-few (r .developer)) (s .each n)
 
 -- ---- the loops
 

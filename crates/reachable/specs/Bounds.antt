@@ -30,6 +30,12 @@ falls-few {x = x} d ws e =
 pub withdrawals-few : {c a : ℕ} {x : Developer} → SoundDeveloper c a x → length (x .withdrawals) ≤ 8
 withdrawals-few {x = x} d = falls-few d (x .withdrawals) (d .falls)
 
+-- of every number of a sound ledger
+pub history-few : (l : Ledger) → Sound l → (n : ℕ) → length (l .developers n .withdrawals) ≤ 8
+history-few l s n = ⊎-elim
+    (λ e. subst (λ (x : Developer). length (x .withdrawals) ≤ 8) (sym e) (omega arith))
+    (λ r. withdrawals-few (r .developer)) (s .each n)
+
 -- steps that fall from the quantity stand behind the withdrawals, and both are eight at most
 behind-few :
     {c a : ℕ} {x : Developer} (ss : List Step) → SoundDeveloper c a x → lowering (x .declared .levels) (x .quantity) (levelsOf ss) ≡ true →

@@ -23,7 +23,7 @@ use Rattle.clearing.specs.Course.{courses}
 use Rattle.clearing.specs.HighLow.{low-le-highest}
 use Rattle.clearing.specs.Supply.{greatest-of-bound}
 use Rattle.clearing.specs.ClosingPrice.{settings-facts}
-use Rattle.reachable.specs.Bounds.{withdrawals-few, descends-each}
+use Rattle.reachable.specs.Bounds.{history-few, descends-each}
 use Rattle.reachable.specs.Closing.{added-descends}
 use Rattle.reachable.specs.Supplies.{supply-same}
 use Rattle.supply_curve.specs.Curve.{withdrawalPrices, Point, pointAt, supplyCurve}
@@ -66,7 +66,7 @@ prices-few b l h = omega (
 
 -- at most 256 points (document 02, 9)
 pub curve-few : (l : Ledger) → Sound l → length (supplyCurve l) ≤ 256
-curve-few l s = prices-few 8 l (λ n. ⊎-elim (λ e. rw e zero-le) (λ r. withdrawals-few (r .developer)) (s .each n))
+curve-few l s = prices-few 8 l (history-few l s)
 
 -- empty while nothing is withdrawn
 pub curve-empty : (l : Ledger) → ((n : ℕ) → l .developers n .withdrawals ≡ []) → supplyCurve l ≡ []
