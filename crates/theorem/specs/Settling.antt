@@ -20,6 +20,8 @@ use Rattle.settling.proofs.settle.Reads as settle
 use Rattle.settling.proofs.settle.Statement as settle-states
 use Rattle.settling.proofs.settle.Met as settle-met
 use Rattle.theorem.specs.EveryList.{Run, reached, EveryList, every-list}
+use Rattle.theorem.specs.Previewed.{PreviewStated, preview-stated}
+use Rattle.theorem.specs.SupplyCurves.{CurveStated, curve-stated}
 use Rattle.theorem.specs.Stated.{Stated}
 use Rattle.theorem.specs.Determined.{determined, by-accepted}
 use Rattle.theorem.specs.StatedLaws.{stated}
@@ -45,6 +47,11 @@ pub record Settling (M : Type 1) : Type 2 where
       Run cs rs (x .0) → settle.Post κs x r y → Run cs′ rs′ (x′ .0) → settle.Post κs′ x′ r′ y′ →
       (r ≡ r′) × (now (y .1 .1 .0) ≡ now (y′ .1 .1 .0))
 
+  -- LOOKING BEFORE CLOSING (document 02, 6) and SUPPLY CURVE BESIDE THE BOOK (document 02, 9): what a preview and a reading of the auction that the
+  -- list reaches say is the ledger's
+  pub preview : PreviewStated
+  pub curve : CurveStated
+
 module _ {cs : List Call} {rs : List Answered} (κs : Lfts 1) (x : ArgsD signature κs) (r : Settled) (y : AtExit (endedOf 1 kinds.ps kinds.r) κs) where
   as-stated : Run cs rs (x .0) → settle.Post κs x r y → Stated (ledger cs) (x .1 .0) (now (x .1 .1 .0)) (now (y .1 .1 .0)) r
   as-stated w s = stated cs (x .0) (x .1 .0) (now (x .1 .1 .0)) (now (y .1 .1 .0)) r (reached w .0) s
@@ -57,4 +64,6 @@ settling = record {
   determines = determined;
   by-accepted-calls = λ {cs} {cs′} κs κs′ x x′ r r′ y y′ e f g w s w′ s′.
       by-accepted cs cs′ _ _ _ _ _ _ r r′ e f g (as-stated κs x r y w s) (as-stated κs′ x′ r′ y′ w′ s′);
+  preview = preview-stated;
+  curve = curve-stated;
 }
