@@ -6,18 +6,18 @@ use mathlib.Core.List.{List, [], _∷_, _++_, map, List·Memᴰ, List·Memᴰ·h
 use native.Mathlib.Omega.{arith}
 use native.Mathlib.Nat.{mul-add-div-right, mul-add-mod-self-right, mod-eq-of-lt, div-eq-of-lt}
 use native.Mathlib.Numerals.{add-one}
-use lib.Dec.{eqb}
-use lib.ListN.{length, getD, set, length-append, length-map}
-use lib.Seq.{getD-append-add}
-use borrow.Author.Tests.{eq-eqb, ne-eqb}
+use lib.Dec.{eqb, ltb}
+use lib.ListN.{length, getD, set, drop, length-append, length-map, drop-of-length-le}
+use lib.Seq.{getD-append-add, drop-cons}
+use borrow.Author.Tests.{eq-eqb, ne-eqb, lt-ltb, le-ltb}
 use Rattle.numbers.specs.Lists.{padded}
 use Rattle.numbers.specs.ListLaws.{Each}
 use Rattle.numbers.specs.Padded.{padded-more, padded-less, padded-nth}
-use Rattle.supply_curve.specs.Curve.{Point, noPoint}
+use Rattle.supply_curve.specs.Curve.{Point, noPoint, suppliedAt}
 use Rattle.supply_curve.specs.CurveLaws.{Joined}
 use Rattle.supply_curve.specs.Closings.{trimmed}
 use Rattle.kept_curve.specs.declared.Curve.{Curve}
-use Rattle.kept_curve.specs.Held.{wordOf, heldCurve, Fits, Trimmed, WithPoint, supplyBefore, PointAt}
+use Rattle.kept_curve.specs.Held.{wordOf, heldCurve, Fits, Trimmed, WithPoint, supplyBefore, PointAt, SuppliedAt}
 
 abbrev unit : ℕ
 unit = 1099511627776
@@ -140,6 +140,15 @@ module _ (c : Curve) (p a : ℕ) where
 
 -- ---- a point read
 
+nth-in : (xs : List Point) (k : ℕ) → k < length xs → List·Memᴰ (getD xs k noPoint) xs
+nth-in [] k h = absurd (omega arith)
+nth-in (x ∷ xs) zero h = List·Memᴰ·head refl
+nth-in (x ∷ xs) (suc k) h = List·Memᴰ·tail (nth-in xs k (omega arith))
+
+word-at : (c : Curve) (xs : List Point) (i : ℕ) → c ≡ heldCurve xs → i < length xs → getD (c .words) i 0 ≡ wordOf (getD xs i noPoint)
+unfolding heldCurve
+word-at c xs i e k = ap (λ (d : Curve). getD (d .words) i 0) e ∙ padded-nth 256 wordOf xs i noPoint refl k
+
 -- the supply before the point at place i, of points joined from s on
 joined-before : (s : ℕ) (xs : List Point) (i : ℕ) → Joined s xs → Each Fits xs → i < length xs → getD xs i noPoint .before ≡ supplyBefore (padded 256 (map wordOf xs)) s i
 unfolding Joined supplyBefore
@@ -172,18 +181,13 @@ module _ (c : Curve) (s i : ℕ) where
         let k : i < length xs = omega (arith, ap (λ (d : Curve). d .count) e) in
         let x = getD xs i noPoint in
         let fits : Fits x = f x (nth-in xs i k) in
-        let w : getD (c .words) i 0 ≡ wordOf x = ap (λ (d : Curve). getD (d .words) i 0) e ∙ padded-nth 256 wordOf xs i noPoint refl k in
+        let w : getD (c .words) i 0 ≡ wordOf x = word-at c xs i e k in
         let p : getD (c .words) i 0 / unit % 4294967296 ≡ x .price =
         ap (λ (v : ℕ). v / unit % 4294967296) w ∙ ap (λ (v : ℕ). v % 4294967296) (price-back x fits) ∙ mod-eq-of-lt (let z = fits .price-high in omega arith) in
         let a : getD (c .words) i 0 % unit ≡ x .after = ap (λ (v : ℕ). v % unit) w ∙ after-back x fits in
         let q : b ≡ x .before = g ∙ ap (λ (d : Curve). supplyBefore (d .words) s i) e ∙ sym (joined-before s xs i j f k) in
         λ t. record { price = p t; before = q t; after = a t };
   }
-    where
-      nth-in : (xs : List Point) (k : ℕ) → k < length xs → List·Memᴰ (getD xs k noPoint) xs
-      nth-in [] k h = absurd (omega arith)
-      nth-in (x ∷ xs) zero h = List·Memᴰ·head refl
-      nth-in (x ∷ xs) (suc k) h = List·Memᴰ·tail (nth-in xs k (omega arith))
 
 pub before-first : (words : List ℕ) (s i : ℕ) → i < 1 → s ≡ supplyBefore words s i
 unfolding supplyBefore
@@ -194,3 +198,52 @@ pub before-later : (words : List ℕ) (s i : ℕ) → 1 ≤ i → getD words (i 
 unfolding supplyBefore
 before-later words s zero h = absurd (omega arith)
 before-later words s (suc i) h = ap (λ (j : ℕ). getD words j 0 % unit) (omega arith)
+
+-- ---- the supply at a price
+
+module _ (c : Curve) (s p : ℕ) where
+  -- the points before place i are above p: the look-up goes on with those that are left
+  pub record Looking (left i : ℕ) : Type 0 where
+    pub within : i ≤ 256
+    pub rest : (xs : List Point) → c ≡ heldCurve xs → length xs ≤ 256 → Each Fits xs → suppliedAt left (drop i xs) p ≡ suppliedAt s xs p
+
+  pub looking-first : Looking s 0
+  looking-first = record { within = omega arith; rest = λ xs e l f. refl }
+
+  pub looking-past : (left i : ℕ) → Looking left i → ((xs : List Point) → c ≡ heldCurve xs → length xs ≤ 256 → length xs ≤ i) → SuppliedAt c s p left
+  unfolding suppliedAt
+  looking-past left i t h = record { right = λ xs e l f. ap (λ (ys : List Point). suppliedAt left ys p) (sym (drop-of-length-le xs (h xs e l))) ∙ t .rest xs e l f }
+
+  pub looking-end : (left i : ℕ) → Looking left i → c .count ≤ i → SuppliedAt c s p left
+  unfolding heldCurve
+  looking-end left i t h = looking-past left i t (λ xs e l. omega (arith, ap (λ (d : Curve). d .count) e))
+
+  pub looking-all : (left i : ℕ) → Looking left i → 256 ≤ i → SuppliedAt c s p left
+  looking-all left i t h = looking-past left i t (λ xs e l. omega arith)
+
+  module _ (left i : ℕ) (t : Looking left i) (inside : i < c .count) where
+    -- the look-up at place i: the price of its word is that of the point
+    at-place : (xs : List Point) → c ≡ heldCurve xs → length xs ≤ 256 → Each Fits xs → let w = getD (c .words) i 0 in suppliedAt s xs p ≡ cond (ltb p (w / unit)) (suppliedAt (w % unit) (drop (i + 1) xs) p) left
+    unfolding heldCurve suppliedAt
+    at-place xs e l f =
+        let k : i < length xs = omega (arith, ap (λ (d : Curve). d .count) e) in
+        let x = getD xs i noPoint in
+        let fits : Fits x = f x (nth-in xs i k) in
+        let w = word-at c xs i e k in
+        let price : getD (c .words) i 0 / unit ≡ x .price = ap (λ (v : ℕ). v / unit) w ∙ price-back x fits in
+        let after : getD (c .words) i 0 % unit ≡ x .after = ap (λ (v : ℕ). v % unit) w ∙ after-back x fits in
+        let d : drop i xs ≡ x ∷ drop (i + 1) xs = rw add-one (drop-cons xs i noPoint k) in
+        sym (t .rest xs e l f) ∙ ap (λ (ys : List Point). suppliedAt left ys p) d
+        ∙ sym (ap₂ (λ (q a : ℕ). cond (ltb p q) (suppliedAt a (drop (i + 1) xs) p) left) price after)
+
+    pub looking-stop : getD (c .words) i 0 / unit ≤ p → SuppliedAt c s p left
+    looking-stop h = record {
+      right = λ xs e l f.
+          sym (at-place xs e l f ∙ ap (λ (b : Bool). cond b (suppliedAt (getD (c .words) i 0 % unit) (drop (i + 1) xs) p) left) (le-ltb p (getD (c .words) i 0 / unit) h));
+    }
+
+    pub looking-next : i < 256 → p < getD (c .words) i 0 / unit → Looking (getD (c .words) i 0 % unit) (i + 1)
+    looking-next m h = record {
+      within = omega arith;
+      rest = λ xs e l f. sym (at-place xs e l f ∙ ap (λ (b : Bool). cond b (suppliedAt (getD (c .words) i 0 % unit) (drop (i + 1) xs) p) left) (lt-ltb p (getD (c .words) i 0 / unit) h));
+    }

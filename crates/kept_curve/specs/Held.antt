@@ -5,7 +5,7 @@ use mathlib.Core.List.{List, [], _∷_, _++_, map}
 use lib.ListN.{length, getD}
 use Rattle.numbers.specs.Lists.{padded}
 use Rattle.numbers.specs.ListLaws.{Each}
-use Rattle.supply_curve.specs.Curve.{Point, noPoint}
+use Rattle.supply_curve.specs.Curve.{Point, noPoint, suppliedAt}
 use Rattle.supply_curve.specs.CurveLaws.{Joined}
 use Rattle.supply_curve.specs.Closings.{trimmed}
 use Rattle.kept_curve.specs.declared.Curve.{Curve}
@@ -42,3 +42,7 @@ pointIn r = record { price = r .price; before = r .before; after = r .after }
 -- the point at a place, zero past the end
 pub record PointAt (c : Curve) (first place : ℕ) (r : CurvePoint) : Type 0 where
   pub right : (xs : List Point) → c ≡ heldCurve xs → length xs ≤ 256 → Each Fits xs → Joined first xs → pointIn r ≡ getD xs place noPoint
+
+-- the supply at a price, looked up
+pub record SuppliedAt (c : Curve) (first p r : ℕ) : Type 0 where
+  pub right : (xs : List Point) → c ≡ heldCurve xs → length xs ≤ 256 → Each Fits xs → r ≡ suppliedAt first xs p

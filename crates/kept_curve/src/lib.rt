@@ -3,7 +3,7 @@
 ghost use mathlib.Core.Path.{_≡_};
 ghost use mathlib.Core.List.{[]};
 ghost use Prim.Native.Nat.{_<_};
-ghost use Rattle.kept_curve.specs.Held.{heldCurve, Trimmed, WithPoint, supplyBefore, PointAt};
+ghost use Rattle.kept_curve.specs.Held.{heldCurve, Trimmed, WithPoint, supplyBefore, PointAt, SuppliedAt};
 
 // The first `count` words are points: the price times 2^40, and the supply after it. Zeros stand behind them.
 pub struct Curve {
@@ -107,5 +107,23 @@ impl Curve {
             before: before,
             after: word % Curve::PRICE,
         }
+    }
+
+    // The supply at p, looked up: what is left after the lowest point above p; `first` is the supply before the first one.
+    pub fn supplied_at(self, first: u64, p: u32) -> u64
+        ensures { λ r. ⌜ SuppliedAt self first p r ⌝ }
+    {
+        let mut left = first;
+        for i in 0..256 {
+            if self.count <= i {
+                return left;
+            }
+            let word = self.words[i];
+            if word / Curve::PRICE <= p as u64 {
+                return left;
+            }
+            left = word % Curve::PRICE;
+        }
+        left
     }
 }

@@ -1,23 +1,27 @@
 -- The projects that remain, place by place, and the price and the mark that follow from them.
-use Prim.Native.Nat.{ℕ, suc, _+_, _≤_, _<_}
+use Prim.Native.Nat.{ℕ, zero, suc, _+_, _≤_, _<_}
 use mathlib.Core.Path.{_≡_, refl, sym, ap, ap₂, _∙_, subst}
+use mathlib.Core.Logic.{⊎-elim}
 use mathlib.Core.Bool.{Bool, true, false, cond, not, _&&_}
 use mathlib.Core.List.{List, [], _∷_}
 use native.Mathlib.Omega.{arith}
 use native.Mathlib.Nat.{le-refl}
 use lib.Dec.{eqb, eqb·suc-zero}
 use lib.ListN.{length, getD, set}
+use Rattle.numbers.specs.Cases.{not-true, le-or-lt, clash}
+use Rattle.numbers.specs.ListLaws.{any-true}
 use Rattle.rules.specs.Ledger.{Step, Developer, Ledger, nobody}
-use Rattle.rules.specs.Clearing.{highest, ofEach, covered, closingPrice}
-use Rattle.rules.specs.Second.{noSteps, lodgedApplied, remaining, short, secondPrice}
+use Rattle.rules.specs.Clearing.{highest, developersOf, ofEach, covered, closingPrice}
+use Rattle.rules.specs.Projects.{in-developers-of}
+use Rattle.rules.specs.Second.{noSteps, lodgedApplied, takenOut, remaining, short, secondPrice}
 use Rattle.sound.specs.Sound.{Sound, started}
-use Rattle.clearing.specs.Second.{remaining-part, second-price, remaining-is}
+use Rattle.clearing.specs.Second.{remaining-part, second-price, second-is-first, remaining-is}
 use Rattle.history.specs.declared.History.{History}
 use Rattle.auction.specs.Holds.{heldCourse, auctionOf}
 use Rattle.courses.specs.Places.{Filling, filling-next, filling-all, numbered-at, numbered-length}
 use Rattle.auction.specs.declared.Auction.{Auction}
 use Rattle.price.specs.Prices.{HoldsPart, CoveredAt, ClosingPrice}
-use Rattle.second_price.specs.Taken.{leftOf, Remain, SecondPrice}
+use Rattle.second_price.specs.Taken.{takenBy, NoneTaken, leftOf, Remain, SecondPrice}
 use Rattle.second_price.specs.declared.Second.{Second}
 
 -- ---- one developer
@@ -26,19 +30,63 @@ no-steps : (ws : List Step) → noSteps ws ≡ eqb (length ws) 0
 no-steps [] = refl
 no-steps (w ∷ ws) = sym (eqb·suc-zero (length ws))
 
+taken-by : (x : Developer) → takenBy (x .declared .kind) (length (x .withdrawals)) ≡ lodgedApplied x
+unfolding takenBy lodgedApplied
+taken-by x = ap (λ (b : Bool). eqb (x .declared .kind) 1 && not b) (sym (no-steps (x .withdrawals)))
+
 left-is : (l : Ledger) → Sound l → (n : ℕ) → let x = l .developers n in leftOf (x .declared .project) (x .declared .kind) (length (x .withdrawals)) ≡ remaining l .developers n .declared .project
-unfolding leftOf lodgedApplied
+unfolding leftOf
 left-is l s n =
     let x = l .developers n in
-    ap (λ (b : Bool). cond (eqb (x .declared .kind) 1 && not b) 0 (x .declared .project)) (sym (no-steps (x .withdrawals)))
-    ∙ by-test (eqb (x .declared .kind) 1 && not (noSteps (x .withdrawals)))
+    ap (λ (b : Bool). cond b 0 (x .declared .project)) (taken-by x)
+    ∙ by-test (lodgedApplied x)
     ∙ ap (λ (y : Developer). y .declared .project) (sym (remaining-is l s n))
   where
     by-test : (b : Bool) → cond b 0 (l .developers n .declared .project) ≡ cond b nobody (l .developers n) .declared .project
     by-test true = refl
     by-test false = refl
 
--- ---- the loop
+-- ---- nobody is taken out
+
+module _ (kinds : List ℕ) (histories : List History) where
+  -- no developer before place i is taken out
+  pub record NoneTurn (i : ℕ) : Type 0 where
+    pub within : i ≤ 32
+    pub part :
+        (l : Ledger) → kinds ≡ ofEach (λ x. x .declared .kind) l → histories ≡ ofEach heldCourse l →
+        (j : ℕ) → j < i → lodgedApplied (l .developers (suc j)) ≡ false
+
+  pub none-first : NoneTurn 0
+  none-first = record { within = omega arith; part = λ l k h j w. absurd (omega arith) }
+
+  pub none-next : (i : ℕ) (d : History) → NoneTurn i → i < 32 → takenBy (getD kinds i 0) (getD histories i d .count) ≡ false → NoneTurn (i + 1)
+  none-next i d t w e = record {
+    within = omega arith;
+    part = λ l k h j g.
+        let ki : getD kinds i 0 ≡ l .developers (suc i) .declared .kind = ap (λ (xs : List ℕ). getD xs i 0) k ∙ numbered-at _ i 0 w in
+        let hi : getD histories i d ≡ heldCourse (l .developers (suc i)) = ap (λ (xs : List History). getD xs i d) h ∙ numbered-at _ i d w in
+        let here : lodgedApplied (l .developers (suc i)) ≡ false =
+        sym (taken-by (l .developers (suc i))) ∙ sym (ap₂ (λ (a : ℕ) (x : History). takenBy a (x .count)) ki hi) ∙ e in
+        ⊎-elim (λ b. t .part l k h j b) (λ b. subst (λ (n : ℕ). lodgedApplied (l .developers (suc n)) ≡ false) (omega arith) here) (le-or-lt (suc j) i);
+  }
+
+  pub none-all : (i : ℕ) → NoneTurn i → 32 ≤ i → NoneTaken kinds histories true
+  unfolding takenOut
+  none-all i t w = record {
+    right = λ _ l k h n. not-true _ (λ a.
+        let r = any-true (λ m. lodgedApplied (l .developers m)) (developersOf l n) .0 a in
+        let b = in-developers-of l n (r .0) .0 (r .1) in
+        clash (r .2) (before l k h (r .0) (b .0) (omega (arith, b .1))));
+  }
+    where
+      before : (l : Ledger) → kinds ≡ ofEach (λ x. x .declared .kind) l → histories ≡ ofEach heldCourse l → (m : ℕ) → 1 ≤ m → m ≤ i → lodgedApplied (l .developers m) ≡ false
+      before l k h zero low high = absurd (omega arith)
+      before l k h (suc j) low high = t .part l k h j (omega arith)
+
+  pub some-taken : NoneTaken kinds histories false
+  some-taken = record { right = λ e. absurd (clash e refl) }
+
+-- ---- the projects that remain
 
 -- the project of number n that remains
 abbrev projectLeft : Ledger → ℕ → ℕ
@@ -77,18 +125,28 @@ remain-all projects kinds histories out i t w =
 
 -- ---- the price and the mark
 
-module _ (a : Auction) (firsts out : List ℕ) (p : ℕ) (c : Bool) where
-  pub second : Remain (a .projects) (a .kinds) (a .histories) out → CoveredAt a out firsts (a .settings .a) c → ClosingPrice a out firsts p → SecondPrice a firsts (record { price = p; short = not c })
+module _ (a : Auction) (firsts : List ℕ) (p : ℕ) where
+  -- nobody is taken out: the first price, not short
+  pub second-first : (b : Bool) → b ≡ true → NoneTaken (a .kinds) (a .histories) b → SecondPrice a firsts p (record { price = p; short = false })
+  unfolding auctionOf
+  second-first b e n = record {
+    right = λ l s g h f q.
+        let k = second-is-first l s g (n .right e l (ap (λ (x : Auction). x .kinds) h) (ap (λ (x : Auction). x .histories) h)) in
+        (q ∙ sym (k .0), sym (k .1));
+  }
+
+  pub second : (out : List ℕ) (r : ℕ) (c : Bool) → Remain (a .projects) (a .kinds) (a .histories) out → CoveredAt a out firsts false 0 (a .settings .a) c → ClosingPrice a out firsts false 0 r → SecondPrice a firsts p (record { price = r; short = not c })
   unfolding short auctionOf
-  second r k q = record {
-    right = λ l s b h f.
-        let holds : HoldsPart a out firsts l (remaining l) = record {
+  second out r c m k q = record {
+    right = λ l s b h f _.
+        let holds : HoldsPart a out firsts false 0 l (remaining l) = record {
           sound = s;
           began = b;
           held = h;
           firsts-are = f;
           part = remaining-part l;
-          projects-are = r .right l s (ap (λ (x : Auction). x .projects) h) (ap (λ (x : Auction). x .kinds) h) (ap (λ (x : Auction). x .histories) h);
+          projects-are = m .right l s (ap (λ (x : Auction). x .projects) h) (ap (λ (x : Auction). x .kinds) h) (ap (λ (x : Auction). x .histories) h);
+          where-whole = λ e. absurd (clash e refl);
         } in
         let top : a .settings .a ≡ l .settings .a = ap (λ (x : Auction). x .settings .a) h in
         let g = s .prices b in (

@@ -1,6 +1,6 @@
 // The price for new plants (document 02, 5): the closing price when the projects with an applied lodged step are taken out.
 ghost use mathlib.Core.Path.{_≡_};
-ghost use Rattle.second_price.specs.Taken.{leftOf, Remain, SecondPrice};
+ghost use Rattle.second_price.specs.Taken.{takenBy, NoneTaken, leftOf, Remain, SecondPrice};
 use auction::Auction;
 use history::History;
 
@@ -10,17 +10,36 @@ pub struct Second {
     pub short: bool,
 }
 
-// A developer's project, 0 where it is taken out: an existing plant makes no offers, so its withdrawals are applied lodged steps.
+// Whether a developer is taken out: an existing plant makes no offers, so its withdrawals are applied lodged steps.
+fn is_taken_out(kind: u8, withdrawals: usize) -> bool
+    ensures { λ r. ⌜ r ≡ takenBy kind withdrawals ⌝ }
+{
+    if kind != Auction::EXISTING_PLANT {
+        return false;
+    }
+    withdrawals != 0
+}
+
+fn none_taken_out(kinds: [u8; 32], histories: [History; 32]) -> bool
+    ensures { λ r. ⌜ NoneTaken kinds histories r ⌝ }
+{
+    for i in 0..32 {
+        let history = histories[i];
+        if is_taken_out(kinds[i], history.count) {
+            return false;
+        }
+    }
+    true
+}
+
+// A developer's project, 0 where it is taken out.
 fn left_of(project: u8, kind: u8, withdrawals: usize) -> u8
     ensures { λ r. ⌜ r ≡ leftOf project kind withdrawals ⌝ }
 {
-    if kind != Auction::EXISTING_PLANT {
-        return project;
+    if is_taken_out(kind, withdrawals) {
+        return 0;
     }
-    if withdrawals == 0 {
-        return project;
-    }
-    0
+    project
 }
 
 // The developers' projects, 0 in the place of a developer that is taken out. An existing project has one developer.
@@ -35,18 +54,25 @@ fn remaining_projects(projects: [u8; 32], kinds: [u8; 32], histories: [History; 
     out
 }
 
-// The lowest covered price passed with these projects taken out; A, and short, where A is then not covered.
-pub fn second_price(auction: Auction, highest: [u32; 32]) -> Second
-    ensures { λ r. ⌜ SecondPrice auction highest r ⌝ }
+// The lowest covered price passed with these projects taken out; A, and short, where A is then not covered. It is the first price p where
+// nobody is taken out.
+pub fn second_price(auction: Auction, highest: [u32; 32], p: u32) -> Second
+    ensures { λ r. ⌜ SecondPrice auction highest p r ⌝ }
 {
-    let projects = auction.projects;
     let kinds = auction.kinds;
     let histories = auction.histories;
+    if none_taken_out(kinds, histories) {
+        return Second {
+            price: p,
+            short: false,
+        };
+    }
+    let projects = auction.projects;
     let remaining = remaining_projects(projects, kinds, histories);
     let a = auction.settings.a;
-    let covered = price::covered_at(auction, remaining, highest, a);
+    let covered = price::covered_at(auction, remaining, highest, false, 0, a);
     Second {
-        price: price::closing_price(auction, remaining, highest),
+        price: price::closing_price(auction, remaining, highest, false, 0),
         short: !covered,
     }
 }

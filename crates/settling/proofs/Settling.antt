@@ -1,6 +1,6 @@
 -- From what the parts of settling ensure to the ledger's settlement: each refusal in its order, and the accepted answer with its records.
 use Prim.Native.Nat.{ℕ, suc, min, _*_, _≤_, _<_}
-use mathlib.Core.Path.{_≡_, refl, sym, ap, _∙_, subst}
+use mathlib.Core.Path.{_≡_, refl, sym, ap, ap₂, _∙_, subst}
 use mathlib.Core.Bool.{Bool, true, false, cond}
 use mathlib.Core.List.{List, [], flatten}
 use native.Mathlib.Omega.{arith}
@@ -23,6 +23,8 @@ use Rattle.sound.specs.Parts.{whole}
 use Rattle.clearing.specs.ClosingPrice.{closed-started, settings-facts, passed-in-range, closing-price}
 use Rattle.reachable.specs.Reachable.{sound}
 use Rattle.awards.specs.AwardLaws.{some-cover}
+use Rattle.supply.specs.ByProject.{supplyOf}
+use Rattle.supply.specs.ByProjectLaws.{supply-of}
 use Rattle.auction.specs.Holds.{phaseNumber, auctionOf, Holding}
 use Rattle.clock.specs.Tests.{demandBy, remainderBy}
 use Rattle.clock.specs.Demands.{demand-is, remainder-is}
@@ -77,14 +79,16 @@ pub record Computed (a : Auction) (limit p demand remainder : ℕ) (lows highs :
   pub next : ℕ
   pub table : Table
   pub highests : Highests (a .declared) highest
-  pub price : ClosingPrice a (a .projects) highest p
+  pub first : ℕ
+  pub supplied : first ≡ supplyOf (a .projects) highest
+  pub price : ClosingPrice a (a .projects) highest true first p
   pub lows-at : Lows (a .histories) highest p lows
   pub above : next ≡ nextPrice p
   pub highs-at : Lows (a .histories) highest next highs
   pub tabled : Tabled (a .projects) (a .declared) lows highs table
   pub demand-at : demand ≡ demandBy (a .settings) p
   pub remainder-at : remainder ≡ remainderBy (a .settings) p
-  pub second-at : SecondPrice a highest t
+  pub second-at : SecondPrice a highest p t
   pub selects : Selects table demand (min limit 65536) s
 
 -- what that is of the ledger
@@ -130,6 +134,7 @@ known a limit p demand remainder lows highs t s c l snd h = record {
       firsts-are = firsts;
       part = whole l;
       projects-are = ap (λ (x : Auction). x .projects) h;
+      where-whole = λ _. (refl, c .supplied ∙ ap₂ supplyOf (ap (λ (x : Auction). x .projects) h) firsts ∙ supply-of Rattle.rules.specs.Clearing.highest l);
     })
 
     least-low : l .closing ≤ p
@@ -154,7 +159,7 @@ known a limit p demand remainder lows highs t s c l snd h = record {
     demand-at = c .demand-at ∙ ap (λ (x : Auction). demandBy (x .settings) p) h ∙ demand-is _ _ _ _ _ (settings-facts l snd began .bounds) in-range
 
     second-at : (t .price ≡ secondPrice l) × (t .short ≡ short l)
-    second-at = c .second-at .right l snd began h firsts
+    second-at = c .second-at .right l snd began h firsts price
 
     lays : Lays (c .table) (rows l p)
     lays = c .tabled .right l p snd (ap (λ (x : Auction). x .projects) h) (ap (λ (x : Auction). x .declared) h) lows-are highs-are

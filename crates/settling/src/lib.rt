@@ -50,13 +50,14 @@ pub fn settle(auction: Auction, limit: u32, awards: &mut [u8]) -> Settled
     let declared = auction.declared;
     let histories = auction.histories;
     let highest = lows::highest_levels(declared);
-    let p = price::closing_price(auction, projects, highest);
+    let first = supply::supply(projects, highest);
+    let p = price::closing_price(auction, projects, highest, true, first);
     let lows = lows::lows_at(histories, highest, p);
     let highs = lows::lows_at(histories, highest, lows::above(p));
     let table = open_levels::table_of(projects, declared, lows, highs);
     let demand = settings.demand_at(p);
     let remainder = settings.remainder_at(p);
-    let second = second_price::second_price(auction, highest);
+    let second = second_price::second_price(auction, highest, p);
     let capped = checks::capped_limit(limit);
     let selected = selection::select(table, demand, capped);
     if selected.number != 0 {

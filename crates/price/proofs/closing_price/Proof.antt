@@ -7,13 +7,13 @@ use Rattle.price.proofs.closing_price.Statement.{statement}
 use Rattle.price.proofs.closing_price.Tie as tie
 
 abbrev Inv-loop : tie.InvT-loop
-Inv-loop auction projects highest b₀ b = Halving auction projects highest b
+Inv-loop auction projects highest whole first b₀ b = Halving auction projects highest whole first b
 
 abbrev μ-loop : tie.MeasureT-loop
-μ-loop auction projects highest b₀ b = b .hi - b .lo
+μ-loop auction projects highest whole first b₀ b = b .hi - b .lo
 
 loop-holds : tie.Need-loop-holds Inv-loop μ-loop
-loop-holds c = halving-first _ _ _
+loop-holds c = halving-first _ _ _ _ _
 
 sub-mid : tie.Need-sub-mid Inv-loop μ-loop
 sub-mid c = omega arith
@@ -35,10 +35,10 @@ loop-less c =
 loop-again : tie.Need-loop-again Inv-loop μ-loop
 loop-again c =
     let b = c .before .before .before .before .before .before .loop .b in
-    rw (c .halved .ensures) (halving-next _ _ _ b (b .lo + (b .hi - b .lo) / 2) _ (c .before .before .before .before .before .before .loop .inv) (omega arith) (omega arith) (c .before .covered-at .ensures))
+    rw (c .halved .ensures) (halving-next _ _ _ _ _ b (b .lo + (b .hi - b .lo) / 2) _ (c .before .before .before .before .before .before .loop .inv) (omega arith) (omega arith) (c .before .covered-at .ensures))
 
 returns : tie.Need-returns Inv-loop μ-loop
-returns c = halving-end _ _ _ _ (c .before .before .loop .inv) (c .if1 .left)
+returns c = halving-end _ _ _ _ _ _ (c .before .before .loop .inv) (c .if1 .left)
 
 pub closing-price-spec : {M : Type 1} → statement M
 closing-price-spec =

@@ -14,18 +14,20 @@ priced c = highs c .before .before .before
 
 computed :
     (c : tie.After-select) →
-    let s = priced c .before .before .before .before .before .before .before .before .before .args in
+    let s = priced c .before .before .before .before .before .before .before .before .before .before .args in
     Computed (s .auction) (s .limit) (priced c .closing-price .result) (c .before .before .before .before .demand-at .result) (c .before .before .before .remainder-at .result) (highs c .before .before .lows-at .result) (highs c .lows-at2 .result)
     (c .before .before .second-price .result) (c .select .result)
 computed c =
     let h = highs c in
     let p = priced c in
     record {
-      phase = p .before .before .before .before .before .before .if1 .left;
-      highest = p .before .highest-levels .result;
+      phase = p .before .before .before .before .before .before .before .if1 .left;
+      highest = p .before .before .highest-levels .result;
+      first = p .before .supply .result;
       next = h .before .above .result;
       table = c .before .before .before .before .before .table-of .result;
-      highests = p .before .highest-levels .ensures;
+      highests = p .before .before .highest-levels .ensures;
+      supplied = p .before .supply .ensures .0;
       price = p .closing-price .ensures;
       lows-at = h .before .before .lows-at .ensures;
       above = h .before .above .ensures;
@@ -45,6 +47,9 @@ returns c = rw (c .refused .ensures) (settle-phase _ _ _ (c .before .if1 .taken)
 
 highest-levels-requires : tie.Need-highest-levels-requires
 highest-levels-requires c κs = search needs
+
+supply-requires : tie.Need-supply-requires
+supply-requires c κs = search needs
 
 closing-price-requires : tie.Need-closing-price-requires
 closing-price-requires c κs = search needs
@@ -119,6 +124,7 @@ settle-spec =
     refused-requires
     returns
     highest-levels-requires
+    supply-requires
     closing-price-requires
     lows-at-requires
     above-requires
