@@ -1,71 +1,66 @@
--- Taking back an offer (document 02, 7): each check in its order, and the withdrawals held alone.
-use Prim.Native.Nat.{ℕ, _-_, _≤_, _<_}
+-- Taking back an offer (document 02, 7): its number by what the auction holds, and the withdrawals held alone.
+use Prim.Native.Nat.{ℕ, _-_, _≤_}
 use mathlib.Core.Path.{_≡_, refl, sym, ap, _∙_}
 use mathlib.Core.Logic.{⊎-elim}
-use mathlib.Core.Bool.{true, false}
+use mathlib.Core.Bool.{Bool, not}
 use mathlib.Core.List.{[]}
 use native.Mathlib.Omega.{arith}
 use lib.Dec.{eqb}
 use lib.ListN.{length, getD}
-use borrow.Author.Tests.{eq-eqb, ne-eqb}
 use Rattle.rules.specs.Ledger.{none, Developer, Cancel, By, Ledger}
-use Rattle.rules.specs.Refusals.{isOfKind, isNone, moveNumber, number}
+use Rattle.rules.specs.Refusals.{check, moveNumber, number}
 use Rattle.rules.specs.CheckLaws.{of-kind-facts}
 use Rattle.rules.specs.Rounds.{moved, numberAlone}
 use Rattle.sound.specs.Sound.{Sound}
 use Rattle.reachable.specs.Bounds.{withdrawals-few}
+use Rattle.reachable.specs.Checks.{cancel-passed}
 use Rattle.history.specs.Held.{heldHistory, Cancelled}
-use Rattle.history.specs.HeldLaws.{is-none-by-number}
 use Rattle.history.specs.declared.History.{History}
+use Rattle.moves.specs.Numbers.{noHistory, cancelNumberBy}
+use Rattle.moves.specs.NumbersLaws.{first-checks, developer-passed}
 use Rattle.auction.specs.declared.Auction.{Auction}
 use Rattle.auction.specs.Holds.{heldCourse, auctionOf}
 use Rattle.auction.specs.Called.{Called}
 use Rattle.auction.specs.Parts.{withHistory}
-use Rattle.auction.proofs.Calls.{Refused, refused}
-use Rattle.auction.proofs.Phases.{round-is, in-round}
-use Rattle.auction.proofs.DeveloperHeld.{history-at, offered-at, kindHeld, kind-is, none-lodged}
-use Rattle.auction.proofs.Moving.{Moves, move-taken}
+use Rattle.auction.proofs.Calls.{Refused}
+use Rattle.auction.proofs.Phases.{round-is}
+use Rattle.auction.proofs.DeveloperHeld.{history-at, none-is, kind-is, none-lodged}
+use Rattle.auction.proofs.Moving.{Moves, move-refused, move-taken}
 
 module _ (n : ℕ) (a : Auction) where
-  pub cancel-phase : (a .phase ≡ 2 → ⊥) → Refused (By n Cancel) a 2
+  -- the number by what the auction holds
+  abbrev pub numberBy : ℕ
+  numberBy = cancelNumberBy (a .phase) (a .kinds) n (a .histories)
+
+  number-held : (l : Ledger) → Sound l → a ≡ auctionOf l → numberBy ≡ number l (By n Cancel)
   unfolding number moveNumber
-  cancel-phase z = refused _ a 2 (omega arith) (λ l s h. simp (round-is a l h ∙ ne-eqb _ 2 z))
+  number-held l s h = first-checks 3 (sym (round-is a l h)) (kind-is n a 2 l h) (λ w.
+      let f = of-kind-facts 2 n _ w in
+      ap (λ (b : Bool). check (not b) 16 0) (none-is n a l h (f .0) (f .1)))
 
-  pub cancel-barred : a .phase ≡ 2 → isOfKind 2 n (kindHeld n a) ≡ false → Refused (By n Cancel) a 3
-  unfolding number moveNumber
-  cancel-barred z f = refused _ a 3 (omega arith) (λ l s h. simp (in-round a z l h, kind-is n a 2 l h ∙ f))
+  pub cancel-refused : (k : ℕ) → k ≡ numberBy → (k ≡ 0 → ⊥) → Refused (By n Cancel) a k
+  cancel-refused k = move-refused n Cancel a k numberBy number-held
 
-  module _ (z : a .phase ≡ 2) (w : isOfKind 2 n (kindHeld n a) ≡ true) (d : History) where
-    low : 1 ≤ n
-    low = of-kind-facts 2 n _ w .0
+  module _ (k : ℕ) (e : k ≡ numberBy) (z : k ≡ 0) where
+    pub cancel-bounds : (1 ≤ n) × (n ≤ 32)
+    cancel-bounds = developer-passed (eqb (a .phase) 2) 2 n (getD (a .kinds) (n - 1) 0) 2 _ (sym e ∙ z)
 
-    high : n ≤ 32
-    high = of-kind-facts 2 n _ w .1
-
-    abbrev offered : ℕ
-    offered = getD (a .histories) (n - 1) d .offered
-
-    none-is : (l : Ledger) → a ≡ auctionOf l → isNone (l .developers n .offer) ≡ eqb offered 0
-    none-is l h = is-none-by-number (l .developers n .offer) ∙ ap (λ (k : ℕ). eqb k 0) (offered-at n a l h low high d)
-
-    pub cancel-none : offered < 1 → Refused (By n Cancel) a 16
-    unfolding number moveNumber
-    cancel-none v = refused _ a 16 (omega arith) (λ l s h. simp (in-round a z l h, kind-is n a 2 l h ∙ w, none-is l h ∙ eq-eqb offered 0 (omega arith)))
-
-    module _ (v : 1 ≤ offered) (r : History) (o : Cancelled (getD (a .histories) (n - 1) d) r) where
-      passes : (l : Ledger) → a ≡ auctionOf l → number l (By n Cancel) ≡ 0
-      unfolding number moveNumber
-      passes l h = simp (in-round a z l h, kind-is n a 2 l h ∙ w, none-is l h ∙ ne-eqb offered 0 (λ e. omega arith))
+    module _ (r : History) (o : Cancelled (getD (a .histories) (n - 1) noHistory) r) where
+      passes : (l : Ledger) → Sound l → a ≡ auctionOf l → number l (By n Cancel) ≡ 0
+      passes l s h = sym (number-held l s h) ∙ sym e ∙ z
 
       few : (l : Ledger) → Sound l → length (l .developers n .withdrawals) ≤ 8
       few l s = ⊎-elim (λ e. omega (arith, ap (λ (x : Developer). length (x .withdrawals)) e)) (λ q. withdrawals-few (q .developer)) (s .each n)
 
       history-next : (l : Ledger) → Sound l → a ≡ auctionOf l → r ≡ heldHistory (l .developers n .withdrawals) none (l .developers n .lodged)
+      unfolding number
       history-next l s h =
           let x = l .developers n in
-          let e : x .lodged ≡ [] = none-lodged l n s (kind-is n a 2 l h ∙ w) in
-          o .right (x .withdrawals) (x .offer) (history-at n a l h low high d ∙ ap (heldHistory (x .withdrawals) (x .offer)) e) (few l s)
-          ∙ ap (heldHistory (x .withdrawals) none) (sym e)
+          let t : x .lodged ≡ [] = none-lodged l n s (cancel-passed l n x (passes l s h) .developer) in
+          o .right (x .withdrawals) (x .offer)
+          (history-at n a l h (cancel-bounds .0) (cancel-bounds .1) noHistory ∙ ap (heldHistory (x .withdrawals) (x .offer)) t)
+          (few l s)
+          ∙ ap (heldHistory (x .withdrawals) none) (sym t)
 
       -- the auction without the offer
       abbrev pub cancelling : Auction
@@ -73,5 +68,10 @@ module _ (n : ℕ) (a : Auction) where
 
       pub cancel-taken : Called (By n Cancel) a cancelling (numberAlone 0)
       unfolding moved
-      cancel-taken =
-          move-taken n Cancel a r low high (λ l s h. record { number = passes l h; declared = refl; quantity = refl; withdrawals = refl; history = history-next l s h })
+      cancel-taken = move-taken n Cancel a r (cancel-bounds .0) (cancel-bounds .1) (λ l s h. record {
+        number = passes l s h;
+        declared = refl;
+        quantity = refl;
+        withdrawals = refl;
+        history = history-next l s h;
+      })

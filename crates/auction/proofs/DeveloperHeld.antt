@@ -8,20 +8,21 @@ use lib.Dec.{eqb}
 use lib.ListN.{getD}
 use lib.Seq.{take-append-seam}
 use Rattle.rules.specs.Ledger.{Developer, Ledger}
-use Rattle.rules.specs.Refusals.{isNumber, isOfKind}
+use Rattle.rules.specs.Refusals.{isNumber, isNone, isOfKind}
 use Rattle.rules.specs.CheckLaws.{is-number, of-kind-facts}
 use Rattle.sound.specs.Sound.{Sound}
-use Rattle.levels.specs.Held.{heldLevels, levelsIn}
+use Rattle.levels.specs.Held.{noLevels, heldLevels, levelsIn}
 use Rattle.levels.specs.declared.Levels.{Levels}
-use Rattle.history.specs.Held.{offeredNumber}
+use Rattle.history.specs.HeldLaws.{is-none-by-number}
 use Rattle.history.specs.declared.History.{History}
+use Rattle.moves.specs.Numbers.{noHistory, stepsNumberBy}
 use Rattle.auction.specs.declared.Auction.{Auction}
 use Rattle.auction.specs.Holds.{heldCourse, auctionOf}
 use Rattle.courses.specs.Places.{each-at}
 use Rattle.auction.proofs.Calls.{where-true}
 
 -- levels that are held are all there
-pub levels-in : (ls : List ℕ) → levelsIn (heldLevels ls) ≡ ls
+levels-in : (ls : List ℕ) → levelsIn (heldLevels ls) ≡ ls
 levels-in ls = take-append-seam ls _
 
 module _ (n : ℕ) (a : Auction) where
@@ -34,7 +35,7 @@ module _ (n : ℕ) (a : Auction) where
     unfolding auctionOf
     quantity-at = ap (λ (x : Auction). getD (x .quantities) (n - 1) 0) h ∙ each-at (λ x. x .quantity) l n 0 low high
 
-    pub declared-at : (d : Levels) → getD (a .declared) (n - 1) d ≡ heldLevels (l .developers n .declared .levels)
+    declared-at : (d : Levels) → getD (a .declared) (n - 1) d ≡ heldLevels (l .developers n .declared .levels)
     unfolding auctionOf
     declared-at d = ap (λ (x : Auction). getD (x .declared) (n - 1) d) h ∙ each-at (λ x. heldLevels (x .declared .levels)) l n d low high
 
@@ -42,16 +43,19 @@ module _ (n : ℕ) (a : Auction) where
     unfolding auctionOf
     history-at d = ap (λ (x : Auction). getD (x .histories) (n - 1) d) h ∙ each-at heldCourse l n d low high
 
-    pub offered-at : (d : History) → offeredNumber (l .developers n .offer) ≡ getD (a .histories) (n - 1) d .offered
-    offered-at d = ap (λ (x : History). x .offered) (sym (history-at d))
+    -- whether an offer stands
+    pub none-is : eqb (getD (a .histories) (n - 1) noHistory .offered) 0 ≡ isNone (l .developers n .offer)
+    none-is = ap (λ (x : History). eqb (x .offered) 0) (history-at noHistory) ∙ sym (is-none-by-number (l .developers n .offer))
 
-  -- the kind that the auction holds of developer n
-  abbrev pub kindHeld : ℕ
-  kindHeld = getD (a .kinds) (n - 1) 0
+    -- the checks of steps, within these prices and from this quantity down
+    pub steps-is :
+        {c c′ o o′ q q′ : ℕ} (ps qs : List ℕ) → c ≡ c′ → o ≡ o′ → q ≡ q′ →
+        stepsNumberBy c o (levelsIn (getD (a .declared) (n - 1) noLevels)) q ps qs ≡ stepsNumberBy c′ o′ (l .developers n .declared .levels) q′ ps qs
+    steps-is ps qs ec eo eq = rw (declared-at noLevels, levels-in, ec, eo, eq)
 
-  pub kind-is : (k : ℕ) (l : Ledger) → a ≡ auctionOf l → isOfKind k n (l .developers n .declared .kind) ≡ isOfKind k n kindHeld
+  pub kind-is : (k : ℕ) (l : Ledger) → a ≡ auctionOf l → isOfKind k n (getD (a .kinds) (n - 1) 0) ≡ isOfKind k n (l .developers n .declared .kind)
   unfolding isOfKind
-  kind-is k l h = where-true (isNumber n) (λ e. let b = is-number n e in ap (λ (m : ℕ). eqb m k) (sym (kind-at l h (b .0) (b .1))))
+  kind-is k l h = where-true (isNumber n) (λ e. let b = is-number n e in ap (λ (m : ℕ). eqb m k) (kind-at l h (b .0) (b .1)))
 
 -- a new plant has nothing lodged
 pub none-lodged : (l : Ledger) (n : ℕ) → Sound l → isOfKind 2 n (l .developers n .declared .kind) ≡ true → l .developers n .lodged ≡ []

@@ -12,7 +12,7 @@ use Rattle.auction.specs.Holds.{heldCourse, auctionOf, Holding}
 use Rattle.auction.specs.Called.{Called}
 use Rattle.auction.specs.Parts.{withHistory, courses-held, curve-stays}
 use Rattle.courses.specs.Places.{put-at, put-keeps}
-use Rattle.auction.proofs.Calls.{taken}
+use Rattle.auction.proofs.Calls.{Refused, refused, taken}
 
 -- the move m of developer n is accepted, keeps its declaration, its quantity and its withdrawals, and r is its history after it
 pub record Moves (n : ℕ) (m : Move) (r : History) (l : Ledger) : Type 0 where
@@ -21,6 +21,10 @@ pub record Moves (n : ℕ) (m : Move) (r : History) (l : Ledger) : Type 0 where
   pub quantity : moved (l .developers n) m .quantity ≡ l .developers n .quantity
   pub withdrawals : moved (l .developers n) m .withdrawals ≡ l .developers n .withdrawals
   pub history : r ≡ heldCourse (moved (l .developers n) m)
+
+-- refused by k, the number m has by what the auction holds
+pub move-refused : (n : ℕ) (m : Move) (a : Auction) (k held : ℕ) → Holding a (λ l. held ≡ number l (By n m)) → k ≡ held → (k ≡ 0 → ⊥) → Refused (By n m) a k
+move-refused n m a k held f e z = refused _ a k z (λ l s h. e ∙ f l s h)
 
 pub move-taken :
     (n : ℕ) (m : Move) (a : Auction) (r : History) → 1 ≤ n → n ≤ 32 → Holding a (Moves n m r) →

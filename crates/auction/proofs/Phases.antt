@@ -1,9 +1,7 @@
 -- The phase by its number.
 use mathlib.Core.Path.{_≡_, refl, sym, ap, _∙_}
 use Prim.Native.Nat.{ℕ}
-use mathlib.Core.Bool.{true}
 use lib.Dec.{eqb}
-use borrow.Author.Tests.{eq-eqb}
 use Rattle.rules.specs.Ledger.{Phase, Fresh, Ready, Round, Between, Closed, Ledger}
 use Rattle.rules.specs.Refusals.{isFresh, isReady, mayOpen, inRound}
 use Rattle.auction.specs.declared.Auction.{Auction}
@@ -54,6 +52,3 @@ module _ (a : Auction) (l : Ledger) (h : a ≡ auctionOf l) where
 
   pub may-open-is : mayOpen (l .phase) ≡ mayOpenBy (a .phase)
   may-open-is = may-open-number (l .phase) ∙ ap mayOpenBy (sym phase-is)
-
-pub in-round : (a : Auction) → a .phase ≡ 2 → (l : Ledger) → a ≡ auctionOf l → inRound (l .phase) ≡ true
-in-round a z l h = round-is a l h ∙ eq-eqb _ 2 z

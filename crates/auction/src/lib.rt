@@ -214,25 +214,27 @@ impl Auction {
     pub fn offer(self, developer: u8, prices: &[u32], levels: &[u32]) -> Answer
         ensures { λ r. ⌜ AnswersNumber (By developer (Offer (now (prices .entry)) (now (levels .entry)))) self r ⌝ }
     {
-        if self.phase != Auction::ROUND {
-            return self.refused(2);
-        }
         let kinds = self.kinds;
-        if !step_checks::is_of_kind(kinds, developer, Auction::NEW_PLANT) {
-            return self.refused(3);
+        let histories = self.histories;
+        let declared = self.declared;
+        let quantities = self.quantities;
+        let number = moves::offer_number(
+            self.phase,
+            kinds,
+            developer,
+            histories,
+            self.closing,
+            self.opening,
+            declared,
+            quantities,
+            prices,
+            levels,
+        );
+        if number != 0 {
+            return self.refused(number);
         }
         let i = (developer - 1) as usize;
-        let history = self.histories[i];
-        if 0 < history.offered {
-            return self.refused(8);
-        }
-        if !step_checks::prices_ok(self.closing, self.opening, prices, levels) {
-            return self.refused(6);
-        }
-        let declared = self.declared[i];
-        if !declared.lowers(self.quantities[i], levels) {
-            return self.refused(7);
-        }
+        let history = histories[i];
         let mut next = self;
         next.histories[i] = history.offer(prices, levels);
         Answer {
@@ -245,18 +247,14 @@ impl Auction {
     pub fn cancel(self, developer: u8) -> Answer
         ensures { λ r. ⌜ AnswersNumber (By developer Cancel) self r ⌝ }
     {
-        if self.phase != Auction::ROUND {
-            return self.refused(2);
-        }
         let kinds = self.kinds;
-        if !step_checks::is_of_kind(kinds, developer, Auction::NEW_PLANT) {
-            return self.refused(3);
+        let histories = self.histories;
+        let number = moves::cancel_number(self.phase, kinds, developer, histories);
+        if number != 0 {
+            return self.refused(number);
         }
         let place = (developer - 1) as usize;
-        let standing = self.histories[place];
-        if standing.offered < 1 {
-            return self.refused(16);
-        }
+        let standing = histories[place];
         let mut next = self;
         next.histories[place] = standing.cancel();
         Answer {
@@ -269,23 +267,24 @@ impl Auction {
     pub fn lodge(self, developer: u8, prices: &[u32], levels: &[u32]) -> Answer
         ensures { λ r. ⌜ AnswersNumber (By developer (Lodge (now (prices .entry)) (now (levels .entry)))) self r ⌝ }
     {
-        let phase = self.phase;
-        if phase != Auction::READY {
-            return self.refused(2);
-        }
-        let kinds = self.kinds;
-        if !step_checks::is_of_kind(kinds, developer, Auction::EXISTING_PLANT) {
-            return self.refused(15);
-        }
         let settings = self.settings;
-        if !step_checks::prices_ok(settings.ce / 2, settings.a, prices, levels) {
-            return self.refused(6);
+        let kinds = self.kinds;
+        let declared = self.declared;
+        let highest = lows::highest_levels(declared);
+        let number = moves::lodge_number(
+            self.phase,
+            settings,
+            kinds,
+            developer,
+            declared,
+            highest,
+            prices,
+            levels,
+        );
+        if number != 0 {
+            return self.refused(number);
         }
         let i = (developer - 1) as usize;
-        let declared = self.declared[i];
-        if !declared.lowers(declared.highest(), levels) {
-            return self.refused(7);
-        }
         let mut next = self;
         next.histories[i] = History::lodge(prices, levels);
         Answer {
