@@ -12,7 +12,7 @@ use Rattle.rules.specs.Refusals.{check, moveNumber, number}
 use Rattle.rules.specs.CheckLaws.{of-kind-facts}
 use Rattle.rules.specs.Rounds.{moved, numberAlone}
 use Rattle.sound.specs.Sound.{Sound}
-use Rattle.reachable.specs.Bounds.{withdrawals-few}
+use Rattle.reachable.specs.Bounds.{history-few}
 use Rattle.reachable.specs.Checks.{cancel-passed}
 use Rattle.history.specs.Held.{heldHistory, Cancelled}
 use Rattle.history.specs.declared.History.{History}
@@ -49,9 +49,6 @@ module _ (n : ℕ) (a : Auction) where
       passes : (l : Ledger) → Sound l → a ≡ auctionOf l → number l (By n Cancel) ≡ 0
       passes l s h = sym (number-held l s h) ∙ sym e ∙ z
 
-      few : (l : Ledger) → Sound l → length (l .developers n .withdrawals) ≤ 8
-      few l s = ⊎-elim (λ e. omega (arith, ap (λ (x : Developer). length (x .withdrawals)) e)) (λ q. withdrawals-few (q .developer)) (s .each n)
-
       history-next : (l : Ledger) → Sound l → a ≡ auctionOf l → r ≡ heldHistory (l .developers n .withdrawals) none (l .developers n .lodged)
       unfolding number
       history-next l s h =
@@ -59,7 +56,7 @@ module _ (n : ℕ) (a : Auction) where
           let t : x .lodged ≡ [] = none-lodged l n s (cancel-passed l n x (passes l s h) .developer) in
           o .right (x .withdrawals) (x .offer)
           (history-at n a l h (cancel-bounds .0) (cancel-bounds .1) noHistory ∙ ap (heldHistory (x .withdrawals) (x .offer)) t)
-          (few l s)
+          (history-few l s n)
           ∙ ap (heldHistory (x .withdrawals) none) (sym t)
 
       -- the auction without the offer
