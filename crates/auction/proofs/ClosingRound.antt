@@ -23,6 +23,8 @@ use Rattle.kept_curve.specs.Held.{heldCurve}
 use Rattle.kept_curve.specs.declared.Curve.{Curve}
 use Rattle.lows.specs.Lows.{Highests}
 use Rattle.curve_closing.specs.Extends.{Extended}
+use Rattle.closing_figures.specs.declared.Figures.{Figures}
+use Rattle.closing_figures.specs.Figured.{figuresBy}
 use Rattle.auction.specs.declared.Auction.{Auction}
 use Rattle.auction.specs.Holds.{phaseNumber, heldCourse, auctionOf}
 use Rattle.auction.specs.Called.{Called}
@@ -38,26 +40,23 @@ pub close-phase : (a : Auction) → (a .phase ≡ 2 → ⊥) → Refused Close a
 unfolding number
 close-phase a z = refused Close a 2 (omega arith) (λ l s h. simp (round-is a l h ∙ ne-eqb _ 2 z))
 
--- what the engine computed of the auction a: the courses b with the offers applied, the highest levels and the curve, supply, demand at C with
--- its remainder, the phase and the excess
-pub record Computed (a : Auction) (b : Courses) (firsts : List ℕ) (curve : Curve) (supply demand remainder phase : ℕ) (excess : ℤ) : Type 0 where
+-- what the engine computed of the auction a: the courses b with the offers applied, the highest levels and the curve, and the figures; x is the
+-- excess as it is answered
+pub record Computed (a : Auction) (b : Courses) (firsts : List ℕ) (curve : Curve) (f : Figures) (x : ℤ) : Type 0 where
   pub round : a .phase ≡ 2
   pub applied : OffersApplied (a .kinds) (a .quantities) (a .histories) (a .opening) (a .closing) b
   pub highests : Highests (a .declared) firsts
   pub extended : Extended (a .curve) (a .projects) firsts (b .histories) (a .opening) curve
-  pub supply-is : supply ≡ supplyOf (a .projects) (b .quantities)
-  pub demand-is : demand ≡ demandBy (a .settings) (a .closing)
-  pub remainder-is : remainder ≡ remainderBy (a .settings) (a .closing)
-  pub phase-is : phase ≡ phaseNumberAfter (clears supply demand (a .closing) (a .settings .ce / 2))
-  pub excess-is : excess ≡ pos supply -ℤ pos demand
+  pub figures : f ≡ figuresBy (a .settings) (a .closing) (a .projects) (b .quantities)
+  pub excess : x ≡ f .excess
 
-module _ (a : Auction) (b : Courses) (fs : List ℕ) (v : Curve) (q d r n : ℕ) (e : ℤ) (k : Computed a b fs v q d r n e) where
+module _ (a : Auction) (b : Courses) (fs : List ℕ) (v : Curve) (f : Figures) (x : ℤ) (k : Computed a b fs v f x) where
   -- the auction with the offers applied, in its next phase
   abbrev applied-only : Auction
   applied-only = withCourses a (b .quantities) (b .histories) v
 
   abbrev pub closed : Auction
-  closed = withClock applied-only n (a .settings) (a .opening) (a .closing)
+  closed = withClock applied-only (f .phase) (a .settings) (a .opening) (a .closing)
 
   module _ (l : Ledger) (s : Sound l) (h : a ≡ auctionOf l) where
     open-round : inRound (l .phase) ≡ true
@@ -85,37 +84,41 @@ module _ (a : Auction) (b : Courses) (fs : List ℕ) (v : Curve) (q d r n : ℕ)
     curve-after =
         k .extended .right l s round (λ i. h i .curve) (λ i. h i .projects) (k .highests .right l s (λ i. h i .declared)) (after .1) (λ i. h i .opening)
 
-    supply-held : q ≡ supplyAfter l
+    supply-held : supplyOf (a .projects) (b .quantities) ≡ supplyAfter l
     unfolding auctionOf applied supplyAfter
-    supply-held =
-        k .supply-is ∙ ap₂ (λ (ks qs : List ℕ). supplyOf ks qs) (λ i. h i .projects) (after .0)
-        ∙ supply-of (λ x. afterRound l x .quantity) l
+    supply-held = ap₂ (λ (ks qs : List ℕ). supplyOf ks qs) (λ i. h i .projects) (after .0) ∙ supply-of (λ x. afterRound l x .quantity) l
 
-    demand-held : d ≡ demandAt l (l .closing)
+    demand-held : demandBy (a .settings) (a .closing) ≡ demandAt l (l .closing)
     unfolding auctionOf demandBy
-    demand-held = k .demand-is ∙ ap (λ (x : Auction). demandBy (x .settings) (x .closing)) h ∙ demand-is _ _ _ _ _ bounds in-range
+    demand-held = ap (λ (x : Auction). demandBy (x .settings) (x .closing)) h ∙ demand-is _ _ _ _ _ bounds in-range
 
-    remainder-held : r ≡ remainderAt l (l .closing)
+    remainder-held : f .remainder ≡ remainderAt l (l .closing)
     unfolding auctionOf remainderBy
-    remainder-held = k .remainder-is ∙ ap (λ (x : Auction). remainderBy (x .settings) (x .closing)) h ∙ remainder-is _ _ _ _ _ bounds in-range
+    remainder-held =
+        ap (λ (x : Figures). x .remainder) (k .figures) ∙ ap (λ (x : Auction). remainderBy (x .settings) (x .closing)) h
+        ∙ remainder-is _ _ _ _ _ bounds in-range
 
-    phase-held : n ≡ phaseNumber (phaseAfter l)
+    phase-held : f .phase ≡ phaseNumber (phaseAfter l)
     unfolding auctionOf phaseAfter
-    phase-held = k .phase-is ∙ ap (λ (x : Auction). phaseNumberAfter (clears q d (x .closing) (x .settings .ce / 2))) h ∙ rw (supply-held, demand-held) (by-test (clears (supplyAfter l) (demandAt l (l .closing)) (l .closing) (floor l)))
+    phase-held =
+        ap (λ (x : Figures). x .phase) (k .figures)
+        ∙ ap₂ (λ (q d : ℕ). phaseNumberAfter (clears q d (a .closing) (a .settings .ce / 2))) supply-held demand-held
+        ∙ ap (λ (x : Auction). phaseNumberAfter (clears (supplyAfter l) (demandAt l (l .closing)) (x .closing) (x .settings .ce / 2))) h
+        ∙ by-test (clears (supplyAfter l) (demandAt l (l .closing)) (l .closing) (floor l))
       where
         by-test : (t : Bool) → cond t 4 3 ≡ phaseNumber (cond t Closed Between)
         by-test true = refl
         by-test false = refl
 
-    excess-held : e ≡ excess l
+    excess-held : x ≡ excess l
     unfolding excess
-    excess-held = k .excess-is ∙ ap₂ (λ (x y : ℕ). pos x -ℤ pos y) supply-held demand-held
+    excess-held = k .excess ∙ ap (λ (x : Figures). x .excess) (k .figures) ∙ ap₂ (λ (x y : ℕ). pos x -ℤ pos y) supply-held demand-held
 
     courses-after : applied-only ≡ auctionOf later
     unfolding applied
     courses-after = courses-held a l (λ m. afterRound l (l .developers m)) h (λ m. refl) (after .0) (after .1) curve-after
 
-    held-closed : Taken Close closed (record { number = 0; excess = e; remainder = r }) l
+    held-closed : Taken Close closed (record { number = 0; excess = x; remainder = f .remainder }) l
     unfolding number granted accepted auctionOf
     held-closed = record {
       number = simp open-round;
@@ -123,5 +126,5 @@ module _ (a : Auction) (b : Courses) (fs : List ℕ) (v : Curve) (q d r n : ℕ)
       next = clock-held applied-only later (phaseAfter l) (l .settings) courses-after phase-held (λ i. h i .settings) (λ i. h i .opening) (λ i. h i .closing);
     }
 
-  pub close-taken : Called Close a closed (record { number = 0; excess = e; remainder = r })
+  pub close-taken : Called Close a closed (record { number = 0; excess = x; remainder = f .remainder })
   close-taken = taken Close a closed _ refl held-closed

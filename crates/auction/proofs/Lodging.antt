@@ -59,7 +59,8 @@ module _ (n : ℕ) (ps qs : List ℕ) (a : Auction) (tops : List ℕ) (highests 
 
       registered : (l : Ledger) → Sound l → a ≡ auctionOf l → Registered l n
       registered l s h = ⊎-elim
-          (λ e. let k : l .developers n .declared .kind ≡ 0 = ap (λ (x : Developer). x .declared .kind) e in absurd (omega (arith, of-kind-facts 1 n _ (checked l s h .developer))))
+          (λ e. let k : l .developers n .declared .kind ≡ 0 = ap (λ (x : Developer). x .declared .kind) e in
+          absurd (omega (arith, of-kind-facts 1 n _ (checked l s h .developer))))
           (λ r. r) (s .each n)
 
       -- the developer with the list lodged
@@ -72,7 +73,8 @@ module _ (n : ℕ) (ps qs : List ℕ) (a : Auction) (tops : List ℕ) (highests 
       history-next l s h =
           let p = prices-facts _ _ ps qs (checked l s h .prices) in
           o .right (p .same) (p .few)
-          ∙ ap₂ (λ (ws : List Step) (x : Standing). heldHistory ws x (steps ps qs)) (sym (s .idle (ap started here) n)) (sym (no-offer (l .developers n .offer) (registered l s h .offer)))
+          ∙ ap₂ (λ (ws : List Step) (x : Standing). heldHistory ws x (steps ps qs))
+          (sym (s .idle (ap started here) n)) (sym (no-offer (l .developers n .offer) (registered l s h .offer)))
         where
           here : l .phase ≡ Ready
           here = is-ready (l .phase) (checked l s h .phase)

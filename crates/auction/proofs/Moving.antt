@@ -22,8 +22,10 @@ pub record Moves (n : ℕ) (m : Move) (r : History) (l : Ledger) : Type 0 where
   pub withdrawals : moved (l .developers n) m .withdrawals ≡ l .developers n .withdrawals
   pub history : r ≡ heldCourse (moved (l .developers n) m)
 
--- refused by k, the number m has by what the auction holds
-pub move-refused : (n : ℕ) (m : Move) (a : Auction) (k held : ℕ) → Holding a (λ l. held ≡ number l (By n m)) → k ≡ held → (k ≡ 0 → ⊥) → Refused (By n m) a k
+-- refused by k, the number that the move has by what the auction holds
+pub move-refused :
+    (n : ℕ) (m : Move) (a : Auction) (k held : ℕ) → Holding a (λ l. held ≡ number l (By n m)) → k ≡ held → (k ≡ 0 → ⊥) →
+    Refused (By n m) a k
 move-refused n m a k held f e z = refused _ a k z (λ l s h. e ∙ f l s h)
 
 pub move-taken :

@@ -319,20 +319,16 @@ impl Auction {
         let highest = lows::highest_levels(declared);
         let longer = curve_closing::extended(curve, projects, highest, withdrawn, opening);
         let settings = self.settings;
-        let supply = supply::supply(projects, left);
-        let demand = settings.demand_at(closing);
-        let remainder = settings.remainder_at(closing);
-        let excess = closing_checks::excess_of(supply, demand);
-        let cleared = closing_checks::clears(supply, demand, closing, settings.ce / 2);
+        let figures = closing_figures::figures_at(settings, closing, projects, left);
         let mut next = self;
-        next.phase = clock::phase_after(cleared);
+        next.phase = figures.phase;
         next.quantities = left;
         next.histories = withdrawn;
         next.curve = longer;
         Closing {
             number: 0,
-            excess: excess,
-            remainder: remainder,
+            excess: figures.excess,
+            remainder: figures.remainder,
             auction: next,
         }
     }

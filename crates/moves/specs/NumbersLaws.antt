@@ -7,7 +7,8 @@ use Rattle.rules.specs.Refusals.{isOfKind, check}
 use Rattle.rules.specs.CheckLaws.{of-kind-facts}
 
 -- where they pass, the developer's number is good
-pub developer-passed : (p : Bool) (k n kind m x : ℕ) → check p 2 (check (isOfKind k n kind) (suc m) x) ≡ 0 → (1 ≤ n) × (n ≤ 32)
+pub developer-passed :
+    (p : Bool) (k n kind m x : ℕ) → check p 2 (check (isOfKind k n kind) (suc m) x) ≡ 0 → (1 ≤ n) × (n ≤ 32)
 developer-passed false k n kind m x e = absurd (omega arith)
 developer-passed true k n kind m x e = go (isOfKind k n kind) refl e
   where
@@ -16,7 +17,9 @@ developer-passed true k n kind m x e = go (isOfKind k n kind) refl e
     go false w e = absurd (omega arith)
 
 -- what follows them counts only under a developer's number
-pub first-checks : {p p′ t t′ : Bool} (m : ℕ) {x y : ℕ} → p ≡ p′ → t ≡ t′ → (t′ ≡ true → x ≡ y) → check p 2 (check t m x) ≡ check p′ 2 (check t′ m y)
+pub first-checks :
+    {p p′ t t′ : Bool} (m : ℕ) {x y : ℕ} → p ≡ p′ → t ≡ t′ → (t′ ≡ true → x ≡ y) →
+    check p 2 (check t m x) ≡ check p′ 2 (check t′ m y)
 first-checks {t = t} {t′ = t′} m {x} {y} e f g = ap₂ (λ (b : Bool) (n : ℕ). check b 2 n) e (go t′ f g)
   where
     go : (b : Bool) → t ≡ b → (b ≡ true → x ≡ y) → check t m x ≡ check b m y

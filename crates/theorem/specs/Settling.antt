@@ -46,7 +46,6 @@ pub record Settling (M : Type 1) : Type 2 where
       acceptedCalls cs ≡ acceptedCalls cs′ → x .1 .0 ≡ x′ .1 .0 → now (x .1 .1 .0) ≡ now (x′ .1 .1 .0) →
       Run cs rs (x .0) → settle.Post κs x r y → Run cs′ rs′ (x′ .0) → settle.Post κs′ x′ r′ y′ →
       (r ≡ r′) × (now (y .1 .1 .0) ≡ now (y′ .1 .1 .0))
-
   -- LOOKING BEFORE CLOSING (document 02, 6) and SUPPLY CURVE BESIDE THE BOOK (document 02, 9): what a preview and a reading of the auction that the
   -- list reaches say is the ledger's
   pub preview : PreviewStated

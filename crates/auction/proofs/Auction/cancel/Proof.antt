@@ -8,7 +8,9 @@ use Rattle.auction.proofs.Auction.cancel.Tie as tie
 
 -- accepted, so the developer's number is good
 bounds : (c : tie.Else1) → let n = c .before .before .before .before .args .developer in (1 ≤ n) × (n ≤ 32)
-bounds c = let s = c .before .before .before .before .args in cancel-bounds (s .developer) (s .self) _ (c .before .cancel-number .ensures) (c .if1 .left)
+bounds c =
+    let s = c .before .before .before .before .args in
+    cancel-bounds (s .developer) (s .self) _ (c .before .cancel-number .ensures) (c .if1 .left)
 
 cancel-number-requires : tie.Need-cancel-number-requires
 cancel-number-requires c κs = search needs

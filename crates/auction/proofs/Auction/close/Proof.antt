@@ -1,10 +1,8 @@
--- Refused unless a round is open; else the offers are applied, and the curve, supply, demand at C with its remainder, excess and phase are the
--- ledger's.
-use mathlib.Core.Path.{ap, _∙_}
-use native.Mathlib.Omega.{arith}
+-- Refused unless a round is open; else the offers are applied, and the curve and the figures are the ledger's.
+use mir.Facts.{toZ-ofZ}
+use mir.Syntax.{w64}
+use mir.Val.{SFits}
 use borrow.Author.Needs.{needs}
-use Rattle.closing_checks.specs.Signed.{difference-back}
-use Rattle.clock.specs.Tests.{phaseNumberAfter}
 use Rattle.auction.proofs.ClosingRound.{close-phase, close-taken}
 use Rattle.auction.proofs.Auction.close.Statement.{statement}
 use Rattle.auction.proofs.Auction.close.Tie as tie
@@ -21,43 +19,22 @@ highest-levels-requires c κs = search needs
 extended-requires : tie.Need-extended-requires
 extended-requires c κs = search needs
 
-supply-requires : tie.Need-supply-requires
-supply-requires c κs = search needs
-
-demand-at-requires : tie.Need-demand-at-requires
-demand-at-requires c κs = search needs
-
-remainder-at-requires : tie.Need-remainder-at-requires
-remainder-at-requires c κs = search needs
-
-excess-of-requires : tie.Need-excess-of-requires
-excess-of-requires c κs = search needs
-
-clears-requires : tie.Need-clears-requires
-clears-requires c κs = search needs
-
-phase-after-requires : tie.Need-phase-after-requires
-phase-after-requires c κs = search needs
+figures-at-requires : tie.Need-figures-at-requires
+figures-at-requires c κs = search needs
 
 returns-2 : tie.Need-returns-2
 returns-2 c =
-    let tested = c .before .clears in
-    let excess = c .before .before .before .excess-of in
-    let remainder = c .before .before .before .before in
-    let demand = remainder .before .demand-at in
-    let supply = remainder .before .before .supply in
-    let curve = remainder .before .before .before .before in
+    let figured = c .before .figures-at in
+    let fits : SFits w64 (figured .result .excess) = search needs in
+    let curve = c .before .before .before in
     let offers = curve .before .before .before .before .before .before .before in
-    close-taken _ _ _ _ _ _ _ _ _ (record {
+    close-taken _ _ _ _ (figured .result) _ (record {
       round = offers .before .before .before .before .if1 .left;
       applied = offers .with-offers-applied .ensures;
       highests = curve .before .highest-levels .ensures;
       extended = curve .extended .ensures;
-      supply-is = supply .ensures .0;
-      demand-is = demand .ensures .0;
-      remainder-is = remainder .remainder-at .ensures;
-      phase-is = c .phase-after .ensures ∙ ap phaseNumberAfter (tested .ensures);
-      excess-is = difference-back (supply .result) (demand .result) (omega arith) (omega arith) (excess .result) (excess .ensures);
+      figures = figured .ensures;
+      excess = toZ-ofZ fits;
     })
 
 pub close-spec : {M : Type 1} → statement M
@@ -68,10 +45,5 @@ close-spec =
     with-offers-applied-requires
     highest-levels-requires
     extended-requires
-    supply-requires
-    demand-at-requires
-    remainder-at-requires
-    excess-of-requires
-    clears-requires
-    phase-after-requires
+    figures-at-requires
     returns-2)

@@ -8,7 +8,9 @@ use Rattle.auction.proofs.Auction.lodge.Tie as tie
 
 -- accepted, so the developer's number is good
 bounds : (c : tie.Else1) → let n = c .before .before .before .before .before .before .before .before .args .developer in (1 ≤ n) × (n ≤ 32)
-bounds c = let s = c .before .before .before .before .before .before .before .before .args in lodge-bounds (s .developer) _ _ (s .self) _ (c .before .before .highest-levels .ensures) _ (c .before .lodge-number .ensures) (c .if1 .left)
+bounds c =
+    let s = c .before .before .before .before .before .before .before .before .args in
+    lodge-bounds (s .developer) _ _ (s .self) _ (c .before .before .highest-levels .ensures) _ (c .before .lodge-number .ensures) (c .if1 .left)
 
 highest-levels-requires : tie.Need-highest-levels-requires
 highest-levels-requires c κs = search needs

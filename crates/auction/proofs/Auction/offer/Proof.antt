@@ -8,7 +8,9 @@ use Rattle.auction.proofs.Auction.offer.Tie as tie
 
 -- accepted, so the developer's number is good
 bounds : (c : tie.Else1) → let n = c .before .before .before .before .before .before .before .before .args .developer in (1 ≤ n) × (n ≤ 32)
-bounds c = let s = c .before .before .before .before .before .before .before .before .args in offer-bounds (s .developer) _ _ (s .self) _ (c .before .offer-number .ensures) (c .if1 .left)
+bounds c =
+    let s = c .before .before .before .before .before .before .before .before .args in
+    offer-bounds (s .developer) _ _ (s .self) _ (c .before .offer-number .ensures) (c .if1 .left)
 
 offer-number-requires : tie.Need-offer-number-requires
 offer-number-requires c κs = search needs
