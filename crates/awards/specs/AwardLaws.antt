@@ -5,9 +5,9 @@ use mathlib.Core.Path.{_≡_, refl, sym, ap, subst, _∙_}
 use mathlib.Core.Bool.{true}
 use mathlib.Core.List.{List, [], _∷_, map, List·Memᴰ, List·Memᴰ·not-nil, map-map}
 use lib.Dec.{leb}
-use lib.ListN.{length}
+use lib.ListN.{length, length-map}
 use Rattle.numbers.specs.Lists.{oneTo, total}
-use Rattle.numbers.specs.ListLaws.{Each, in-keep, in-map, map-same}
+use Rattle.numbers.specs.ListLaws.{Each, in-keep, in-map, length-one-to, map-same}
 use Rattle.rules.specs.Ledger.{Ledger}
 use Rattle.rules.specs.Clearing.{high, low, greatestOf, supply, demandAt, covered, closingPrice}
 use Rattle.choices.specs.Choices.{covering, IsBest}
@@ -16,7 +16,7 @@ use Rattle.rules.specs.Award.{row, rows, admissible, coveringChoices, keptChoic
 use Rattle.sound.specs.Sound.{started, Sound}
 use Rattle.clearing.specs.ClosingPrice.{closing-price}
 use Rattle.choices.specs.Pairwise.{Distinct, rising-distinct}
-use Rattle.choices.specs.Count.{product, choices-count, covering-le, in-choices, one-of-each-map, choices-distinct}
+use Rattle.choices.specs.Count.{product, choice-length, choices-count, covering-le, in-choices, one-of-each-map, choices-distinct}
 use Rattle.choices.specs.Best.{best-choice}
 use Rattle.choices.specs.Kept.{Levels, kept-some, kept-le, kept-one}
 use Rattle.awards.specs.OpenLevels.{rows-rise, high-in-row, low-in-row, row-not-empty, row-first}
@@ -81,6 +81,10 @@ module _ (l : Ledger) (p : ℕ) (s : Sound l) where
     pub award-is : IsBest (demandAt l p) (admissible l p) (award l p)
     unfolding award coveringChoices admissible
     award-is = best-choice (demandAt l p) (rows l p) some-cover
+
+    pub award-length : length (award l p) ≡ 32
+    unfolding admissible rows
+    award-length = choice-length (rows l p) (award l p) (award-is .admissible) ∙ length-map (oneTo 32) (row l p) ∙ length-one-to 32
 
     pub counts : (1 ≤ length (coveringChoices l p)) × (length (coveringChoices l p) ≤ length (admissible l p))
     unfolding coveringChoices

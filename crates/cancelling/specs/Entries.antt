@@ -7,8 +7,8 @@ use lib.Dec.{eqb}
 use native.Mathlib.Omega.{arith}
 use borrow.Author.Tests.{eqb-true, eq-eqb}
 use Rattle.numbers.specs.Cases.{not-true, clash}
-use Rattle.rules.specs.Ledger.{Move, Offer, Lodge, Cancel, Call, SetUp, Register, Open, By, Close, Developer, Phase, Round, Ledger, put, withDevelopers, withDeveloper}
-use Rattle.rules.specs.Refusals.{isFresh, isReady, mayOpen, inRound, settingsOk, numbersOk, declarationOk, closingOk, startCovered, check, moveNumber, number}
+use Rattle.rules.specs.Ledger.{Move, Offer, Lodge, Cancel, agentFor, Call, SetUp, Register, Open, By, Close, Developer, Phase, Round, Ledger, put, withDevelopers, withDeveloper}
+use Rattle.rules.specs.Refusals.{isFresh, isReady, mayOpen, inRound, settingsOk, isNumber, numbersOk, declarationOk, closingOk, startCovered, check, moveNumber, number}
 use Rattle.rules.specs.Rounds.{moved, accepted, step, Answered, numberAlone, granted, answer}
 use Rattle.reachable.specs.Steps.{step-refused, answer-refused, by-step}
 use Rattle.reachable.specs.Held.{in-round}
@@ -113,8 +113,10 @@ module _ (n : ℕ) (l : Ledger) (r : inRound (l .phase) ≡ true) where
   pub aside : (c : Call) → own n c ≡ false → (c ≡ Close → ⊥) → Aside n l c
   unfolding own number
   aside (SetUp s) o z = barred (SetUp s) isFresh (λ m. check (settingsOk s) 1 0) refl (λ m. refl)
-  aside (Register k x) o z =
-      barred (Register k x) isReady (λ m. check (numbersOk (x .project) k (m .developers k .declared .project)) 3 (check (declarationOk m x) 4 0)) refl (λ m. refl)
+  aside (Register k w x) o z =
+      barred (Register k w x) isReady
+      (λ m. check (numbersOk (x .project) k (m .developers k .declared .project)) 3 (check (isNumber (agentFor k w)) 3 (check (declarationOk m x) 4 0)))
+      refl (λ m. refl)
   aside (Open c) o z = barred (Open c) mayOpen (λ m. check (closingOk m c) 5 (check (startCovered m) 9 0)) refl (λ m. refl)
   aside (By k m) o z = move-aside k m o
   aside Close o z = absurd (z refl)

@@ -12,7 +12,7 @@ use Rattle.rules.specs.Rounds.{step, stepAll, ledger, Answered, answer, answers
 -- a call of developer n's own: a move that it makes
 unfoldable pub own : ℕ → Call → Bool
 own n (SetUp s) = false
-own n (Register k x) = false
+own n (Register k w x) = false
 own n (Open c) = false
 own n (By k m) = eqb k n
 own n Close = false

@@ -8,7 +8,7 @@ use lib.Dec.{eqb}
 use borrow.Author.Tests.{eq-eqb}
 use Rattle.numbers.specs.Cases.{not-true, clash}
 use Rattle.numbers.specs.Lists.{keep}
-use Rattle.rules.specs.Ledger.{Step, Move, Offer, Cancel, Call, SetUp, Register, Open, By, Close, Standing, none, made, Developer, Ledger, put, withDevelopers, withDeveloper, withOffer, newcomer}
+use Rattle.rules.specs.Ledger.{Step, Move, Offer, Cancel, agentFor, Call, SetUp, Register, Open, By, Close, Standing, none, made, Developer, Ledger, put, withDevelopers, withDeveloper, withOffer, newcomer}
 use Rattle.rules.specs.Refusals.{inRound, isNone, moveNumber, number}
 use Rattle.rules.specs.Rounds.{steps, applied, moved, accepted, step, stepAll, ledger, Answered, answer, answersFrom}
 use Rattle.reachable.specs.Checks.{offer-passed, cancel-passed}
@@ -27,9 +27,9 @@ Nothing n l = isNone (l .developers n .offer) ≡ true
 nothing-accepted : (n : ℕ) (l : Ledger) (c : Call) → own n c ≡ false → Nothing n l → Nothing n (accepted l c)
 unfolding accepted applied own
 nothing-accepted n l (SetUp s) o h = h
-nothing-accepted n l (Register k x) o h = go (eqb n k)
+nothing-accepted n l (Register k w x) o h = go (eqb n k)
   where
-    go : (b : Bool) → isNone (cond b (newcomer x) (l .developers n) .offer) ≡ true
+    go : (b : Bool) → isNone (cond b (newcomer (agentFor k w) x) (l .developers n) .offer) ≡ true
     go true = refl
     go false = h
 nothing-accepted n l (Open c) o h = h

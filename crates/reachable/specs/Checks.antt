@@ -4,18 +4,19 @@ use mathlib.Core.Path.{_≡_, refl, sym}
 use mathlib.Core.Bool.{Bool, true, false, not}
 use mathlib.Core.List.{List}
 use native.Mathlib.Omega.{arith}
-use Rattle.rules.specs.Ledger.{Settings, Declaration, Offer, Lodge, Cancel, SetUp, Register, Open, Close, Developer, Ledger}
+use Rattle.rules.specs.Ledger.{Settings, Declaration, Offer, Lodge, Cancel, Agency, agentFor, SetUp, Register, Open, Close, Developer, Ledger}
 use Rattle.rules.specs.Clearing.{highest}
-use Rattle.rules.specs.Refusals.{isFresh, isReady, mayOpen, inRound, settingsOk, numbersOk, declarationOk, floor, closingOk, startCovered, isNone, isOfKind, pricesOk, lowering, check, moveNumber, number}
+use Rattle.rules.specs.Refusals.{isFresh, isReady, mayOpen, inRound, settingsOk, isNumber, numbersOk, declarationOk, floor, closingOk, startCovered, isNone, isOfKind, pricesOk, lowering, check, moveNumber, number}
 pub use Rattle.rules.specs.CheckLaws.{Numbers, numbers-facts, levels-facts, Declared, declaration-facts, closing-facts, of-kind-facts, prices-facts}
 
 pub record SetUpPassed (l : Ledger) (s : Settings) : Type 0 where
   pub phase : isFresh (l .phase) ≡ true
   pub settings : settingsOk s ≡ true
 
-pub record RegisterPassed (l : Ledger) (n : ℕ) (x : Declaration) : Type 0 where
+pub record RegisterPassed (l : Ledger) (n : ℕ) (w : Agency) (x : Declaration) : Type 0 where
   pub phase : isReady (l .phase) ≡ true
   pub numbers : numbersOk (x .project) n (l .developers n .declared .project) ≡ true
+  pub agent : isNumber (agentFor n w) ≡ true
   pub declaration : declarationOk l x ≡ true
 
 pub record OpenPassed (l : Ledger) (c : ℕ) : Type 0 where
@@ -55,13 +56,14 @@ set-up-passed l s e =
     let q = passed (settingsOk s) 0 _ (p .1) in
     record { phase = p .0; settings = q .0 }
 
-pub register-passed : (l : Ledger) (n : ℕ) (x : Declaration) → number l (Register n x) ≡ 0 → RegisterPassed l n x
+pub register-passed : (l : Ledger) (n : ℕ) (w : Agency) (x : Declaration) → number l (Register n w x) ≡ 0 → RegisterPassed l n w x
 unfolding number
-register-passed l n x e =
+register-passed l n w x e =
     let p = passed (isReady (l .phase)) 1 _ e in
     let q = passed (numbersOk (x .project) n (l .developers n .declared .project)) 2 _ (p .1) in
-    let r = passed (declarationOk l x) 3 _ (q .1) in
-    record { phase = p .0; numbers = q .0; declaration = r .0 }
+    let g = passed (isNumber (agentFor n w)) 2 _ (q .1) in
+    let r = passed (declarationOk l x) 3 _ (g .1) in
+    record { phase = p .0; numbers = q .0; agent = g .0; declaration = r .0 }
 
 pub open-passed : (l : Ledger) (c : ℕ) → number l (Open c) ≡ 0 → OpenPassed l c
 unfolding number

@@ -45,7 +45,7 @@ sound-set-up l t s p = subst (λ (m : Ledger). Sound (accepted m (SetUp t))) (sy
 sound-accepted : (l : Ledger) (c : Call) → number l c ≡ 0 → Sound l → Sound (accepted l c)
 unfolding number
 sound-accepted l (SetUp t) e s = sound-set-up l t s (set-up-passed l t e)
-sound-accepted l (Register n x) e s = sound-register l n x s (register-passed l n x e)
+sound-accepted l (Register n w x) e s = sound-register l n w x s (register-passed l n w x e)
 sound-accepted l (Open c) e s = sound-open l c s (open-passed l c e)
 sound-accepted l (By n m) e s = sound-move l n m s e
 sound-accepted l Close e s = sound-close l s (close-passed l e)

@@ -9,7 +9,7 @@ use lib.Dec.{eqb}
 use borrow.Author.Tests.{eqb-true}
 use Rattle.numbers.specs.Cases.{and-true, clash}
 use Rattle.numbers.specs.ListLaws.{all-true}
-use Rattle.rules.specs.Ledger.{Declaration, Register, Developer, Ready, Ledger, put, withDevelopers, newcomer}
+use Rattle.rules.specs.Ledger.{Declaration, Agency, agentFor, Register, Developer, Ready, Ledger, put, withDevelopers, newcomer}
 use Rattle.rules.specs.Clearing.{developersOf}
 use Rattle.rules.specs.Refusals.{isFresh, mayJoin, falling, lowering}
 use Rattle.rules.specs.Rounds.{lastLevel, accepted}
@@ -33,11 +33,14 @@ joined-kinds l s k kind m e h g =
     let t = and-true (eqb kind 2) (eqb (l .developers m .declared .kind) 2) (all-true (λ j. eqb kind 2 && eqb (l .developers j .declared .kind) 2) (developersOf l k) e m listed) in
     (eqb-true kind 2 (t .0), eqb-true _ 2 (t .1))
 
-newcomer-sound : (c a : ℕ) (x : Declaration) → SoundDeclaration x → SoundDeveloper c a (newcomer x)
+newcomer-sound : (c a g : ℕ) (x : Declaration) → SoundDeclaration x → SoundDeveloper c a (newcomer g x)
 unfolding lowering Descends lastLevel
-newcomer-sound c a x d = record { declared = d; falls = refl; prices = tt; quantity = refl }
+newcomer-sound c a g x d = record { declared = d; falls = refl; prices = tt; quantity = refl }
 
-module _ (l : Ledger) (n : ℕ) (x : Declaration) (s : Sound l) (p : RegisterPassed l n x) where
+module _ (l : Ledger) (n : ℕ) (w : Agency) (x : Declaration) (s : Sound l) (p : RegisterPassed l n w x) where
+  abbrev new : Developer
+  new = newcomer (agentFor n w) x
+
   numbers : Numbers (x .project) n (l .developers n .declared .project)
   numbers = numbers-facts (x .project) n _ (p .numbers)
 
@@ -45,14 +48,14 @@ module _ (l : Ledger) (n : ℕ) (x : Declaration) (s : Sound l) (p : RegisterPas
   declared = declaration-facts l x (p .declaration)
 
   abbrev next : ℕ → Developer
-  next = put n (newcomer x) (l .developers)
+  next = put n new (l .developers)
 
-  held : Stands (withDevelopers l next) n (newcomer x)
+  held : Stands (withDevelopers l next) n new
   unfolding SoundOffer falling lowering
   held = record {
     number-low = numbers .number-low;
     number-high = numbers .number-high;
-    developer = newcomer-sound _ _ x (record { project-low = numbers .project-low; project-high = numbers .project-high; kind = declared .kind; levels = declared .levels });
+    developer = newcomer-sound _ _ _ x (record { project-low = numbers .project-low; project-high = numbers .project-high; kind = declared .kind; levels = declared .levels });
     offer = tt;
     lodged = record { kind = λ e. refl; prices = refl; levels = refl };
   }
@@ -64,20 +67,20 @@ module _ (l : Ledger) (n : ℕ) (x : Declaration) (s : Sound l) (p : RegisterPas
   not-both e f = omega arith
 
   alone : (m j : ℕ) → next m .declared .kind ≡ 1 → next m .declared .project ≡ next j .declared .project → m ≡ j
-  alone = by-put (λ m d. (j : ℕ) → d .declared .kind ≡ 1 → d .declared .project ≡ next j .declared .project → m ≡ j) n (newcomer x) (l .developers)
-      (by-put (λ j d. x .kind ≡ 1 → x .project ≡ d .declared .project → n ≡ j) n (newcomer x) (l .developers)
+  alone = by-put (λ m d. (j : ℕ) → d .declared .kind ≡ 1 → d .declared .project ≡ next j .declared .project → m ≡ j) n new (l .developers)
+      (by-put (λ j d. x .kind ≡ 1 → x .project ≡ d .declared .project → n ≡ j) n new (l .developers)
       (λ k e. refl)
       (λ j k e. absurd (not-both k (kinds j (sym e) .0))))
-      (λ m. by-put (λ j d. l .developers m .declared .kind ≡ 1 → l .developers m .declared .project ≡ d .declared .project → m ≡ j) n (newcomer x) (l .developers)
+      (λ m. by-put (λ j d. l .developers m .declared .kind ≡ 1 → l .developers m .declared .project ≡ d .declared .project → m ≡ j) n new (l .developers)
       (λ k e. absurd (not-both k (kinds m e .1)))
       (λ j. s .alone m j))
 
-  pub sound-register : Sound (accepted l (Register n x))
+  pub sound-register : Sound (accepted l (Register n w x))
   unfolding accepted
   sound-register = sound-with l next s (ap isFresh ready) (record {
-    idle = λ e. by-put (λ m d. d .withdrawals ≡ []) n (newcomer x) (l .developers) refl (s .idle e);
+    idle = λ e. by-put (λ m d. d .withdrawals ≡ []) n new (l .developers) refl (s .idle e);
     start-covered = λ e. absurd (clash e (ap started ready));
-    each = by-put (Kept (withDevelopers l next)) n (newcomer x) (l .developers) (inr held) (λ m. kept-with l next m (l .developers m) (s .each m));
+    each = by-put (Kept (withDevelopers l next)) n new (l .developers) (inr held) (λ m. kept-with l next m (l .developers m) (s .each m));
     alone = alone;
   })
     where

@@ -21,7 +21,7 @@ use Rattle.reachable.specs.Reachable.{sound}
 -- 1 for an accepted opening
 unfoldable pub opened : Ledger → Call → ℕ
 opened l (SetUp s) = 0
-opened l (Register n x) = 0
+opened l (Register n w x) = 0
 opened l (Open c) = cond (eqb (number l (Open c)) 0) 1 0
 opened l (By n m) = 0
 opened l Close = 0
@@ -58,7 +58,7 @@ still l c k h g = rw add-zero (by-step (λ m. SoFar m k) l c h g)
 so-far-step : (l : Ledger) (c : Call) (k : ℕ) → SoFar l k → SoFar (step l c) (k + opened l c)
 unfolding step opened accepted
 so-far-step l (SetUp s) k h = still l (SetUp s) k h (λ e. record { none = λ f. h .none (not-true (started (l .phase)) (λ t. clash (set-up-passed l s e .phase) (started-not-fresh (l .phase) t))); room = λ f. absurd (clash f refl) })
-so-far-step l (Register n x) k h = still l (Register n x) k h (λ e. record { none = h .none; room = h .room })
+so-far-step l (Register n w x) k h = still l (Register n w x) k h (λ e. record { none = h .none; room = h .room })
 so-far-step l (Open c) k h = go (eqb (number l (Open c)) 0) refl
   where
     go : (b : Bool) → eqb (number l (Open c)) 0 ≡ b → SoFar (cond b (accepted l (Open c)) l) (k + cond b 1 0)

@@ -6,7 +6,7 @@ use mathlib.Core.List.{List, [], _∷_, map}
 use Rattle.numbers.specs.Lists.{oneTo, keep, total, greatest, lastOr, any, all}
 use Rattle.curve.specs.Demand.{dem, inBounds}
 use Rattle.curve.specs.Remainder.{exactTimesCe, remainder}
-use Rattle.rules.specs.Ledger.{Offer, Cancel, Call, SetUp, Register, Open, By, Close}
+use Rattle.rules.specs.Ledger.{Offer, Cancel, Own, Call, SetUp, Register, Open, By, Close}
 use Rattle.rules.specs.Clearing.{quantityAfter, high, developersOf, greatestOf, supply, covered}
 use Rattle.rules.specs.Refusals.{settingsOk, numbersOk, rising, levelsOk, mayJoin, declarationOk, openingPrice, closingOk, startCovered, isOfKind, falling, pricesOk, lowering, moveNumber, number}
 use Rattle.rules.specs.Rounds.{steps, withdrawsAll, reaches, reached, unreached, added, lastLevel, applied, supplyAfter, thousandths, clears, phaseAfter, moved, accepted, step, stepAll, ledger, excess, granted, answer, answersFrom, answers}
@@ -15,9 +15,9 @@ use Rattle.rules.specs.Rounds.{steps, withdrawsAll, reaches, reached, un
 abbrev registered : List Call
 registered =
     SetUp (record { ce = 20000; d = 800000; m1 = 700000; m2 = 1000000; a = 40000 })
-    ∷ Register 1 (record { project = 1; kind = 1; study = 0; day = 0; levels = 500000 ∷ [] })
-    ∷ Register 2 (record { project = 2; kind = 2; study = 0; day = 0; levels = 300000 ∷ 600000 ∷ [] })
-    ∷ Register 3 (record { project = 3; kind = 2; study = 0; day = 0; levels = 400000 ∷ [] })
+    ∷ Register 1 Own (record { project = 1; kind = 1; study = 0; day = 0; levels = 500000 ∷ [] })
+    ∷ Register 2 Own (record { project = 2; kind = 2; study = 0; day = 0; levels = 300000 ∷ 600000 ∷ [] })
+    ∷ Register 3 Own (record { project = 3; kind = 2; study = 0; day = 0; levels = 400000 ∷ [] })
     ∷ By 2 Cancel
     ∷ Open 30000
     ∷ []

@@ -45,10 +45,20 @@ pub data Move : Type 0 where
   Lodge : List ℕ → List ℕ → Move
   Cancel : Move
 
+-- The agent that a registration names (document 02, 10): the one with the developer's own number (frame 02), or this one (frame 08)
+pub data Agency : Type 0 where
+  Own : Agency
+  Named : ℕ → Agency
+
+-- the agent of developer n
+abbrev pub agentFor : ℕ → Agency → ℕ
+agentFor n Own = n
+agentFor n (Named g) = g
+
 -- The calls, with any arguments, absurd ones too. A registration and a move name the developer
 pub data Call : Type 0 where
   SetUp : Settings → Call
-  Register : ℕ → Declaration → Call
+  Register : ℕ → Agency → Declaration → Call
   Open : ℕ → Call
   By : ℕ → Move → Call
   Close : Call
@@ -58,10 +68,11 @@ pub data Standing : Type 0 where
   none : Standing
   made : List Step → Standing
 
--- what is held of a developer number; `lodged` are the lodged steps that no closing has reached (document 02, 5). Of one that is not registered,
--- all is 0 or empty: `nobody`
+-- what is held of a developer number; `agent` is its agent (document 02, 10), `lodged` are the lodged steps that no closing has reached
+-- (document 02, 5). Of one that is not registered, all is 0 or empty: `nobody`
 pub record Developer : Type 0 where
   pub declared : Declaration
+  pub agent : ℕ
   pub quantity : ℕ
   pub withdrawals : List Step
   pub offer : Standing
@@ -89,6 +100,7 @@ pub record Ledger : Type 0 where
 abbrev pub nobody : Developer
 nobody = record {
   declared = record { project = 0; kind = 0; study = 0; day = 0; levels = [] };
+  agent = 0;
   quantity = 0;
   withdrawals = [];
   offer = none;
@@ -128,11 +140,11 @@ abbrev pub withDeveloper : Ledger → ℕ → Developer → Ledger
 withDeveloper l n x = withDevelopers l (put n x (l .developers))
 
 abbrev pub withOffer : Developer → Standing → Developer
-withOffer x o = record { declared = x .declared; quantity = x .quantity; withdrawals = x .withdrawals; offer = o; lodged = x .lodged }
+withOffer x o = record { declared = x .declared; agent = x .agent; quantity = x .quantity; withdrawals = x .withdrawals; offer = o; lodged = x .lodged }
 
 abbrev pub withLodged : Developer → List Step → Developer
-withLodged x ss = record { declared = x .declared; quantity = x .quantity; withdrawals = x .withdrawals; offer = x .offer; lodged = ss }
+withLodged x ss = record { declared = x .declared; agent = x .agent; quantity = x .quantity; withdrawals = x .withdrawals; offer = x .offer; lodged = ss }
 
--- a developer at its registration
-abbrev pub newcomer : Declaration → Developer
-newcomer x = record { declared = x; quantity = highestDeclared x; withdrawals = []; offer = none; lodged = [] }
+-- a developer of agent g at its registration
+abbrev pub newcomer : ℕ → Declaration → Developer
+newcomer g x = record { declared = x; agent = g; quantity = highestDeclared x; withdrawals = []; offer = none; lodged = [] }

@@ -4,10 +4,12 @@ pub mod Refusals
 pub mod Rounds
 pub mod Second
 pub mod Award
+pub mod Participation
 pub mod Settling
 pub mod Sample
 pub mod LodgingSample
 pub mod CancellingSample
+pub mod ParticipationSample
 pub mod CheckLaws
 pub mod Projects
 pub mod RoundLaws

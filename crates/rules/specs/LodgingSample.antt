@@ -7,7 +7,7 @@ use Rattle.numbers.specs.Lists.{oneTo, keep, total, greatest, lastOr, any, all}
 use Rattle.numbers.specs.Least.{leastFrom}
 use Rattle.curve.specs.Demand.{dem, inBounds}
 use Rattle.curve.specs.Remainder.{exactTimesCe, remainder}
-use Rattle.rules.specs.Ledger.{Offer, Lodge, Call, SetUp, Register, Open, By, Close, Closed}
+use Rattle.rules.specs.Ledger.{Offer, Lodge, Own, Call, SetUp, Register, Open, By, Close, Closed}
 use Rattle.rules.specs.Clearing.{quantityAfter, high, low, developersOf, greatestOf, supply, covered, closingPrice}
 use Rattle.rules.specs.Refusals.{settingsOk, numbersOk, rising, levelsOk, mayJoin, declarationOk, openingPrice, closingOk, startCovered, isOfKind, falling, pricesOk, lowering, moveNumber, number}
 use Rattle.rules.specs.Rounds.{steps, withdrawsAll, reaches, reached, unreached, added, lastLevel, applied, supplyAfter, thousandths, clears, phaseAfter, moved, accepted, step, stepAll, ledger, excess, granted, answer, answersFrom, answers}
@@ -15,6 +15,7 @@ use Rattle.choices.specs.Choices.{spread, choices, covering, larger, before, be
 use Rattle.choices.specs.Search.{placed, byFalling, order, lowest, highest, aboveBest, setAside, inTurn, searched, given, found, kept}
 use Rattle.rules.specs.Second.{lodgedApplied, takenOut, remaining, short, secondPrice}
 use Rattle.rules.specs.Award.{openBetween, openToDeveloper, openTo, insert, insertAll, declaredBy, openLevels, row, rows, admissible, coveringChoices, keptChoices, award, preferred, mostPreferred, firstPreferred, winner}
+use Rattle.rules.specs.Participation.{existingPlants, isSmall, grantsFrom, grants, newAward, newToSmall, sufficient, pricePaid}
 use Rattle.rules.specs.Settling.{recordsFrom, records, settlementAt, settlement}
 
 -- existing plants of 500,000 and 400,000 in projects 1 and 2, a new one of v in project 3; the first lodges twice, the second list counting: to
@@ -22,10 +23,10 @@ use Rattle.rules.specs.Settling.{recordsFrom, records, settlementAt, set
 abbrev lodgings : ℕ → List Call
 lodgings v =
     SetUp (record { ce = 20000; d = 1000000; m1 = 900000; m2 = 1200000; a = 40000 })
-    ∷ Register 1 (record { project = 1; kind = 1; study = 0; day = 0; levels = 300000 ∷ 500000 ∷ [] })
+    ∷ Register 1 Own (record { project = 1; kind = 1; study = 0; day = 0; levels = 300000 ∷ 500000 ∷ [] })
     ∷ By 1 (Lodge (39999 ∷ []) (0 ∷ []))
-    ∷ Register 2 (record { project = 2; kind = 1; study = 0; day = 0; levels = 400000 ∷ [] })
-    ∷ Register 3 (record { project = 3; kind = 2; study = 0; day = 0; levels = v ∷ [] })
+    ∷ Register 2 Own (record { project = 2; kind = 1; study = 0; day = 0; levels = 400000 ∷ [] })
+    ∷ Register 3 Own (record { project = 3; kind = 2; study = 0; day = 0; levels = v ∷ [] })
     ∷ By 1 (Lodge (30000 ∷ 29990 ∷ []) (300000 ∷ 0 ∷ []))
     ∷ By 3 (Lodge [] [])
     ∷ By 4 (Lodge [] [])
@@ -65,6 +66,8 @@ LodgedLists =
       kept = 1;
       second = 30000;
       short = false;
+      insufficient = false;
+      paid = 29990;
       records = (1 ∷ 1 ∷ 0 ∷ 4 ∷ 147 ∷ 224 ∷ []) ∷ (2 ∷ 2 ∷ 0 ∷ 6 ∷ 26 ∷ 128 ∷ []) ∷ (3 ∷ 3 ∷ 0 ∷ 8 ∷ 100 ∷ 112 ∷ []) ∷ [];
     })
     -- A just covered by what is left, and not covered
@@ -81,5 +84,5 @@ unfolding oneTo keep total greatest lastOr any all leastFrom dem exactTimesCe re
     spread choices covering larger before best bestOf placed byFalling order lowest highest aboveBest setAside inTurn searched given found kept
     lodgedApplied takenOut remaining short secondPrice
     openBetween openToDeveloper openTo insert insertAll declaredBy openLevels row rows admissible coveringChoices keptChoices award preferred mostPreferred
-    firstPreferred winner recordsFrom records settlementAt settlement
+    firstPreferred winner existingPlants isSmall grantsFrom grants newAward newToSmall sufficient pricePaid recordsFrom records settlementAt settlement
 lodged-lists = (refl, refl, refl, refl, refl, refl, refl, refl)

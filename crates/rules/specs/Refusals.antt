@@ -6,7 +6,7 @@ use lib.Dec.{leb, ltb, eqb}
 use lib.ListN.{length}
 use Rattle.numbers.specs.Lists.{all}
 use Rattle.curve.specs.Demand.{inBounds}
-use Rattle.rules.specs.Ledger.{Settings, Declaration, declaredOrZero, Move, Offer, Lodge, Cancel, Call, SetUp, Register, Open, By, Close, Standing, none, made, Developer, Phase, Fresh, Ready, Round, Between, Closed, Ledger}
+use Rattle.rules.specs.Ledger.{Settings, Declaration, declaredOrZero, Move, Offer, Lodge, Cancel, agentFor, Call, SetUp, Register, Open, By, Close, Standing, none, made, Developer, Phase, Fresh, Ready, Round, Between, Closed, Ledger}
 use Rattle.rules.specs.Clearing.{highest, developersOf, covered}
 
 -- ---- the phase that accepts a call (document 01, Rounds)
@@ -156,13 +156,14 @@ moveNumber l n x (Lodge ps qs) =
 moveNumber l n x Cancel =
     check (inRound (l .phase)) 2 (check (isOfKind 2 n (x .declared .kind)) 3 (check (not (isNone (x .offer))) 16 0))
 
--- set-up 2, 1; registration 2, 3, 4; opening 2, 5, 9; closing 2
+-- set-up 2, 1; registration 2, 3, 4, its agent's number tested with the others (document 02, 10); opening 2, 5, 9; closing 2
 unfoldable pub number : Ledger → Call → ℕ
 number l (SetUp s) = check (isFresh (l .phase)) 2 (check (settingsOk s) 1 0)
-number l (Register n x) =
+number l (Register n w x) =
     check (isReady (l .phase)) 2
     (check (numbersOk (x .project) n (l .developers n .declared .project)) 3
-    (check (declarationOk l x) 4 0))
+    (check (isNumber (agentFor n w)) 3
+    (check (declarationOk l x) 4 0)))
 number l (Open c) =
     check (mayOpen (l .phase)) 2
     (check (closingOk l c) 5

@@ -33,10 +33,11 @@ by-missing P c o x h g = go (withdrawsAll (x .declared .kind) (x .quantity)) ref
     go true e = let t = and-true (eqb (x .declared .kind) 2) (ltb 0 (x .quantity)) e in h (eqb-true _ 2 (t .0)) (ltb-true 0 _ (t .1))
     go false e = g (λ k q. true≢false (rw (eq-eqb (x .declared .kind) 2 k, lt-ltb 0 (x .quantity) q) at e))
 
--- developer n after the closing: at quantity q, with ws behind its withdrawals and no offer; its declaration stays, and so do the lodged steps
--- not reached
+-- developer n after the closing: at quantity q, with ws behind its withdrawals and no offer; its declaration and its agent stay, and so do the
+-- lodged steps not reached
 pub record AfterClosing (l : Ledger) (n q : ℕ) (ws : List Step) : Type 0 where
   pub declared : accepted l Close .developers n .declared ≡ l .developers n .declared
+  pub agent : accepted l Close .developers n .agent ≡ l .developers n .agent
   pub quantity : accepted l Close .developers n .quantity ≡ q
   pub withdrawals : accepted l Close .developers n .withdrawals ≡ l .developers n .withdrawals ++ ws
   pub offer : accepted l Close .developers n .offer ≡ none
@@ -51,7 +52,7 @@ module _ (l : Ledger) (n : ℕ) where
   unfolding accepted applied
   after-closing s ws e a =
       let b = ap (added (l .closing) (l .opening) (l .developers n)) e ∙ a in
-      record { declared = refl; quantity = ap (lastLevel (l .developers n .quantity)) b; withdrawals = ap (λ vs. l .developers n .withdrawals ++ vs) b; offer = refl; lodged = refl }
+      record { declared = refl; agent = refl; quantity = ap (lastLevel (l .developers n .quantity)) b; withdrawals = ap (λ vs. l .developers n .withdrawals ++ vs) b; offer = refl; lodged = refl }
 
   -- a kind 2 developer without an offer and above 0 withdraws to 0 at the round's opening price
   pub missing-offer-withdraws : l .developers n .declared .kind ≡ 2 → l .developers n .offer ≡ none → 0 < l .developers n .quantity → AfterClosing l n 0 (record { price = l .opening; level = 0 } ∷ [])

@@ -6,7 +6,7 @@ use mathlib.Core.List.{List, [], _∷_, _++_}
 use lib.Dec.{leb, ltb, eqb}
 use lib.IntN.{ℤ, pos, negsuc, _-ℤ_}
 use Rattle.numbers.specs.Lists.{keep}
-use Rattle.rules.specs.Ledger.{Step, Move, Offer, Lodge, Cancel, Call, SetUp, Register, Open, By, Close, Standing, none, made, Developer, Phase, Ready, Round, Between, Closed, Ledger, start, withPhase, withSettings, withPrices, withDevelopers, withDeveloper, withOffer, withLodged, newcomer}
+use Rattle.rules.specs.Ledger.{Step, Move, Offer, Lodge, Cancel, agentFor, Call, SetUp, Register, Open, By, Close, Standing, none, made, Developer, Phase, Ready, Round, Between, Closed, Ledger, start, withPhase, withSettings, withPrices, withDevelopers, withDeveloper, withOffer, withLodged, newcomer}
 use Rattle.rules.specs.Clearing.{supply, demandAt, remainderAt}
 use Rattle.rules.specs.Refusals.{floor, openingPrice, number}
 
@@ -48,6 +48,7 @@ lastLevel q (s ∷ ss) = lastLevel (s .level) ss
 unfoldable pub applied : ℕ → ℕ → Developer → Developer
 applied c o x = record {
   declared = x .declared;
+  agent = x .agent;
   quantity = lastLevel (x .quantity) (added c o x (x .offer));
   withdrawals = x .withdrawals ++ added c o x (x .offer);
   offer = none;
@@ -84,7 +85,7 @@ moved x Cancel = withOffer x none
 -- the ledger after an accepted call
 unfoldable pub accepted : Ledger → Call → Ledger
 accepted l (SetUp s) = withPhase (withSettings l s) Ready
-accepted l (Register n x) = withDeveloper l n (newcomer x)
+accepted l (Register n w x) = withDeveloper l n (newcomer (agentFor n w) x)
 accepted l (Open c) = withPhase (withPrices l (openingPrice l) c) Round
 accepted l (By n m) = withDeveloper l n (moved (l .developers n) m)
 accepted l Close = withPhase (withDevelopers l (λ n. applied (l .closing) (l .opening) (l .developers n))) (phaseAfter l)
@@ -122,7 +123,7 @@ excess l = pos (supplyAfter l) -ℤ pos (demandAt l (l .closing))
 -- what an accepted call answers; a closing the excess, and the remainder of Dem(C) (document 02, 4)
 unfoldable pub granted : Ledger → Call → Answered
 granted l (SetUp s) = numberAlone 0
-granted l (Register n x) = numberAlone 0
+granted l (Register n w x) = numberAlone 0
 granted l (Open c) = numberAlone 0
 granted l (By n m) = numberAlone 0
 granted l Close = record { number = 0; excess = excess l; remainder = remainderAt l (l .closing) }

@@ -10,7 +10,7 @@ use Rattle.numbers.specs.Least.{leastFrom}
 use Rattle.curve.specs.Demand.{dem, inBounds}
 use Rattle.curve.specs.Remainder.{exactTimesCe, remainder}
 use Rattle.curve.specs.Marked.{MarkedCases, marked-cases}
-use Rattle.rules.specs.Ledger.{Offer, Call, SetUp, Register, Open, By, Close, Closed}
+use Rattle.rules.specs.Ledger.{Offer, Own, Call, SetUp, Register, Open, By, Close, Closed}
 use Rattle.rules.specs.Clearing.{quantityAfter, high, low, developersOf, greatestOf, supply, covered, closingPrice}
 use Rattle.rules.specs.Refusals.{settingsOk, numbersOk, rising, levelsOk, mayJoin, declarationOk, openingPrice, closingOk, startCovered, isOfKind, falling, pricesOk, lowering, moveNumber, number}
 use Rattle.rules.specs.Rounds.{steps, withdrawsAll, reached, unreached, added, lastLevel, applied, supplyAfter, thousandths, clears, phaseAfter, moved, accepted, step, stepAll, ledger, excess, granted, answer, answersFrom, answers}
@@ -18,15 +18,16 @@ use Rattle.choices.specs.Choices.{spread, choices, covering, larger, before, be
 use Rattle.choices.specs.Search.{placed, byFalling, order, lowest, highest, aboveBest, setAside, inTurn, searched, given, found, kept}
 use Rattle.rules.specs.Award.{openBetween, openToDeveloper, openTo, insert, insertAll, declaredBy, openLevels, row, rows, admissible, coveringChoices, keptChoices, award, preferred, mostPreferred, firstPreferred, winner}
 use Rattle.rules.specs.Second.{lodgedApplied, takenOut, remaining, short, secondPrice}
+use Rattle.rules.specs.Participation.{existingPlants, isSmall, grantsFrom, grants, newAward, newToSmall, sufficient, pricePaid}
 use Rattle.rules.specs.Settling.{recordsFrom, records, settlingNumber, settlementAt, settlement}
 
 abbrev pub sample : List Call
 sample =
     SetUp (record { ce = 20000; d = 1000; m1 = 900; m2 = 1200; a = 40000 })
-    ∷ Register 1 (record { project = 1; kind = 1; study = 0; day = 0; levels = 820 ∷ [] })
-    ∷ Register 2 (record { project = 2; kind = 2; study = 400; day = 10; levels = 100 ∷ 200 ∷ [] })
-    ∷ Register 3 (record { project = 2; kind = 2; study = 500; day = 20; levels = 200 ∷ [] })
-    ∷ Register 4 (record { project = 3; kind = 2; study = 0; day = 0; levels = 150 ∷ [] })
+    ∷ Register 1 Own (record { project = 1; kind = 1; study = 0; day = 0; levels = 820 ∷ [] })
+    ∷ Register 2 Own (record { project = 2; kind = 2; study = 400; day = 10; levels = 100 ∷ 200 ∷ [] })
+    ∷ Register 3 Own (record { project = 2; kind = 2; study = 500; day = 20; levels = 200 ∷ [] })
+    ∷ Register 4 Own (record { project = 3; kind = 2; study = 0; day = 0; levels = 150 ∷ [] })
     ∷ Open 25000
     ∷ By 2 (Offer (26000 ∷ []) (100 ∷ []))
     ∷ By 3 (Offer (26000 ∷ []) (0 ∷ []))
@@ -36,7 +37,8 @@ sample =
 
 -- the ledger is closed, and settling with the record's limit 100 and the replay's 192 bytes is accepted; P is 26,000 and Dem(P) 970, with no
 -- remainder (document 02, 4); the open totals are 920, 1,020, 1,070 and 1,170, of which three cover; the search keeps 1,070, then 1,020
--- (document 02, 3); the award is 1,020: 820 to developer 1 of project 1 and 200 to developer 3 of project 2
+-- (document 02, 3); the award is 1,020: 820 to developer 1 of project 1 and 200 to developer 3 of project 2, whose agent is small, so that
+-- participation is sufficient (document 02, 10)
 abbrev pub SampleSettled : Type 0
 SampleSettled =
     (ledger sample .phase ≡ Closed)
@@ -52,6 +54,8 @@ SampleSettled =
       kept = 2;
       second = 26000;
       short = false;
+      insufficient = false;
+      paid = 26000;
       records = (1 ∷ 1 ∷ 0 ∷ 0 ∷ 3 ∷ 52 ∷ []) ∷ (2 ∷ 3 ∷ 0 ∷ 0 ∷ 0 ∷ 200 ∷ []) ∷ [];
     })
     × (map (λ r. r .number) (answers sample) ≡ replicate 10 0)
@@ -67,5 +71,6 @@ unfolding oneTo keep total greatest lastOr any all leastFrom dem exactTimesCe re
     placed byFalling order lowest highest aboveBest setAside inTurn searched given found kept
     openBetween openToDeveloper openTo insert insertAll declaredBy openLevels row rows admissible coveringChoices keptChoices award preferred mostPreferred firstPreferred winner
     lodgedApplied takenOut remaining short secondPrice
+    existingPlants isSmall grantsFrom grants newAward newToSmall sufficient pricePaid
     recordsFrom records settlingNumber settlementAt settlement
 shown-jointly = (marked-cases, (refl, refl, refl, refl, refl, refl, refl))

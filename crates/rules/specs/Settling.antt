@@ -1,6 +1,6 @@
 -- The award records and the settling's answer (document 01, Closing price and award).
 use Prim.Native.Nat.{ℕ, suc, min, _*_, _/_, _%_}
-use mathlib.Core.Bool.{Bool, cond}
+use mathlib.Core.Bool.{Bool, cond, not}
 use mathlib.Core.List.{List, [], _∷_}
 use lib.Dec.{leb, eqb}
 use lib.ListN.{length}
@@ -10,6 +10,7 @@ use Rattle.rules.specs.Clearing.{demandAt, remainderAt, closingPrice}
 use Rattle.rules.specs.Refusals.{check, isClosed}
 use Rattle.rules.specs.Second.{short, secondPrice}
 use Rattle.rules.specs.Award.{admissible, coveringChoices, keptChoices, award, winner}
+use Rattle.rules.specs.Participation.{grants, sufficient, pricePaid}
 
 -- an award record, 6 bytes: project, developer, quantity with the high byte first
 abbrev pub recordOf : ℕ → ℕ → ℕ → List ℕ
@@ -31,7 +32,8 @@ settlingNumber l limit room =
     (check (leb (6 * length (records l (closingPrice l))) room) 11 0))
 
 -- P, Dem(P) with its remainder (document 02, 4), the award's total, the numbers of admissible, of covering and of kept choices, the second
--- price with its mark (document 02, 5), and the award records
+-- price with its mark (document 02, 5), the mark of insufficient participation and the price paid to existing plants (document 02, 10), and the
+-- award records
 pub record Settlement : Type 0 where
   pub price : ℕ
   pub demand : ℕ
@@ -42,6 +44,8 @@ pub record Settlement : Type 0 where
   pub kept : ℕ
   pub second : ℕ
   pub short : Bool
+  pub insufficient : Bool
+  pub paid : ℕ
   pub records : List (List ℕ)
 
 unfoldable pub settlementAt : Ledger → ℕ → Settlement
@@ -55,6 +59,8 @@ settlementAt l p = record {
   kept = keptChoices l p;
   second = secondPrice l;
   short = short l;
+  insufficient = not (sufficient l (grants l p));
+  paid = pricePaid l p (grants l p);
   records = records l p;
 }
 

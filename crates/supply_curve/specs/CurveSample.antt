@@ -5,7 +5,7 @@ use mathlib.Core.List.{List, [], _∷_, _++_, map, flatten}
 use Rattle.numbers.specs.Lists.{oneTo, keep, total, greatest, lastOr, any, all}
 use Rattle.numbers.specs.Falling.{placedOnce, distinctFalling}
 use Rattle.curve.specs.Demand.{dem, inBounds}
-use Rattle.rules.specs.Ledger.{Offer, Lodge, Call, SetUp, Register, Open, By, Close}
+use Rattle.rules.specs.Ledger.{Offer, Lodge, Own, Call, SetUp, Register, Open, By, Close}
 use Rattle.rules.specs.Clearing.{quantityAfter, high, low, developersOf, greatestOf, supply, covered}
 use Rattle.rules.specs.Refusals.{settingsOk, numbersOk, rising, levelsOk, mayJoin, declarationOk, openingPrice, closingOk, startCovered, isOfKind, falling, pricesOk, lowering, moveNumber, number}
 use Rattle.rules.specs.Rounds.{steps, withdrawsAll, reaches, reached, unreached, added, lastLevel, applied, supplyAfter, thousandths, clears, phaseAfter, moved, accepted, step, stepAll, ledger}
@@ -15,10 +15,10 @@ use Rattle.supply_curve.specs.Curve.{withdrawalPrices, Point, pointAt, s
 abbrev firstRound : List Call
 firstRound =
     SetUp (record { ce = 20000; d = 1000000; m1 = 900000; m2 = 1200000; a = 40000 })
-    ∷ Register 1 (record { project = 1; kind = 1; study = 0; day = 0; levels = 300000 ∷ 500000 ∷ [] })
-    ∷ Register 2 (record { project = 2; kind = 2; study = 0; day = 0; levels = 400000 ∷ 600000 ∷ [] })
-    ∷ Register 3 (record { project = 2; kind = 2; study = 0; day = 0; levels = 200000 ∷ [] })
-    ∷ Register 4 (record { project = 3; kind = 2; study = 0; day = 0; levels = 700000 ∷ [] })
+    ∷ Register 1 Own (record { project = 1; kind = 1; study = 0; day = 0; levels = 300000 ∷ 500000 ∷ [] })
+    ∷ Register 2 Own (record { project = 2; kind = 2; study = 0; day = 0; levels = 400000 ∷ 600000 ∷ [] })
+    ∷ Register 3 Own (record { project = 2; kind = 2; study = 0; day = 0; levels = 200000 ∷ [] })
+    ∷ Register 4 Own (record { project = 3; kind = 2; study = 0; day = 0; levels = 700000 ∷ [] })
     ∷ By 1 (Lodge (30000 ∷ []) (300000 ∷ []))
     ∷ Open 30000
     ∷ By 2 (Offer (36000 ∷ []) (400000 ∷ []))
