@@ -68,6 +68,7 @@ module _ (n : ℕ) (a : Auction) where
       cancel-taken = move-taken n Cancel a r (cancel-bounds .0) (cancel-bounds .1) (λ l s h. record {
         number = passes l s h;
         declared = refl;
+        agent = refl;
         quantity = refl;
         withdrawals = refl;
         history = history-next l s h;

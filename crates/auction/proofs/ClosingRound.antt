@@ -116,7 +116,7 @@ module _ (a : Auction) (b : Courses) (fs : List ℕ) (v : Curve) (f : Figures) (
 
     courses-after : applied-only ≡ auctionOf later
     unfolding applied
-    courses-after = courses-held a l (λ m. afterRound l (l .developers m)) h (λ m. refl) (after .0) (after .1) curve-after
+    courses-after = courses-held a l (λ m. afterRound l (l .developers m)) h (λ m. refl) (λ m. refl) (after .0) (after .1) curve-after
 
     held-closed : Taken Close closed (record { number = 0; excess = x; remainder = f .remainder }) l
     unfolding number granted accepted auctionOf

@@ -92,6 +92,7 @@ module _ (n : ℕ) (ps qs : List ℕ) (a : Auction) (tops : List ℕ) (highests 
       lodge-taken = move-taken n (Lodge ps qs) a r (lodge-bounds .0) (lodge-bounds .1) (λ l s h. record {
         number = passes l s h;
         declared = refl;
+        agent = refl;
         quantity = refl;
         withdrawals = refl;
         history = history-next l s h;

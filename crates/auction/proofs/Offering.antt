@@ -103,6 +103,7 @@ module _ (n : ℕ) (ps qs : List ℕ) (a : Auction) where
       offer-taken = move-taken n (Offer ps qs) a r (offer-bounds .0) (offer-bounds .1) (λ l s h. record {
         number = passes l s h;
         declared = refl;
+        agent = refl;
         quantity = refl;
         withdrawals = refl;
         history = history-next l s h;

@@ -3,7 +3,7 @@ use Prim.Native.Nat.{ℕ}
 use mathlib.Core.Path.{_≡_}
 use mathlib.Core.List.{List, [], _∷_, _++_}
 use lib.ListN.{length, getD}
-use Rattle.rules.specs.Ledger.{settingsOf, Call, SetUp, Register, Close}
+use Rattle.rules.specs.Ledger.{settingsOf, Agency, Own, Named, Call, SetUp, Register, Close}
 use Rattle.rules.specs.Rounds.{ledger, Answered, numberAlone, answer}
 use Rattle.rules.specs.Preview.{Previewed, preview, previewAlone}
 use Rattle.supply_curve.specs.Curve.{Point, supplyCurve, noPoint}
@@ -60,8 +60,16 @@ pub record ReadsCurve (a : Auction) (place : ℕ) (r : SupplyPoint) : Type 0 whe
 abbrev pub setsUp : ℕ → ℕ → ℕ → ℕ → ℕ → Call
 setsUp ce d m1 m2 a = SetUp (settingsOf ce d m1 m2 a)
 
+abbrev pub registersBy : Agency → ℕ → ℕ → ℕ → ℕ → ℕ → List ℕ → Call
+registersBy w k n kind study day ls = Register n w (record { project = k; kind = kind; study = study; day = day; levels = ls })
+
+-- the agent has the developer's number
 abbrev pub registers : ℕ → ℕ → ℕ → ℕ → ℕ → List ℕ → Call
-registers k n kind study day ls = Register n (record { project = k; kind = kind; study = study; day = day; levels = ls })
+registers = registersBy Own
+
+-- the agent g is named (document 02, 10)
+abbrev pub registersFor : ℕ → ℕ → ℕ → ℕ → ℕ → ℕ → List ℕ → Call
+registersFor k n kind g study day ls = registersBy (Named g) k n kind study day ls
 
 -- a refusal, with the auction as it was
 abbrev pub refusedAnswer : Auction → ℕ → Answer

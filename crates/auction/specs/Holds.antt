@@ -32,6 +32,7 @@ auctionOf l = record {
   closing = l .closing;
   projects = ofEach (λ x. x .declared .project) l;
   kinds = ofEach (λ x. x .declared .kind) l;
+  agents = ofEach (λ x. x .agent) l;
   studies = ofEach (λ x. x .declared .study) l;
   days = ofEach (λ x. x .declared .day) l;
   quantities = ofEach (λ x. x .quantity) l;

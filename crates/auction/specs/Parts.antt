@@ -28,6 +28,7 @@ withClock a phase settings opening closing = record {
   closing = closing;
   projects = a .projects;
   kinds = a .kinds;
+  agents = a .agents;
   studies = a .studies;
   days = a .days;
   quantities = a .quantities;
@@ -55,6 +56,7 @@ clock-held a l p s {o′ = o′} {c′ = c′} h en et eo ec = λ i. record {
   closing = ec i;
   projects = h i .projects;
   kinds = h i .kinds;
+  agents = h i .agents;
   studies = h i .studies;
   days = h i .days;
   quantities = h i .quantities;
@@ -73,6 +75,7 @@ withCourses a quantities histories curve = record {
   closing = a .closing;
   projects = a .projects;
   kinds = a .kinds;
+  agents = a .agents;
   studies = a .studies;
   days = a .days;
   quantities = quantities;
@@ -93,17 +96,18 @@ module _ (a : Auction) (l : Ledger) (f : ℕ → Developer) (h : a ≡ auctionOf
   keeps {A} g w = w ∙ ap (λ (k : ℕ → A). map k (oneTo 32)) (fun-ext (λ n. ap g (sym (e n))))
 
   pub courses-held :
-      {qs : List ℕ} {hs : List History} {k : Curve} →
+      ((n : ℕ) → f n .agent ≡ l .developers n .agent) → {qs : List ℕ} {hs : List History} {k : Curve} →
       qs ≡ ofEach (λ y. y .quantity) next → hs ≡ ofEach heldCourse next → k ≡ heldCurve (supplyCurve next) →
       withCourses a qs hs k ≡ auctionOf next
   unfolding auctionOf
-  courses-held eq eh ek = λ i. record {
+  courses-held eg eq eh ek = λ i. record {
     phase = h i .phase;
     settings = h i .settings;
     opening = h i .opening;
     closing = h i .closing;
     projects = keeps (λ y. y .project) (λ j. h j .projects) i;
     kinds = keeps (λ y. y .kind) (λ j. h j .kinds) i;
+    agents = (ap (λ (x : Auction). x .agents) h ∙ ap (λ (k : ℕ → ℕ). map k (oneTo 32)) (fun-ext (λ n. sym (eg n)))) i;
     studies = keeps (λ y. y .study) (λ j. h j .studies) i;
     days = keeps (λ y. y .day) (λ j. h j .days) i;
     quantities = eq i;

@@ -5,7 +5,7 @@ ghost use mathlib.Core.List.{[]};
 ghost use Rattle.rules.specs.Ledger.{Open, By, Offer, Lodge, Cancel};
 ghost use Rattle.rules.specs.Rounds.{ledger};
 ghost use Rattle.auction.specs.Holds.{auctionOf};
-ghost use Rattle.auction.specs.Called.{AnswersNumber, AnswersClosing, Previews, ReadsCurve, setsUp, registers, refusedAnswer};
+ghost use Rattle.auction.specs.Called.{AnswersNumber, AnswersClosing, Previews, ReadsCurve, setsUp, registers, registersFor, refusedAnswer};
 use clock::Settings;
 use history::History;
 use kept_curve::Curve;
@@ -19,6 +19,7 @@ pub struct Auction {
     pub closing: u32,
     pub projects: [u8; 32],
     pub kinds: [u8; 32],
+    pub agents: [u8; 32],
     pub studies: [u32; 32],
     pub days: [u32; 32],
     pub quantities: [u32; 32],
@@ -104,6 +105,7 @@ impl Auction {
             closing: 0,
             projects: [0; 32],
             kinds: [0; 32],
+            agents: [0; 32],
             studies: [0; 32],
             days: [0; 32],
             quantities: [0; 32],
@@ -149,7 +151,7 @@ impl Auction {
         }
     }
 
-    // Checks: 2, 3, 4.
+    // The agent has the developer's number. Checks: 2, 3, 4.
     pub fn register(
         self,
         project: u8,
@@ -161,22 +163,43 @@ impl Auction {
     ) -> Answer
         ensures { λ r. ⌜ AnswersNumber (registers project developer kind study day (now (levels .entry))) self r ⌝ }
     {
-        if self.phase != Auction::READY {
-            return self.refused(2);
-        }
+        self.register_for(project, developer, kind, developer, study, day, levels)
+    }
+
+    // A registration that names its agent (document 02, 10). Checks: 2, 3, 4.
+    pub fn register_for(
+        self,
+        project: u8,
+        developer: u8,
+        kind: u8,
+        agent: u8,
+        study: u32,
+        day: u32,
+        levels: &[u32],
+    ) -> Answer
+        ensures { λ r. ⌜ AnswersNumber (registersFor project developer kind agent study day (now (levels .entry))) self r ⌝ }
+    {
         let projects = self.projects;
         let kinds = self.kinds;
-        if !checks::numbers_ok(projects, project, developer) {
-            return self.refused(3);
-        }
-        if !checks::declaration_ok(projects, kinds, project, kind, levels) {
-            return self.refused(4);
+        let number = registrations::registration_number(
+            self.phase,
+            projects,
+            kinds,
+            project,
+            developer,
+            kind,
+            agent,
+            levels,
+        );
+        if number != 0 {
+            return self.refused(number);
         }
         let i = (developer - 1) as usize;
         let declared = Levels::copied(levels);
         let mut next = self;
         next.projects[i] = project;
         next.kinds[i] = kind;
+        next.agents[i] = agent;
         next.studies[i] = study;
         next.days[i] = day;
         next.quantities[i] = declared.highest();

@@ -29,6 +29,7 @@ returns c = λ i. record {
   closing = 0;
   projects = fresh-places (λ x. x .declared .project) 0 refl i;
   kinds = fresh-places (λ x. x .declared .kind) 0 refl i;
+  agents = fresh-places (λ x. x .agent) 0 refl i;
   studies = fresh-places (λ x. x .declared .study) 0 refl i;
   days = fresh-places (λ x. x .declared .day) 0 refl i;
   quantities = fresh-places (λ x. x .quantity) 0 refl i;
