@@ -1,31 +1,16 @@
--- What the code's tests of one project and one developer say: the values of `awardedLevel`, `mayGet` and `foremost`.
+-- What the code's tests of a developer say: the values of `mayGet` and `foremost`.
 use Prim.Native.Nat.{ℕ, suc, _+_, _-_, _≤_, _<_}
-use mathlib.Core.Path.{_≡_, sym, ap, _∙_}
+use mathlib.Core.Path.{_≡_, _∙_}
 use mathlib.Core.Bool.{Bool, true, false, cond, and-true, and-false}
-use mathlib.Core.List.{List, _∷_}
+use mathlib.Core.List.{List}
 use native.Mathlib.Omega.{arith}
 use native.Mathlib.Numerals.{add-one}
 use lib.Dec.{ltb}
-use lib.ListN.{length, getD, List·getD-eq-default}
+use lib.ListN.{getD}
 use borrow.Author.Tests.{le-leb, lt-leb, lt-ltb, le-ltb, eq-eqb, ne-eqb}
 use Rattle.numbers.specs.Lists.{member}
 use Rattle.rules.specs.Award.{openBetween}
-use Rattle.awarding.specs.Choosing.{awardedLevel, mayGet, preferredAt, foremost}
-
--- ---- the level awarded to project k
-
-module _ (award : List ℕ) (k : ℕ) where
-  pub awarded-none : k < 1 → 0 ≡ awardedLevel award k
-  unfolding awardedLevel
-  awarded-none h = let e : k ≡ 0 = omega arith in rw e
-
-  pub awarded-beyond : length award ≡ 32 → 32 < k → 0 ≡ awardedLevel award k
-  unfolding awardedLevel
-  awarded-beyond e h = sym (List·getD-eq-default (0 ∷ award) 0 {n = k} (omega arith))
-
-  pub awarded-at : 1 ≤ k → getD award (k - 1) 0 ≡ awardedLevel award k
-  unfolding awardedLevel
-  awarded-at h = let e : suc (k - 1) ≡ k = omega arith in ap (λ (n : ℕ). getD (0 ∷ award) n 0) e
+use Rattle.awarding.specs.Choosing.{mayGet, preferredAt, foremost}
 
 -- ---- a level above 0 that is open
 

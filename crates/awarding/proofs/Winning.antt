@@ -14,6 +14,7 @@ use lib.ListN.{length, getD, set, replicate, getD-replicate, length-set}
 use lib.Seq.{ext-getD, getD-set-same, getD-set-other, take-append-seam}
 use borrow.Author.Tests.{eq-eqb, ne-eqb}
 use Rattle.numbers.specs.Cases.{le-or-lt, clash}
+use Rattle.numbers.specs.Numbered.{atNumber, no-number, number-beyond}
 use Rattle.numbers.specs.ListLaws.{numbered-nth}
 use Rattle.rules.specs.Ledger.{Ledger}
 use Rattle.rules.specs.Clearing.{high, low}
@@ -22,8 +23,8 @@ use Rattle.levels.specs.Held.{noLevels, heldLevels, levelsIn}
 use Rattle.levels.specs.declared.Levels.{Levels}
 use Rattle.awarding.specs.Awarding.{winnersFrom, Arrays, Winners}
 use Rattle.awarding.specs.AwardingLaws.{winners-length}
-use Rattle.awarding.specs.Choosing.{awardedLevel, mayGet, preferredAt, foremost}
-use Rattle.awarding.proofs.Preferring.{awarded-none, awarded-beyond, no-level}
+use Rattle.awarding.specs.Choosing.{mayGet, preferredAt, foremost}
+use Rattle.awarding.proofs.Preferring.{no-level}
 use Rattle.awarding.proofs.Candidates.{better, chosen, chosen-first, getsIt, chosen-more, chosen-all}
 
 -- ---- the arrays' places
@@ -61,19 +62,19 @@ winners-at l p k (v ∷ vs) (suc j) h = winners-at l p (suc k) vs j (omega arith
 
 -- it may get the level of its project
 abbrev pub gets : List ℕ → List Levels → List ℕ → List ℕ → List ℕ → ℕ → Bool
-gets ps xs ls hs award i = mayGet (levelsIn (getD xs i noLevels)) (getD ls i 0) (getD hs i 0) (awardedLevel award (getD ps i 0))
+gets ps xs ls hs award i = mayGet (levelsIn (getD xs i noLevels)) (getD ls i 0) (getD hs i 0) (atNumber award (getD ps i 0))
 
 -- then its project has a number from 1 to 32
 pub gets-place :
     (ps : List ℕ) (xs : List Levels) (ls hs award : List ℕ) (i : ℕ) → length award ≡ 32 → gets ps xs ls hs award i ≡ true →
     (1 ≤ getD ps i 0) × (getD ps i 0 ≤ 32)
 gets-place ps xs ls hs award i e t = (
-  ⊎-elim (λ h. h) (λ h. never (sym (awarded-none award (getD ps i 0) h))) (le-or-lt 1 (getD ps i 0)),
-  ⊎-elim (λ h. h) (λ h. never (sym (awarded-beyond award (getD ps i 0) e h))) (le-or-lt (getD ps i 0) 32),
+  ⊎-elim (λ h. h) (λ h. never (sym (no-number award (getD ps i 0) h))) (le-or-lt 1 (getD ps i 0)),
+  ⊎-elim (λ h. h) (λ h. never (sym (number-beyond award (getD ps i 0) e h))) (le-or-lt (getD ps i 0) 32),
 )
   where
-    never : {X : Type 0} → awardedLevel award (getD ps i 0) ≡ 0 → X
-    never z = absurd (clash t (sym (no-level _ _ _ (awardedLevel award (getD ps i 0)) (omega arith))))
+    never : {X : Type 0} → atNumber award (getD ps i 0) ≡ 0 → X
+    never z = absurd (clash t (sym (no-level _ _ _ (atNumber award (getD ps i 0)) (omega arith))))
 
 -- ---- the loop before developer i + 1
 
@@ -118,11 +119,11 @@ module _ (ps ss ds : List ℕ) (xs : List Levels) (ls hs award : List ℕ) where
         project = l .developers (suc i) .declared .project
 
         test-is : eqb (getD ps i 0) (suc j) && passes ≡ eqb project (suc j) && getsIt l p (getD award j 0) (suc i)
-        unfolding awardedLevel project
+        unfolding atNumber project
         test-is = rw (project-is l p ps ss ds xs ls hs a i h, gets-is l p ps ss ds xs ls hs a i h) (go (decEq project (suc j)))
           where
-            go : Dec (project ≡ suc j) → eqb project (suc j) && getsIt l p (awardedLevel award project) (suc i) ≡ eqb project (suc j) && getsIt l p (getD award j 0) (suc i)
-            go (yes e) = ap (λ (k : ℕ). eqb project (suc j) && getsIt l p (awardedLevel award k) (suc i)) e
+            go : Dec (project ≡ suc j) → eqb project (suc j) && getsIt l p (atNumber award project) (suc i) ≡ eqb project (suc j) && getsIt l p (getD award j 0) (suc i)
+            go (yes e) = ap (λ (k : ℕ). eqb project (suc j) && getsIt l p (atNumber award k) (suc i)) e
             go (no n) = rw (ne-eqb project (suc j) n)
 
         next-is : j < 32 → next j ≡ chosen l p (suc j) (getD award j 0) (suc i)

@@ -1,14 +1,10 @@
 -- The tests by which the developer of a level is found, over the numbers as the engine holds them: developer n stands at place n - 1.
 use Prim.Native.Nat.{ℕ, suc, _-_}
 use mathlib.Core.Bool.{Bool, cond, _&&_, _||_}
-use mathlib.Core.List.{List, _∷_}
+use mathlib.Core.List.{List}
 use lib.Dec.{ltb, eqb}
 use lib.ListN.{getD}
 use Rattle.rules.specs.Award.{openBetween}
-
--- the level of project k; 0 where k is not from 1 to 32
-unfoldable pub awardedLevel : List ℕ → ℕ → ℕ
-awardedLevel award k = getD (0 ∷ award) k 0
 
 -- level v is above 0, and open to a developer with these levels, low and high
 unfoldable pub mayGet : List ℕ → ℕ → ℕ → ℕ → Bool

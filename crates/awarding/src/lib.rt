@@ -1,9 +1,10 @@
 // The developers that get the awarded levels.
 ghost use mathlib.Core.Path.{_≡_};
 ghost use Prim.Native.Nat.{_<_, _≤_};
+ghost use Rattle.numbers.specs.Numbered.{atNumber};
 ghost use Rattle.levels.specs.Held.{levelsIn};
 ghost use Rattle.awarding.specs.Awarding.{Winners};
-ghost use Rattle.awarding.specs.Choosing.{awardedLevel, mayGet, foremost};
+ghost use Rattle.awarding.specs.Choosing.{mayGet, foremost};
 use levels::Levels;
 
 // The developer of each awarded level: of those to whom it is open the one with the highest study value, then the earliest start day,
@@ -35,7 +36,7 @@ pub fn winners(
 
 // The level awarded to project k; 0 where k is no project's number.
 fn awarded(award: [u32; 32], k: usize) -> u32
-    ensures { λ r. ⌜ r ≡ awardedLevel award k ⌝ }
+    ensures { λ r. ⌜ r ≡ atNumber award k ⌝ }
 {
     if k < 1 {
         return 0;

@@ -1,7 +1,7 @@
 -- From what the parts of settling ensure to the ledger's settlement: each refusal in its order, and the accepted answer with its records.
 use Prim.Native.Nat.{ℕ, suc, min, _*_, _≤_, _<_}
 use mathlib.Core.Path.{_≡_, refl, sym, ap, ap₂, _∙_, subst}
-use mathlib.Core.Bool.{Bool, true, false, cond}
+use mathlib.Core.Bool.{Bool, true, false, cond, not}
 use mathlib.Core.List.{List, [], flatten}
 use native.Mathlib.Omega.{arith}
 use lib.Dec.{eqb, leb}
@@ -17,12 +17,13 @@ use Rattle.rules.specs.Refusals.{isClosed}
 use Rattle.rules.specs.Rounds.{ledger}
 use Rattle.rules.specs.Award.{rows, admissible, coveringChoices, keptChoices, award}
 use Rattle.rules.specs.Second.{short, secondPrice}
+use Rattle.rules.specs.Participation.{grantsFrom, grants, sufficient, pricePaid}
 use Rattle.rules.specs.Settling.{recordsFrom, records, settlingNumber, settlementAt, settlement}
 use Rattle.sound.specs.Sound.{Sound, started}
 use Rattle.sound.specs.Parts.{whole}
 use Rattle.clearing.specs.ClosingPrice.{closed-started, settings-facts, passed-in-range, closing-price}
 use Rattle.reachable.specs.Reachable.{sound}
-use Rattle.awards.specs.AwardLaws.{some-cover}
+use Rattle.awards.specs.AwardLaws.{some-cover, award-length}
 use Rattle.supply.specs.ByProject.{supplyOf}
 use Rattle.supply.specs.ByProjectLaws.{supply-of}
 use Rattle.auction.specs.Holds.{phaseNumber, auctionOf, Holding}
@@ -39,7 +40,9 @@ use Rattle.table.specs.declared.Table.{Table}
 use Rattle.open_levels.specs.Tabled.{Tabled}
 use Rattle.selection.specs.Selection.{selectedOf, Selects}
 use Rattle.selection.specs.declared.Selected.{Selected}
-use Rattle.awarding.specs.Awarding.{Winners}
+use Rattle.awarding.specs.Awarding.{winnersFrom, Winners}
+use Rattle.participation.specs.Judged.{insufficientBy, paidBy}
+use Rattle.participation.specs.JudgedLaws.{insufficient-of, paid-of}
 use Rattle.award_records.specs.Records.{awardCount, recordsOf}
 use Rattle.numbers.specs.Tails.{laid, length-laid, behind-laid}
 use Rattle.award_records.specs.RecordLaws.{records-few, flat-length}
@@ -95,6 +98,7 @@ pub record Computed (a : Auction) (limit p demand remainder : ℕ) (lows highs :
 pub record Known (l : Ledger) (limit p demand remainder : ℕ) (lows highs : List ℕ) (t : Second) (s : Selected) : Type 0 where
   pub closed : isClosed (l .phase) ≡ true
   pub price : p ≡ closingPrice l
+  pub covers : covered l p ≡ true
   pub lows-are : lows ≡ ofEach (low p) l
   pub highs-are : highs ≡ ofEach (high p) l
   pub demand-is : demand ≡ demandAt l p
@@ -108,6 +112,7 @@ unfolding auctionOf demandBy remainderBy high low coveringChoices admissible
 known a limit p demand remainder lows highs t s c l snd h = record {
   closed = closed;
   price = price;
+  covers = covers;
   lows-are = lows-are;
   highs-are = highs-are;
   demand-is = demand-at;
@@ -164,8 +169,11 @@ known a limit p demand remainder lows highs t s c l snd h = record {
     lays : Lays (c .table) (rows l p)
     lays = c .tabled .right l p snd (ap (λ (x : Auction). x .projects) h) (ap (λ (x : Auction). x .declared) h) lows-are highs-are
 
+    covers : covered l p ≡ true
+    covers = subst (λ (q : ℕ). covered l q ≡ true) (sym price) (closing-price l snd began .passes)
+
     some : covering (demandAt l p) (choices (rows l p)) ≡ [] → ⊥
-    some = some-cover l p snd (subst (λ (q : ℕ). covered l q ≡ true) (sym price) (closing-price l snd began .passes))
+    some = some-cover l p snd covers
 
 -- ---- the selection's two answers
 
@@ -239,8 +247,8 @@ module _ (a : Auction) (limit p demand remainder : ℕ) (lows highs : List ℕ) 
         let e = records-at l snd h in
         simp (k l snd h .closed, limit-kept l snd h, lt-leb (6 * length (records l (closingPrice l))) (length old) (omega arith)))
 
-    abbrev pub accepted : Settled
-    accepted = record {
+    abbrev pub accepted : Bool → ℕ → Settled
+    accepted mark paid = record {
       number = 0;
       price = p;
       demand = demand;
@@ -251,56 +259,83 @@ module _ (a : Auction) (limit p demand remainder : ℕ) (lows highs : List ℕ) 
       kept = s .kept;
       second = t .price;
       short = t .short;
+      insufficient = mark;
+      paid = paid;
       records = n;
     }
 
-    module _ (room : 6 * n ≤ length old) (ns new : List ℕ) (won : Winners (a .projects) (a .studies) (a .days) (a .declared) lows highs (s .award) ns) (written : new ≡ laid (flatten (recordsOf 1 (s .award) ns)) old) where
-      abbrev given : List (List ℕ)
-      given = recordsOf 1 (s .award) ns
+    module _
+        (room : 6 * n ≤ length old) (ns new : List ℕ) (mark : Bool) (paid : ℕ)
+        (won : Winners (a .projects) (a .studies) (a .days) (a .declared) lows highs (s .award) ns)
+        (judged : mark ≡ insufficientBy (a .settings .d) (a .agents) (a .kinds) (c .highest) (s .award) ns)
+        (to-pay : paid ≡ paidBy mark (a .settings .ce) p)
+        (written : new ≡ laid (flatten (recordsOf 1 (s .award) ns)) old)
+      where
+        abbrev given : List (List ℕ)
+        given = recordsOf 1 (s .award) ns
 
-      flat : length (flatten given) ≤ 6 * n
-      flat = omega (arith, flat-length 1 (s .award) ns, records-few 1 (s .award) ns, counted)
+        flat : length (flatten given) ≤ 6 * n
+        flat = omega (arith, flat-length 1 (s .award) ns, records-few 1 (s .award) ns, counted)
 
-      records-written : (l : Ledger) → Sound l → a ≡ auctionOf l → recordsOf 1 (s .award) ns ≡ records l p
-      unfolding auctionOf records
-      records-written l snd h =
-          ap (λ (r : List ℕ). recordsOf 1 (s .award) r)
-          (won .right l p snd (record {
-            projects = ap (λ (x : Auction). x .projects) h;
-            studies = ap (λ (x : Auction). x .studies) h;
-            days = ap (λ (x : Auction). x .days) h;
-            declared = ap (λ (x : Auction). x .declared) h;
-            lows = k l snd h .lows-are;
-            highs = k l snd h .highs-are;
-          }))
-          ∙ records-are l p 1 (s .award)
-          ∙ ap (recordsFrom l p 1) (award-is l snd h)
+        winners-are : Holding a (λ l. ns ≡ winnersFrom l p 1 (s .award))
+        unfolding auctionOf
+        winners-are l snd h = won .right l p snd (record {
+          projects = ap (λ (x : Auction). x .projects) h;
+          studies = ap (λ (x : Auction). x .studies) h;
+          days = ap (λ (x : Auction). x .days) h;
+          declared = ap (λ (x : Auction). x .declared) h;
+          lows = k l snd h .lows-are;
+          highs = k l snd h .highs-are;
+        })
 
-      settled-is : (l : Ledger) → Sound l → a ≡ auctionOf l → accepted ≡ settledAs (settlementAt l p)
-      unfolding settlementAt award coveringChoices keptChoices admissible
-      settled-is l snd h = λ i. record {
-        number = 0;
-        price = p;
-        demand = k l snd h .demand-is i;
-        remainder = k l snd h .remainder-is i;
-        total = w l snd h .0 i .total;
-        choices = w l snd h .0 i .choices;
-        covering = w l snd h .0 i .covering;
-        kept = w l snd h .0 i .kept;
-        second = k l snd h .second-is i;
-        short = k l snd h .short-is i;
-        records = sym (records-are-n l snd h) i;
-      }
+        records-written : Holding a (λ l. recordsOf 1 (s .award) ns ≡ records l p)
+        unfolding records
+        records-written l snd h =
+            ap (λ (r : List ℕ). recordsOf 1 (s .award) r) (winners-are l snd h)
+            ∙ records-are l p 1 (s .award)
+            ∙ ap (recordsFrom l p 1) (award-is l snd h)
 
-      pub settle-accepted : Settles a limit old new accepted
-      unfolding settlingNumber admissible settlement settlementAt records
-      settle-accepted = record {
-        same = λ f. absurd (f refl);
-        behind = (ap length written ∙ length-laid (flatten given) old (omega (arith, flat)), ap (drop (6 * n)) written ∙ behind-laid (flatten given) old (6 * n) flat);
-        number = λ cs h.
-            let l = ledger cs in
-            let e = records-at l (sound cs) h in
-            sym (simp (k l (sound cs) h .closed, limit-kept l (sound cs) h, le-leb (6 * length (records l (closingPrice l))) (length old) (omega arith)));
-        answer = λ cs h _. settled-is (ledger cs) (sound cs) h ∙ ap (λ (q : ℕ). settledAs (settlementAt (ledger cs) q)) (k (ledger cs) (sound cs) h .price);
-        buffer = λ cs h _. written ∙ ap (λ (rs : List (List ℕ)). laid (flatten rs) old) (records-written (ledger cs) (sound cs) h) ∙ ap (λ (q : ℕ). laid (flatten (settlementAt (ledger cs) q .records)) old) (k (ledger cs) (sound cs) h .price);
-      }
+        mark-is : Holding a (λ l. mark ≡ not (sufficient l (grants l p)))
+        unfolding auctionOf grants
+        mark-is l snd h =
+            let firsts : c .highest ≡ ofEach Rattle.rules.specs.Clearing.highest l = c .highests .right l snd (ap (λ (x : Auction). x .declared) h) in
+            judged
+            ∙ ap (λ (x : Auction). insufficientBy (x .settings .d) (x .agents) (x .kinds) (c .highest) (s .award) ns) h
+            ∙ ap₂ (λ (xs ws : List ℕ). insufficientBy (l .settings .d) (ofEach (λ x. x .agent) l) (ofEach (λ x. x .declared .kind) l) xs (s .award) ws) firsts (winners-are l snd h)
+            ∙ insufficient-of l snd p (s .award) (ap length (award-is l snd h) ∙ award-length l p snd (k l snd h .covers))
+            ∙ ap (λ (vs : List ℕ). not (sufficient l (grantsFrom l p 1 vs))) (award-is l snd h)
+
+        paid-is : Holding a (λ l. paid ≡ pricePaid l p (grants l p))
+        unfolding auctionOf
+        paid-is l snd h = to-pay ∙ ap₂ (λ (b : Bool) (x : Auction). paidBy b (x .settings .ce) p) (mark-is l snd h) h ∙ paid-of l p (grants l p)
+
+        settled-is : Holding a (λ l. accepted mark paid ≡ settledAs (settlementAt l p))
+        unfolding settlementAt award coveringChoices keptChoices admissible
+        settled-is l snd h = λ i. record {
+          number = 0;
+          price = p;
+          demand = k l snd h .demand-is i;
+          remainder = k l snd h .remainder-is i;
+          total = w l snd h .0 i .total;
+          choices = w l snd h .0 i .choices;
+          covering = w l snd h .0 i .covering;
+          kept = w l snd h .0 i .kept;
+          second = k l snd h .second-is i;
+          short = k l snd h .short-is i;
+          insufficient = mark-is l snd h i;
+          paid = paid-is l snd h i;
+          records = sym (records-are-n l snd h) i;
+        }
+
+        pub settle-accepted : Settles a limit old new (accepted mark paid)
+        unfolding settlingNumber admissible settlement settlementAt records
+        settle-accepted = record {
+          same = λ f. absurd (f refl);
+          behind = (ap length written ∙ length-laid (flatten given) old (omega (arith, flat)), ap (drop (6 * n)) written ∙ behind-laid (flatten given) old (6 * n) flat);
+          number = λ cs h.
+              let l = ledger cs in
+              let e = records-at l (sound cs) h in
+              sym (simp (k l (sound cs) h .closed, limit-kept l (sound cs) h, le-leb (6 * length (records l (closingPrice l))) (length old) (omega arith)));
+          answer = λ cs h _. settled-is (ledger cs) (sound cs) h ∙ ap (λ (q : ℕ). settledAs (settlementAt (ledger cs) q)) (k (ledger cs) (sound cs) h .price);
+          buffer = λ cs h _. written ∙ ap (λ (rs : List (List ℕ)). laid (flatten rs) old) (records-written (ledger cs) (sound cs) h) ∙ ap (λ (q : ℕ). laid (flatten (settlementAt (ledger cs) q .records)) old) (k (ledger cs) (sound cs) h .price);
+        }

@@ -14,7 +14,7 @@ use Rattle.settling.specs.declared.Settled.{Settled}
 
 -- a refusal: its number, every other number 0
 abbrev pub refusedWith : ℕ → Settled
-refusedWith n = record { number = n; price = 0; demand = 0; remainder = 0; total = 0; choices = 0; covering = 0; kept = 0; second = 0; short = false; records = 0 }
+refusedWith n = record { number = n; price = 0; demand = 0; remainder = 0; total = 0; choices = 0; covering = 0; kept = 0; second = 0; short = false; insufficient = false; paid = 0; records = 0 }
 
 -- an acceptance, in the numbers of the settlement
 abbrev pub settledAs : Settlement → Settled
@@ -29,6 +29,8 @@ settledAs s = record {
   kept = s .kept;
   second = s .second;
   short = s .short;
+  insufficient = s .insufficient;
+  paid = s .paid;
   records = length (s .records);
 }
 

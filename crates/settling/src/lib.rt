@@ -4,8 +4,9 @@ ghost use mathlib.Core.Path.{_≡_};
 use auction::Auction;
 
 // The answer: 0 or a refusal's number; P, Dem(P) with its remainder (document 02, 4), the award's total, the numbers of admissible choices, of
-// covering ones and of those that the search keeps (document 02, 3), the second price and whether it is short (document 02, 5), and the number of
-// award records. A refusal has 0 in every other place.
+// covering ones and of those that the search keeps (document 02, 3), the second price and whether it is short (document 02, 5), whether
+// participation is insufficient and the price paid to existing plants (document 02, 10), and the number of award records. A refusal has 0 in every
+// other place.
 pub struct Settled {
     pub number: u8,
     pub price: u32,
@@ -17,6 +18,8 @@ pub struct Settled {
     pub kept: u64,
     pub second: u32,
     pub short: bool,
+    pub insufficient: bool,
+    pub paid: u32,
     pub records: usize,
 }
 
@@ -34,6 +37,8 @@ fn refused(number: u8) -> Settled
         kept: 0,
         second: 0,
         short: false,
+        insufficient: false,
+        paid: 0,
         records: 0,
     }
 }
@@ -70,7 +75,12 @@ pub fn settle(auction: Auction, limit: u32, awards: &mut [u8]) -> Settled
     }
     let studies = auction.studies;
     let days = auction.days;
+    let kinds = auction.kinds;
+    let agents = auction.agents;
     let winners = awarding::winners(projects, studies, days, declared, lows, highs, award);
+    let d = settings.d;
+    let insufficient = participation::insufficient(d, agents, kinds, highest, award, winners);
+    let paid = participation::price_paid(insufficient, settings.ce, p);
     award_records::write_awards(awards, award, winners);
     Settled {
         number: 0,
@@ -83,6 +93,8 @@ pub fn settle(auction: Auction, limit: u32, awards: &mut [u8]) -> Settled
         kept: selected.kept,
         second: second.price,
         short: second.short,
+        insufficient: insufficient,
+        paid: paid,
         records: records,
     }
 }

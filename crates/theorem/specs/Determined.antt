@@ -44,6 +44,8 @@ accepted-is l old new r z a =
       kept = a .kept i;
       second = a .second i;
       short = a .short i;
+      insufficient = a .insufficient i;
+      paid = a .paid i;
       records = a .count i;
     }
 

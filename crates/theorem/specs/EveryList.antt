@@ -11,24 +11,27 @@ use Rattle.rules.specs.Ledger.{Offer, Lodge, Cancel, Call, Open, By, Close}
 use Rattle.rules.specs.Rounds.{ledger, Answered, answersFrom, answers}
 use Rattle.reachable.specs.Steps.{answers-snoc}
 use Rattle.auction.specs.Holds.{auctionOf}
-use Rattle.auction.specs.Called.{Called, numberIn, closingIn, setsUp, registers}
+use Rattle.auction.specs.Called.{Called, numberIn, closingIn, setsUp, registers, registersFor}
 use Rattle.auction.specs.declared.Auction.{Auction}
 use Rattle.auction.specs.declared.Answer.{Answer}
 use Rattle.auction.specs.declared.Closing.{Closing}
 use Rattle.auction.proofs.Auction.new.Reads as new
 use Rattle.auction.proofs.Auction.set_up.Reads as set-up
 use Rattle.auction.proofs.Auction.register.Reads as registration
+use Rattle.auction.proofs.Auction.register_for.Reads as registration-for
 use Rattle.auction.proofs.Auction.open.Reads as opening
 use Rattle.auction.proofs.Auction.offer.Reads as offering
 use Rattle.auction.proofs.Auction.lodge.Reads as lodging
 use Rattle.auction.proofs.Auction.cancel.Reads as cancelling
 use Rattle.auction.proofs.Auction.close.Reads as closing
 use Rattle.auction.proofs.Auction.register.{signature as register-signature}
+use Rattle.auction.proofs.Auction.register_for.{signature as register-for-signature}
 use Rattle.auction.proofs.Auction.offer.{signature as offer-signature}
 use Rattle.auction.proofs.Auction.lodge.{signature as lodge-signature}
 use Rattle.auction.proofs.Auction.new.Statement as new-states
 use Rattle.auction.proofs.Auction.set_up.Statement as set-up-states
 use Rattle.auction.proofs.Auction.register.Statement as register-states
+use Rattle.auction.proofs.Auction.register_for.Statement as register-for-states
 use Rattle.auction.proofs.Auction.open.Statement as open-states
 use Rattle.auction.proofs.Auction.offer.Statement as offer-states
 use Rattle.auction.proofs.Auction.lodge.Statement as lodge-states
@@ -39,6 +42,7 @@ use Rattle.auction.proofs.Auction.supply_point.Statement as supply-point-states
 use Rattle.auction.proofs.Auction.new.Met as new-met
 use Rattle.auction.proofs.Auction.set_up.Met as set-up-met
 use Rattle.auction.proofs.Auction.register.Met as register-met
+use Rattle.auction.proofs.Auction.register_for.Met as register-for-met
 use Rattle.auction.proofs.Auction.open.Met as open-met
 use Rattle.auction.proofs.Auction.offer.Met as offer-met
 use Rattle.auction.proofs.Auction.lodge.Met as lodge-met
@@ -57,6 +61,11 @@ pub data Made : Call → Auction → Answered → Auction → Type 0 where
   registers-one :
       (κs : Lfts 1) (x : ArgsD register-signature κs) (r : Answer) → registration.Post κs x r x →
       Made (registers (x .1 .0) (x .1 .1 .0) (x .1 .1 .1 .0) (x .1 .1 .1 .1 .0) (x .1 .1 .1 .1 .1 .0) (now (x .1 .1 .1 .1 .1 .1 .0))) (x .0) (numberIn r) (r .auction)
+  -- the same with the agent behind the kind (document 02, 10)
+  registers-for :
+      (κs : Lfts 1) (x : ArgsD register-for-signature κs) (r : Answer) → registration-for.Post κs x r x →
+      Made (registersFor (x .1 .0) (x .1 .1 .0) (x .1 .1 .1 .0) (x .1 .1 .1 .1 .0) (x .1 .1 .1 .1 .1 .0) (x .1 .1 .1 .1 .1 .1 .0) (now (x .1 .1 .1 .1 .1 .1 .1 .0)))
+      (x .0) (numberIn r) (r .auction)
   opens : {a : Auction} (c : ℕ) (r : Answer) → opening.Post tt (a, (c, tt)) r (a, (c, tt)) → Made (Open c) a (numberIn r) (r .auction)
   -- the arguments x: the auction, developer, prices, levels
   offers :
@@ -72,6 +81,7 @@ pub data Made : Call → Auction → Answered → Auction → Type 0 where
 pub by-contract : {c : Call} {a b : Auction} {r : Answered} → Made c a r b → Called c a b r
 by-contract (sets-up ce d m1 m2 a₀ r s) = s
 by-contract (registers-one κs x r s) = s
+by-contract (registers-for κs x r s) = s
 by-contract (opens c r s) = s
 by-contract (offers κs x r s) = s
 by-contract (lodges κs x r s) = s
@@ -97,6 +107,7 @@ pub record EveryList (M : Type 1) : Type 2 where
   pub new-meets : new-states.statement M
   pub set-up-meets : set-up-states.statement M
   pub register-meets : register-states.statement M
+  pub register-for-meets : register-for-states.statement M
   pub open-meets : open-states.statement M
   pub offer-meets : offer-states.statement M
   pub lodge-meets : lodge-states.statement M
@@ -112,6 +123,7 @@ every-list = record {
   new-meets = new-met.met;
   set-up-meets = set-up-met.met;
   register-meets = register-met.met;
+  register-for-meets = register-for-met.met;
   open-meets = open-met.met;
   offer-meets = offer-met.met;
   lodge-meets = lodge-met.met;

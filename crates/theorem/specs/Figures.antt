@@ -1,14 +1,14 @@
 -- How large the figures of a reply are, of a sound ledger: a closing's excess, a settling's price, demand, total, counts and award records, and
 -- the remainder of either.
 use Prim.Native.Nat.{ℕ, suc, min, _+_, _-_, _*_, _^_, _≤_, _<_}
-use mathlib.Core.Path.{_≡_, refl, sym, ap, subst, _∙_}
+use mathlib.Core.Path.{_≡_, refl, sym, ap, subst}
 use mathlib.Core.Logic.{⊎-elim}
 use mathlib.Core.Bool.{Bool, true, false, cond}
 use mathlib.Core.List.{List, [], _∷_, map, List·Memᴰ, List·Memᴰ·not-nil, List·Memᴰ·cases-cons}
 use native.Mathlib.Omega.{arith}
 use lib.Dec.{leb, ltb, eqb}
 use lib.IntN.{pos, negsuc, _-ℤ_}
-use lib.ListN.{length, getD, length-map}
+use lib.ListN.{length, getD}
 use borrow.Author.Tests.{leb-true, lt-ltb, le-ltb, eqb-false}
 use Rattle.numbers.specs.Lists.{oneTo, total}
 use Rattle.numbers.specs.Least.{Least}
@@ -16,14 +16,14 @@ use Rattle.numbers.specs.ListLaws.{Each, in-keep, in-one-to, length-one-to, tot
 use Rattle.curve.specs.Range.{dem-range}
 use Rattle.curve.specs.RemainderLaws.{remainder-below-ce}
 use Rattle.curve.specs.Signs.{minus}
-use Rattle.choices.specs.Count.{choice-length}
 use Rattle.rules.specs.Ledger.{Developer, Close, Ledger}
 use Rattle.rules.specs.Clearing.{high, developersOf, greatestOf, supply, demandAt, remainderAt, covered, closingPrice}
 use Rattle.rules.specs.Refusals.{check, isClosed, number}
 use Rattle.rules.specs.Rounds.{accepted, supplyAfter, excess}
 use Rattle.rules.specs.RoundLaws.{supply-after-closing}
 use Rattle.rules.specs.CheckLaws.{declared-or-zero, level-in-bounds}
-use Rattle.rules.specs.Award.{openTo, rows, admissible, coveringChoices, award, winner}
+use Rattle.rules.specs.Award.{openTo, admissible, coveringChoices, award, winner}
+use Rattle.rules.specs.Participation.{grants, pricePaid}
 use Rattle.rules.specs.Settling.{recordOf, recordsFrom, records, settlingNumber}
 use Rattle.sound.specs.Sound.{started, Sound}
 use Rattle.clearing.specs.Supply.{greatest-of-bound, high-small}
@@ -35,7 +35,8 @@ use Rattle.reachable.specs.Checks.{close-passed}
 use Rattle.reachable.specs.Held.{in-round}
 use Rattle.reachable.specs.Closing.{sound-close}
 use Rattle.awards.specs.OpenLevels.{open-le-high}
-use Rattle.awards.specs.AwardLaws.{highs-admissible, award-is, counts}
+use Rattle.awards.specs.AwardLaws.{highs-admissible, award-is, award-length, counts}
+use Rattle.awards.specs.ParticipationLaws.{paid-at-most}
 use Rattle.awards.specs.Winners.{winner-open, awarded-open}
 use Rattle.replies.specs.Replies.{twosComplement}
 use Rattle.theorem.specs.Readable.{signed, Awarded}
@@ -176,6 +177,9 @@ module _ (l : Ledger) (s : Sound l) (c : Passed l) where
   pub second-small : secondPrice l ≤ 1000000
   second-small = let b = settings-facts l s begun in let f = b .bounds in omega (arith, second-high l s begun)
 
+  pub paid-small : pricePaid l at (grants l at) ≤ 1000000
+  paid-small = omega (arith, paid-at-most l (grants l at) at, price-small)
+
   -- that of all projects at their highs, which cover, at most
   pub total-small : total (award l at) ≤ 32000000000
   unfolding covered supply
@@ -187,9 +191,8 @@ module _ (l : Ledger) (s : Sound l) (c : Passed l) where
   pub covering-small : length (coveringChoices l at) ≤ 65536
   covering-small = let n = counts l at s (lowest .passes) in let f = c .few in omega arith
 
-  award-length : length (award l at) ≡ 32
-  unfolding admissible rows
-  award-length = choice-length (rows l at) (award l at) (award-is l at s (lowest .passes) .admissible) ∙ length-map (oneTo 32) _ ∙ length-one-to 32
+  long : length (award l at) ≡ 32
+  long = award-length l at s (lowest .passes)
 
   pub awarded : Each Awarded (records l at)
   unfolding records developersOf
@@ -200,7 +203,7 @@ module _ (l : Ledger) (s : Sound l) (c : Passed l) where
       let some : 0 < getD (award l at) (k - 1) 0 = subst (λ (i : ℕ). 0 < getD (award l at) i 0) (sym place) g in
       let o : openTo l at k v ≡ true =
       subst (λ (i : ℕ). openTo l at k (getD (award l at) i 0) ≡ true) place
-      (awarded-open l at k s (lowest .passes) (omega arith) (omega (arith, award-length)) some) in
+      (awarded-open l at k s (lowest .passes) (omega arith) (omega (arith, long)) some) in
       let w = winner-open l at k v o .0 in
       let n = in-one-to (winner l at k v) 32 .0 (in-keep _ _ (oneTo 32) .0 w .0) in
       let small : v ≤ 1000000000 = omega (arith, open-le-high l at k v o, greatest-of-bound (high at) l 1000000000 (high-small l s at) k) in
@@ -208,9 +211,9 @@ module _ (l : Ledger) (s : Sound l) (c : Passed l) where
         project = k;
         developer = winner l at k v;
         quantity = v;
-        project-in = (omega arith, omega (arith, award-length));
+        project-in = (omega arith, omega (arith, long));
         developer-in = n;
         quantity-in = (g, small);
         bytes = refl;
-        reads = record-reads k (winner l at k v) v (omega (arith, award-length)) (n .1) small;
+        reads = record-reads k (winner l at k v) v (omega (arith, long)) (n .1) small;
       })

@@ -107,6 +107,7 @@ entryIn a n = record {
     day = getD (a .days) (n - 1) 0;
     levels = levelsIn (getD (a .declared) (n - 1) noLevels);
   };
+  agent = getD (a .agents) (n - 1) 0;
   quantity = getD (a .quantities) (n - 1) 0;
   withdrawals = withdrawalsIn (historyIn a n);
   offer = offerIn (historyIn a n .offered) (historyIn a n);
@@ -141,6 +142,7 @@ module _ (l : Ledger) (n : ℕ) where
         day = at (λ y. y .declared .day) i;
         levels = levels i;
       };
+      agent = at (λ y. y .agent) i;
       quantity = at (λ y. y .quantity) i;
       withdrawals = (ap withdrawalsIn history ∙ withdrawals-back (x .withdrawals) (x .offer) (x .lodged)) i;
       offer = (ap (λ (h : History). offerIn (h .offered) h) history ∙ offer-back (x .withdrawals) (x .offer) (x .lodged)) i;

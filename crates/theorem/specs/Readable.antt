@@ -46,7 +46,8 @@ pub record Readable (l : Ledger) : Type 0 where
       fieldsAt (2 ∷ 2 ∷ widthsOf closingFields) (replyTo l (Asks Close)) ≡ 5 ∷ 0 ∷ valuesOf closingFields (answer l Close)
   -- .. of which the first stands for the excess alone
   pub excess : number l Close ≡ 0 → signed (twosComplement (answer l Close .excess)) ≡ answer l Close .excess
-  -- 06: the figures, behind them the bytes of the award records, 6 for each, the remainder, the second price and its mark
+  -- 06: the figures, behind them the bytes of the award records, 6 for each, the remainder, the second price and its mark, and the mark of
+  -- insufficient participation and the price paid to existing plants
   pub settling : (limit : ℕ) → settlingNumber l limit awardRoom ≡ 0 →
       fieldsAt (2 ∷ 2 ∷ widthsOf settlingHead ++ twos (6 * length (settlement l .records)) ++ widthsOf settlingTail) (replyTo l (Settle limit))
       ≡ 6 ∷ 0 ∷ valuesOf settlingHead (settlement l) ++ flatten (settlement l .records) ++ valuesOf settlingTail (settlement l)

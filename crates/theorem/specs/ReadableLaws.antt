@@ -1,7 +1,7 @@
 -- The replies to every list of calls can be read: each figure of an accepted closing or settling fits its field.
 use Prim.Native.Nat.{ℕ, _*_, _≤_, _<_}
 use mathlib.Core.Path.{_≡_, refl, sym, ap, ap₂, _∙_, subst}
-use mathlib.Core.Bool.{Bool, true, false, cond}
+use mathlib.Core.Bool.{Bool, true, false, cond, not}
 use mathlib.Core.List.{List, [], _∷_, _++_, flatten, List·Memᴰ·head, List·Memᴰ·tail, List·Memᴰ·not-nil}
 use native.Mathlib.Omega.{arith}
 use lib.ListN.{length}
@@ -10,7 +10,9 @@ use Rattle.format.specs.Fields.{fieldsAt, textAt}
 use Rattle.rules.specs.Ledger.{Call, Close, Ledger}
 use Rattle.rules.specs.Refusals.{number}
 use Rattle.rules.specs.Rounds.{ledger, granted, answer}
+use Rattle.rules.specs.Clearing.{closingPrice}
 use Rattle.rules.specs.Second.{short}
+use Rattle.rules.specs.Participation.{grants, sufficient}
 use Rattle.rules.specs.Settling.{settlement, settlementAt, settlingNumber}
 use Rattle.sound.specs.Sound.{Sound}
 use Rattle.reachable.specs.Reachable.{sound}
@@ -19,7 +21,7 @@ use Rattle.replies.specs.Replies.{twosComplement, widthsOf, valuesOf, closingFi
 use Rattle.replies.specs.Lengths.{flat-length, flat-digits, six, few}
 use Rattle.theorem.specs.Readable.{signed, twos, Awarded, Readable}
 use Rattle.theorem.specs.Reading.{Fit, fit-append, text-append, line-reads, Bytes, fit-bytes, text-bytes, bytes-cons, bytes-join}
-use Rattle.theorem.specs.Figures.{Passed, passed, excess-small, excess-back, closing-remainder-small, price-small, demand-small, remainder-small, second-small, total-small, covering-small, awarded}
+use Rattle.theorem.specs.Figures.{Passed, passed, excess-small, excess-back, closing-remainder-small, price-small, demand-small, remainder-small, second-small, paid-small, total-small, covering-small, awarded}
 
 -- ---- award records
 
@@ -82,7 +84,8 @@ module _ (l : Ledger) (s : Sound l) where
     tail-fit =
         let r = remainder-small l s went in
         let p = second-small l s went in
-        (omega arith, (omega arith, (mark (short l), tt)))
+        let q = paid-small l s went in
+        (omega arith, (omega arith, (mark (short l), (mark (not (sufficient l (grants l (closingPrice l)))), (omega arith, tt)))))
       where
         mark : (b : Bool) → cond b 1 0 < 256
         mark true = omega arith

@@ -9,7 +9,7 @@ use lib.Dec.{eqb}
 use lib.IntN.{pos, _-ℤ_}
 use lib.ListN.{replicate}
 use denote.Ref.{RefT}
-use Rattle.rules.specs.Ledger.{Offer, Lodge, Cancel, Call, SetUp, Register, Open, By, Close, Ledger}
+use Rattle.rules.specs.Ledger.{Offer, Lodge, Cancel, Own, Named, Call, SetUp, Register, Open, By, Close, Ledger}
 use Rattle.rules.specs.Refusals.{number}
 use Rattle.rules.specs.Rounds.{step, ledger, Answered, numberAlone, granted, answer, answersFrom, answers}
 use Rattle.rules.specs.Sample.{sample, shown-jointly}
@@ -18,7 +18,7 @@ use Rattle.reachable.specs.Steps.{ledger-snoc, step-refused, answer-refused, an
 use Rattle.auction.specs.Holds.{phaseNumber, auctionOf}
 use Rattle.auction.specs.Called.{Called}
 use Rattle.auction.specs.declared.Auction.{Auction}
-use Rattle.theorem.specs.EveryList.{Made, sets-up, registers-one, opens, offers, lodges, cancels, closes, Run, fresh, followed}
+use Rattle.theorem.specs.EveryList.{Made, sets-up, registers-one, registers-for, opens, offers, lodges, cancels, closes, Run, fresh, followed}
 use Rattle.theorem.specs.ReadBack.{auction-determines}
 
 -- ---- every call as its contract says
@@ -26,7 +26,7 @@ use Rattle.theorem.specs.ReadBack.{auction-determines}
 granted-number : (l : Ledger) (c : Call) → granted l c .number ≡ 0
 unfolding granted
 granted-number l (SetUp s) = refl
-granted-number l (Register n x) = refl
+granted-number l (Register n w x) = refl
 granted-number l (Open c) = refl
 granted-number l (By n m) = refl
 granted-number l Close = refl
@@ -80,9 +80,13 @@ lent xs = record { ptr = (0, 0); name = 0; now = xs }
 pub made : (cs : List Call) (c : Call) → Made c (auctionOf (ledger cs)) (answer (ledger cs) c) (auctionOf (ledger (cs ++ (c ∷ []))))
 unfolding granted
 made cs (SetUp s) = by-number cs _ refl (λ p. sets-up (s .ce) (s .d) (s .m1) (s .m2) (s .a) (record { number = _; auction = _ }) p)
-made cs (Register n x) = by-number cs _ refl (λ p. registers-one
+made cs (Register n Own x) = by-number cs _ refl (λ p. registers-one
     ([], tt)
     (auctionOf (ledger cs), (x .project, (n, (x .kind, (x .study, (x .day, (lent (x .levels), tt)))))))
+    (record { number = _; auction = _ }) p)
+made cs (Register n (Named g) x) = by-number cs _ refl (λ p. registers-for
+    ([], tt)
+    (auctionOf (ledger cs), (x .project, (n, (x .kind, (g, (x .study, (x .day, (lent (x .levels), tt))))))))
     (record { number = _; auction = _ }) p)
 made cs (Open c) = by-number cs _ refl (λ p. opens c (record { number = _; auction = _ }) p)
 made cs (By n (Offer ps qs)) = by-number cs _ refl (λ p. offers

@@ -1,9 +1,9 @@
 -- What is stated of settling (demand 3), in the words of the ledger l after a list of calls. `old` and `new` are the lent buffer before and
 -- after, `r` is the answer.
-use Prim.Native.Nat.{ℕ, min, _*_, _≤_, _<_}
+use Prim.Native.Nat.{ℕ, min, _*_, _/_, _≤_, _<_}
 use mathlib.Core.Path.{_≡_}
 use mathlib.Core.Logic.{_↔_}
-use mathlib.Core.Bool.{true, false}
+use mathlib.Core.Bool.{true, false, not}
 use mathlib.Core.List.{List, flatten}
 use lib.ListN.{length}
 use Rattle.numbers.specs.Lists.{total}
@@ -15,7 +15,9 @@ use Rattle.rules.specs.Clearing.{low, supply, covered, demandAt, remainderAt, c
 use Rattle.rules.specs.Refusals.{isClosed}
 use Rattle.rules.specs.Award.{admissible, coveringChoices, keptChoices, award, winner}
 use Rattle.rules.specs.Second.{takenOut, remaining, short, secondPrice}
+use Rattle.rules.specs.Participation.{grants, newAward, newToSmall, sufficient, pricePaid}
 use Rattle.rules.specs.Settling.{records}
+use Rattle.awards.specs.ParticipationLaws.{Recorded}
 use Rattle.settling.specs.Settles.{refusedWith}
 use Rattle.settling.specs.declared.Settled.{Settled}
 use Rattle.theorem.specs.AwardRecords.{awardedLevel, Goes, ByRisingProject}
@@ -54,6 +56,16 @@ pub record Accepted (l : Ledger) (old new : List ℕ) (r : Settled) : Type 0 whe
   pub second-short : r .short ≡ true → (covered (remaining l) (l .settings .a) ≡ false) × (r .second ≡ l .settings .a)
   pub second-not-below : r .price ≤ r .second
   pub second-first : ((k : ℕ) → takenOut l k ≡ false) → (r .second ≡ r .price) × (r .short ≡ false)
+  -- insufficient participation (document 02, 10): marked exactly where twice the new award given to small agents is below the whole new award,
+  -- so never without one, as judged by the developers and quantities of the award records
+  pub insufficient : r .insufficient ≡ not (sufficient l (grants l (r .price)))
+  pub insufficient-exactly : (r .insufficient ≡ true) ↔ (2 * newToSmall l (grants l (r .price)) < newAward l (grants l (r .price)))
+  pub judged : Recorded (grants l (r .price)) (records l (r .price))
+  -- the price paid to existing plants: marked, the lower of the price and CE x 11 / 10 rounded down; else the price
+  pub paid : r .paid ≡ pricePaid l (r .price) (grants l (r .price))
+  pub paid-insufficient : r .insufficient ≡ true → r .paid ≡ min (r .price) (l .settings .ce * 11 / 10)
+  pub paid-sufficient : r .insufficient ≡ false → r .paid ≡ r .price
+  pub paid-at-most : r .paid ≤ r .price
   -- each level above 0 goes to the preferred developer, and has one record
   pub goes : (k : ℕ) → 1 ≤ k → k ≤ 32 → let v = awardedLevel l (r .price) k in 0 < v → Goes l (r .price) k v (winner l (r .price) k v)
   pub count : r .records ≡ length (records l (r .price))

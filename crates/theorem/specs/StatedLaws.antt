@@ -6,7 +6,7 @@ use mathlib.Core.List.{List, flatten}
 use native.Mathlib.Omega.{arith}
 use lib.Dec.{leb}
 use lib.ListN.{length}
-use borrow.Author.Tests.{le-leb, leb-true}
+use borrow.Author.Tests.{le-leb, leb-true, not-false, not-true as unmarked}
 use Rattle.numbers.specs.Cases.{clash, not-true}
 use Rattle.curve.specs.RemainderLaws.{remainder-below-ce}
 use Rattle.rules.specs.Ledger.{Call, Ledger}
@@ -14,12 +14,14 @@ use Rattle.rules.specs.Clearing.{covered, closingPrice}
 use Rattle.rules.specs.Refusals.{isClosed}
 use Rattle.rules.specs.Rounds.{ledger}
 use Rattle.rules.specs.Award.{admissible}
+use Rattle.rules.specs.Participation.{Grant, grants, sufficient}
 use Rattle.rules.specs.Settling.{records, settlingNumber, settlementAt, settlement}
 use Rattle.sound.specs.Sound.{Sound, started}
 use Rattle.reachable.specs.Reachable.{sound}
 use Rattle.clearing.specs.ClosingPrice.{closed-started, settings-facts, closing-price}
 use Rattle.clearing.specs.Second.{short-uncovered, second-least, short-second, second-not-below, second-is-first}
 use Rattle.awards.specs.AwardLaws.{kept-few, kept-at-lows, kept-not-none, award-at-closing}
+use Rattle.awards.specs.ParticipationLaws.{insufficient-exactly, paid-sufficient, paid-insufficient, paid-at-most, grants-recorded}
 use Rattle.awards.specs.Winners.{winner-open, winner-preferred, awarded-open}
 use Rattle.auction.specs.Holds.{auctionOf}
 use Rattle.auction.specs.declared.Auction.{Auction}
@@ -35,6 +37,9 @@ module _ (l : Ledger) (s : Sound l) (c : isClosed (l .phase) ≡ true) (old new 
 
   covers : covered l (closingPrice l) ≡ true
   covers = closing-price l s began .passes
+
+  abbrev given : List Grant
+  given = grants l (closingPrice l)
 
   at-closing : (r : Settled) → r ≡ settledAs (settlementAt l (closingPrice l)) → new ≡ laid (flatten (records l (closingPrice l))) old → Accepted l old new r
   unfolding settlementAt
@@ -57,6 +62,13 @@ module _ (l : Ledger) (s : Sound l) (c : isClosed (l .phase) ≡ true) (old new 
     second-short = λ h. (short-uncovered l h, short-second l s began h);
     second-not-below = second-not-below l s began;
     second-first = second-is-first l s began;
+    insufficient = refl;
+    insufficient-exactly = insufficient-exactly l given;
+    judged = grants-recorded l (closingPrice l);
+    paid = refl;
+    paid-insufficient = λ e. paid-insufficient l given (closingPrice l) (unmarked (sufficient l given) e);
+    paid-sufficient = λ e. paid-sufficient l given (closingPrice l) (not-false (sufficient l given) e);
+    paid-at-most = paid-at-most l given (closingPrice l);
     goes = λ k low high v.
         let o = awarded-open l (closingPrice l) k s covers low high v in
         let n = winner-open l (closingPrice l) k _ o in

@@ -105,6 +105,12 @@ returns-3 c =
 winners-requires : tie.Need-winners-requires
 winners-requires c κs = search needs
 
+insufficient-requires : tie.Need-insufficient-requires
+insufficient-requires c κs = search needs
+
+price-paid-requires : tie.Need-price-paid-requires
+price-paid-requires c κs = search needs
+
 write-awards-requires : tie.Need-write-awards-requires
 write-awards-requires c κs = search needs
 
@@ -112,10 +118,14 @@ same-length : tie.Need-same-length
 same-length c = search needs
 
 returns-4 : tie.Need-returns-4
+unfolding computed
 returns-4 c =
-    let w = c .before .before .before .before in
-    let n = w .before .before .before .before in
-    settle-accepted _ _ _ _ _ _ _ _ _ (computed (n .before .before .before .before)) _ (n .before .before .if2 .left) _ (n .count-awards .ensures .0) (w .before .before .before .if3 .left) _ _ (w .winners .ensures) (c .before .before .write-awards .ensures)
+    let q = c .before .before .before .before in
+    let w = q .before .before in
+    let f = w .before .before .before .before .before in
+    let n = f .before in
+    settle-accepted _ _ _ _ _ _ _ _ _ (computed (n .before .before .before .before)) _ (n .before .before .if2 .left) _ (n .count-awards .ensures .0) (f .if3 .left) _ _ _ _
+    (w .winners .ensures) (q .before .insufficient .ensures) (q .price-paid .ensures) (c .before .before .write-awards .ensures)
 
 pub settle-spec : {M : Type 1} → statement M
 settle-spec =
@@ -142,6 +152,8 @@ settle-spec =
     refused-requires-3
     returns-3
     winners-requires
+    insufficient-requires
+    price-paid-requires
     write-awards-requires
     same-length
     returns-4)

@@ -1,0 +1,2 @@
+mod Summing
+mod Tests

@@ -1,0 +1,22 @@
+-- What the code's tests say: a quotient against a number, and a level that counts by two tests.
+use Prim.Native.Nat.{ℕ, _*_, _/_, _<_}
+use mathlib.Core.Path.{_≡_, refl, sym, _∙_}
+use mathlib.Core.Bool.{Bool, true, false, cond, _&&_}
+use native.Mathlib.Nat.{div-lt-iff-lt-mul, le-div-iff-mul-le, mul-comm}
+use lib.Dec.{ltb}
+use borrow.Author.Tests.{ltb-true, ltb-false, lt-ltb, le-ltb}
+
+-- x below k times d, by a quotient: no product of d is taken
+pub by-quotient : (x k d : ℕ) → 0 < k → ltb (x / k) d ≡ ltb x (k * d)
+by-quotient x k d h = go (ltb (x / k) d) refl
+  where
+    go : (b : Bool) → ltb (x / k) d ≡ b → b ≡ ltb x (k * d)
+    go true e = sym (lt-ltb x (k * d) (rw (mul-comm k d) (div-lt-iff-lt-mul h .0 (ltb-true (x / k) d e))))
+    go false e = sym (le-ltb x (k * d) (rw (mul-comm k d) (le-div-iff-mul-le h .0 (ltb-false (x / k) d e))))
+
+-- y counts x by the second test, x counts v by the first
+pub both : (s t : Bool) (v : ℕ) {x y : ℕ} → x ≡ cond s v 0 → y ≡ cond t x 0 → y ≡ cond (s && t) v 0
+both true true v e f = f ∙ e
+both true false v e f = f
+both false true v e f = f ∙ e
+both false false v e f = f

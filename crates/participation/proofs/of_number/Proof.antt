@@ -1,0 +1,23 @@
+-- `of_number` is `atNumber`: behind the two tests n is one of the 32 numbers.
+use borrow.Author.Needs.{needs}
+use Rattle.numbers.specs.Numbered.{no-number, number-beyond, number-place}
+use Rattle.participation.proofs.of_number.Statement.{statement}
+use Rattle.participation.proofs.of_number.Tie as tie
+
+returns : tie.Need-returns
+returns c = no-number _ _ (c .if1 .taken)
+
+returns-2 : tie.Need-returns-2
+returns-2 c = number-beyond _ _ (search needs) (c .if2 .taken)
+
+sub-result : tie.Need-sub-result
+sub-result c = search needs
+
+array-read-result : tie.Need-array-read-result
+array-read-result c = search needs
+
+returns-3 : tie.Need-returns-3
+returns-3 c = number-place _ _ (c .before .if1 .left)
+
+pub of-number-spec : {M : Type 1} → statement M
+of-number-spec = tie.close (tie.spec returns returns-2 sub-result array-read-result returns-3)
