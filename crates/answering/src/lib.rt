@@ -90,6 +90,9 @@ pub fn respond(auction: Auction, frame: Frame) -> Turn
     if kind == 7 {
         return turns::lodge_turn(auction, frame);
     }
+    if kind == 8 {
+        return turns::register_for_turn(auction, frame);
+    }
     if kind == 9 {
         return turns::cancel_turn(auction, frame);
     }

@@ -56,14 +56,6 @@ fn answered(kind: u64, answer: Answer) -> Auction {
     answer.auction
 }
 
-fn register(auction: Auction, project: u64, developer: u64, kind: u64, n: usize) -> Auction {
-    let project = (project % 256) as u8;
-    let developer = (developer % 256) as u8;
-    let kind = (kind % 256) as u8;
-    let levels = first(&LEVELS, n);
-    answered(2, auction.register(project, developer, kind, 0, 0, levels))
-}
-
 fn offer(auction: Auction, developer: u64, n: usize, m: usize) -> Auction {
     let developer = (developer % 256) as u8;
     let prices = first(&PRICES, n);
@@ -101,7 +93,8 @@ fn settle(auction: Auction, limit: u32, lent: u32) -> Auction {
     auction
 }
 
-// The numbers of a line as they are read: in decimal, a comma behind each but the last. What is no digit is passed over.
+// The numbers of a line as they are read: in decimal, a comma behind each but the last, which stands at place `at`. What is no digit is passed
+// over.
 struct Line {
     numbers: [u64; 6],
     at: usize,
@@ -145,6 +138,23 @@ fn with_digit(n: u64, b: u8) -> u64 {
     std::num::wrapping_add_u64(n % 1844674407370955162 * 10, (b - 48) as u64)
 }
 
+// A registration, by the kind of its frame: of six numbers, the last is its agent (document 02, 10).
+fn register(auction: Auction, line: Line) -> Auction {
+    let n = line.numbers;
+    let project = (n[1] % 256) as u8;
+    let developer = (n[2] % 256) as u8;
+    let kind = (n[3] % 256) as u8;
+    let levels = first(&LEVELS, n[4] as usize);
+    if line.at == 5 {
+        let agent = (n[5] % 256) as u8;
+        return answered(
+            8,
+            auction.register_for(project, developer, kind, agent, 0, 0, levels),
+        );
+    }
+    answered(2, auction.register(project, developer, kind, 0, 0, levels))
+}
+
 // Makes a line's call once it has ended. Its first number is the kind that document 01 gives the call's frame, or 7 for a fresh auction.
 fn made(auction: Auction, line: Line) -> Auction {
     if !line.ended {
@@ -154,7 +164,7 @@ fn made(auction: Auction, line: Line) -> Auction {
     let kind = n[0];
     match kind {
         1 => answered(1, auction.set_up(n[1], n[2], n[3], n[4], n[5])),
-        2 => register(auction, n[1], n[2], n[3], n[4] as usize),
+        2 => register(auction, line),
         3 => answered(3, auction.open(word(n[1]))),
         4 => offer(auction, n[1], n[2] as usize, n[3] as usize),
         5 => close(auction),

@@ -10,7 +10,7 @@ ghost use Rattle.field_table.specs.Shapes.{Tabled, Shaped};
 struct Row(usize, [usize; 9], usize);
 
 // THE TABLE: a row for each kind.
-const ROWS: [Row; 8] = [
+const ROWS: [Row; 9] = [
     Row(1, [8, 10, 10, 10, 8, 0, 0, 0, 0], 0), // 01 set-up: CE, D, M1, M2, A
     Row(2, [2, 2, 2, 8, 8, 2, 0, 0, 0], 1), // 02 registration: project, developer, kind, study, day, count; levels
     Row(3, [8, 0, 0, 0, 0, 0, 0, 0, 0], 0), // 03 open: C
@@ -18,6 +18,7 @@ const ROWS: [Row; 8] = [
     Row(5, [0, 0, 0, 0, 0, 0, 0, 0, 0], 0), // 05 close
     Row(6, [8, 0, 0, 0, 0, 0, 0, 0, 0], 0), // 06 settle: limit
     Row(7, [2, 2, 0, 0, 0, 0, 0, 0, 0], 2), // 07 lodging: developer, count; steps of price and level
+    Row(8, [2, 2, 2, 2, 8, 8, 2, 0, 0], 1), // 08 registration with its agent: project, developer, kind, agent, study, day, count; levels
     Row(9, [2, 0, 0, 0, 0, 0, 0, 0, 0], 0), // 09 cancellation: developer
 ];
 

@@ -1,4 +1,4 @@
--- A line of each kind, of document 01's sample record (Frames) or in its layout (document 02, 5 and 7), as bytes, the call that it reads as,
+-- A line of each kind, of document 01's sample record (Frames) or in its layout (document 02, 5, 7 and 10), as bytes, the call that it reads as,
 -- and the line that is written for that call. Computed over the definitions, so that the table of field widths is held to the paper here.
 use Prim.Native.Nat.{ℕ, zero, suc}
 use Prim.Native.Char.{code}
@@ -34,6 +34,7 @@ sampleLines =
     ∷ "05"
     ∷ "0600000064"
     ∷ "0701010000659000000064"
+    ∷ "0802020203000001900000000A0200000064000000C8"
     ∷ "0902"
     ∷ []
 
@@ -46,6 +47,7 @@ sampleCalls =
     ∷ call 5 []
     ∷ call 6 (100 ∷ [])
     ∷ call 7 (1 ∷ 1 ∷ 26000 ∷ 100 ∷ [])
+    ∷ call 8 (2 ∷ 2 ∷ 2 ∷ 3 ∷ 400 ∷ 10 ∷ 2 ∷ 100 ∷ 200 ∷ [])
     ∷ call 9 (2 ∷ [])
     ∷ []
 
@@ -59,9 +61,12 @@ sample-lines-written = refl
 
 -- ---- what is just writable, and what is not (document 02, 2)
 
--- a registration of so many levels
+-- a registration of so many levels, without its agent and with it (document 02, 10)
 abbrev levels : ℕ → RawCall
 levels n = call 2 (1 ∷ 1 ∷ 2 ∷ 0 ∷ 0 ∷ n ∷ replicate n 5)
+
+abbrev agentAndLevels : ℕ → RawCall
+agentAndLevels n = call 8 (1 ∷ 1 ∷ 2 ∷ 1 ∷ 0 ∷ 0 ∷ n ∷ replicate n 5)
 
 edges :
     map writable (
@@ -69,13 +74,21 @@ edges :
     ∷ call 3 (4294967296 ∷ [])  -- over 8 digits
     ∷ levels 16  -- 154 characters
     ∷ levels 17  -- 162 characters
+    ∷ agentAndLevels 16  -- 156 characters
+    ∷ agentAndLevels 17  -- 164 characters
+    ∷ call 8 (1 ∷ 1 ∷ 2 ∷ 256 ∷ 0 ∷ 0 ∷ 0 ∷ [])  -- an agent over 2 digits
     ∷ call 4 (1 ∷ 2 ∷ 9 ∷ 8 ∷ [])  -- a count of 2 with one step
     ∷ call 3 []  -- a field that is not there
     ∷ call 10 []  -- a kind that the table lacks
     ∷ [])
-    ≡ true ∷ false ∷ true ∷ false ∷ false ∷ false ∷ false ∷ []
+    ≡ true ∷ false ∷ true ∷ false ∷ true ∷ false ∷ false ∷ false ∷ false ∷ false ∷ []
 unfolding any charOf digits known fixed each count layout textAt widthsOf lineOf fit writable
 edges = refl
+
+-- read, a line of 17 levels is malformed
+edges-read : map (λ c. wellFormed (lineOf c)) (levels 16 ∷ levels 17 ∷ agentAndLevels 16 ∷ agentAndLevels 17 ∷ []) ≡ true ∷ false ∷ true ∷ false ∷ []
+unfolding any all total isHex valueOf charOf digits numberFrom known fixed each count layout fieldsAt textAt kindOf asked wellFormed widthsOf lineOf
+edges-read = refl
 
 -- 14 comes before 13; a buffer of exactly the frame's length is enough, and what stands behind the frame stays
 answers :

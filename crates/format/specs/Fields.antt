@@ -27,6 +27,7 @@ rows =
     ∷ row 5 [] 0  -- 05 close
     ∷ row 6 (8 ∷ []) 0  -- 06 settle: limit
     ∷ row 7 (2 ∷ 2 ∷ []) 2  -- 07 lodging (document 02, 5): developer, count; steps of price and level
+    ∷ row 8 (2 ∷ 2 ∷ 2 ∷ 2 ∷ 8 ∷ 8 ∷ 2 ∷ []) 1  -- 08 registration with its agent (document 02, 10): project, developer, kind, agent, study, day, count; levels
     ∷ row 9 (2 ∷ []) 0  -- 09 cancellation (document 02, 7): developer
     ∷ []
 

@@ -1,3 +1,4 @@
 pub mod FrameFields
 pub mod FieldColumns
 pub mod Stepping
+pub mod Registering

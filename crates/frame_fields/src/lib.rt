@@ -1,8 +1,8 @@
-// The fields of a frame as the arguments of a call: bytes, words, columns of words, and the steps of a move.
+// The fields of a frame as the arguments of a call: bytes, words, columns of words, the steps of a move, and a registration's numbers.
 ghost use mathlib.Core.Path.{_≡_};
 ghost use Prim.Native.Nat.{ℕ, _+_, _*_, _^_, _≤_, _<_};
 ghost use lib.ListN.{length, take, getD};
-ghost use Rattle.frame_fields.specs.FrameFields.{fieldsOf, every, Stepped, StepsIn};
+ghost use Rattle.frame_fields.specs.FrameFields.{fieldsOf, every, Stepped, StepsIn, Registering, RegistrationIn};
 use frames::Frame;
 
 // The field at place j, 0 where the frame has none.
@@ -66,5 +66,33 @@ pub fn steps_in(frame: Frame) -> Steps
         count: n,
         prices: column(frame, 2, 2, n),
         levels: column(frame, 3, 2, n),
+    }
+}
+
+// The numbers of a registration but for its agent, its levels in a column.
+pub struct Registration {
+    pub project: u8,
+    pub developer: u8,
+    pub kind: u8,
+    pub study: u32,
+    pub day: u32,
+    pub count: usize,
+    pub levels: [u32; 16],
+}
+
+// The study value stands at place `at`: 3, or 4 behind the agent.
+pub fn registration_in(frame: Frame, at: usize) -> Registration
+    requires { ⌜ Registering at frame ⌝ }
+    ensures { λ r. ⌜ RegistrationIn at frame r ⌝ }
+{
+    let n = byte(frame, at + 2) as usize;
+    Registration {
+        project: byte(frame, 0),
+        developer: byte(frame, 1),
+        kind: byte(frame, 2),
+        study: word(frame, at),
+        day: word(frame, at + 1),
+        count: n,
+        levels: column(frame, at + 3, 1, n),
     }
 }

@@ -5,7 +5,7 @@ ghost use Rattle.rules.specs.Ledger.{settingsOf, Offer, Lodge, Cancel, SetUp, O
 ghost use Rattle.replies.specs.Orders.{Asks, Settle};
 ghost use Rattle.replies.specs.Replies.{replies};
 ghost use Rattle.record_replay.specs.Replayed.{hosted, over};
-ghost use Rattle.writing.specs.Writes.{registration};
+ghost use Rattle.writing.specs.Writes.{registration, registrationFor};
 ghost use Rattle.host.specs.Host.{hostNumber, hostRemainder};
 ghost use Rattle.host.specs.Lodging.{answer, HostWrites};
 use demand::Demanded;
@@ -129,6 +129,32 @@ pub extern "C" fn write_lodging(
     ensures { λ r. ⌜ HostWrites (Asks (By developer (Lodge (now (prices .entry)) (now (levels .entry))))) (now (frame .entry)) (now (frame .exit)) r ⌝ }
 {
     host_bytes(writing::write_lodging(developer, prices, levels, frame))
+}
+
+// 08 registration with its agent (document 02, 10).
+#[no_mangle]
+pub extern "C" fn write_registration_for(
+    project: u64,
+    developer: u64,
+    kind: u64,
+    agent: u64,
+    study: u64,
+    day: u64,
+    levels: &[u64],
+    frame: &mut [u8],
+) -> u64
+    ensures { λ r. ⌜ HostWrites (registrationFor project developer kind agent study day (now (levels .entry))) (now (frame .entry)) (now (frame .exit)) r ⌝ }
+{
+    host_bytes(writing::write_registration_for(
+        project,
+        developer,
+        kind,
+        agent,
+        study,
+        day,
+        levels,
+        frame,
+    ))
 }
 
 // 09 cancellation (document 02, 7).

@@ -4,3 +4,4 @@ pub mod Replies
 pub mod WrittenOrderLaws
 pub mod Lengths
 pub mod SampleRecord
+pub mod FieldPlaces

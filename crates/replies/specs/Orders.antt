@@ -6,7 +6,7 @@ use mathlib.Core.Option.{Option, none, some}
 use lib.Dec.{eqb}
 use lib.ListN.{getD, drop}
 use Rattle.format.specs.Fields.{RawCall, read}
-use Rattle.rules.specs.Ledger.{settingsOf, Move, Offer, Lodge, Cancel, Call, SetUp, Register, Open, By, Close}
+use Rattle.rules.specs.Ledger.{settingsOf, Move, Offer, Lodge, Cancel, Own, Named, Call, SetUp, Register, Open, By, Close}
 
 pub data Order : Type 0 where
   Malformed : Order
@@ -28,14 +28,24 @@ seconds (p ∷ q ∷ rest) = q ∷ seconds rest
 abbrev pub setUpOf : List ℕ → Call
 setUpOf ns = SetUp (settingsOf (getD ns 0 0) (getD ns 1 0) (getD ns 2 0) (getD ns 3 0) (getD ns 4 0))
 
--- 02 registration: project, developer, kind, study, day, count, levels
+-- 02 registration: project, developer, kind, study, day, count, levels; the agent is the developer's own (document 02, 10)
 abbrev pub registrationOf : List ℕ → Call
-registrationOf ns = Register (getD ns 1 0) (record {
+registrationOf ns = Register (getD ns 1 0) Own (record {
   project = getD ns 0 0;
   kind = getD ns 2 0;
   study = getD ns 3 0;
   day = getD ns 4 0;
   levels = drop 6 ns;
+})
+
+-- 08 registration with its agent (document 02, 10): project, developer, kind, agent, study, day, count, levels
+abbrev pub registrationForOf : List ℕ → Call
+registrationForOf ns = Register (getD ns 1 0) (Named (getD ns 3 0)) (record {
+  project = getD ns 0 0;
+  kind = getD ns 2 0;
+  study = getD ns 4 0;
+  day = getD ns 5 0;
+  levels = drop 7 ns;
 })
 
 -- 04 offer and 07 lodging (document 02, 5): developer, count, steps of price and level
@@ -52,8 +62,9 @@ orderOf c =
     (cond (eqb (c .kind) 5) (Asks Close)
     (cond (eqb (c .kind) 6) (Settle (getD (c .fields) 0 0))
     (cond (eqb (c .kind) 7) (Asks (moveOf Lodge (c .fields)))
+    (cond (eqb (c .kind) 8) (Asks (registrationForOf (c .fields)))
     (cond (eqb (c .kind) 9) (Asks (By (getD (c .fields) 0 0) Cancel))
-    Malformed)))))))
+    Malformed))))))))
 
 unfoldable pub ordered : Option RawCall → Order
 ordered none = Malformed

@@ -1,4 +1,4 @@
--- The replies to a record (document 01, Frames; document 02, 4 and 5): over its bytes, the ledger and nothing of the engine.
+-- The replies to a record (document 01, Frames; document 02, 4, 5 and 10): over its bytes, the ledger and nothing of the engine.
 use Prim.Native.Nat.{ℕ, suc, _-_, _^_}
 use mathlib.Core.Bool.{cond}
 use mathlib.Core.List.{List, [], _∷_, _++_, map, flatten}
@@ -8,14 +8,15 @@ use lib.ListN.{length}
 use Rattle.format.specs.Hex.{digits}
 use Rattle.format.specs.Fields.{textAt}
 use Rattle.format.specs.Lines.{lines}
-use Rattle.rules.specs.Ledger.{Offer, Lodge, Cancel, Call, SetUp, Register, Open, By, Close, Ledger, start}
+use Rattle.rules.specs.Ledger.{Offer, Lodge, Cancel, Own, Named, Call, SetUp, Register, Open, By, Close, Ledger, start}
 use Rattle.rules.specs.Rounds.{step, Answered, answer}
 use Rattle.rules.specs.Settling.{Settlement, settlement, settlingNumber}
 use Rattle.replies.specs.Orders.{Order, Malformed, Asks, Settle, orderIn}
 
 abbrev pub callKind : Call → ℕ
 callKind (SetUp s) = 1
-callKind (Register n x) = 2
+callKind (Register n Own x) = 2
+callKind (Register n (Named g) x) = 8
 callKind (Open c) = 3
 callKind (By n (Offer ps qs)) = 4
 callKind (By n (Lodge ps qs)) = 7
@@ -65,9 +66,12 @@ settlingHead =
 abbrev pub recordDigits : List ℕ → List ℕ
 recordDigits bytes = flatten (map (digits 2) bytes)
 
--- .. and behind the records the remainder, then the second price and its mark, 1 short (document 02, 5)
+-- .. and behind the records the remainder, then the second price and its mark, 1 short (document 02, 5), then the mark of participation, 1
+-- insufficient, and the price paid to existing plants (document 02, 10)
 abbrev pub settlingTail : List (Field Settlement)
-settlingTail = field 8 (λ s. s .remainder) ∷ field 8 (λ s. s .second) ∷ field 2 (λ s. cond (s .short) 1 0) ∷ []
+settlingTail =
+    field 8 (λ s. s .remainder) ∷ field 8 (λ s. s .second) ∷ field 2 (λ s. cond (s .short) 1 0)
+    ∷ field 2 (λ s. cond (s .insufficient) 1 0) ∷ field 8 (λ s. s .paid) ∷ []
 
 unfoldable pub closingText : Answered → List ℕ
 closingText r = fieldsText closingFields r

@@ -1,5 +1,5 @@
 -- The sample record of document 01 (Frames) as bytes: it asks the calls of `rules` (Sample) and a settling with limit 100, and its replies are
--- document 01's with the remainders of document 02, 4, byte for byte. Computed over the definitions.
+-- document 01's with what document 02 adds (4, 5 and 10), byte for byte. Computed over the definitions.
 use Prim.Native.Nat.{ℕ}
 use Prim.Native.String.{String, len}
 use mathlib.Core.Path.{_≡_, refl}
@@ -14,6 +14,7 @@ use Rattle.rules.specs.Refusals.{settingsOk, numbersOk, rising, levelsOk, mayJo
 use Rattle.rules.specs.Rounds.{steps, withdrawsAll, reached, unreached, added, lastLevel, applied, supplyAfter, thousandths, clears, phaseAfter, moved, accepted, step, excess, granted, answer}
 use Rattle.rules.specs.Award.{openBetween, openToDeveloper, openTo, insert, insertAll, declaredBy, openLevels, row, rows, admissible, coveringChoices, award, preferred, mostPreferred, firstPreferred, winner}
 use Rattle.rules.specs.Second.{lodgedApplied, takenOut, remaining, short, secondPrice}
+use Rattle.rules.specs.Participation.{existingPlants, isSmall, grantsFrom, grants, newAward, newToSmall, sufficient, pricePaid}
 use Rattle.rules.specs.Settling.{recordsFrom, records, settlingNumber, settlementAt, settlement}
 use Rattle.curve.specs.Marked.{MarkedCases}
 use Rattle.rules.specs.Sample.{sample, SampleSettled, shown-jointly}
@@ -61,7 +62,7 @@ sampleReply = text (
     ∷ "0400"
     ∷ "0400"
     ∷ "0500FFFFFFFFFFFFFFC900000000"
-    ∷ "06000000659000000003CA00000003FC0000000400000003020101000003340203000000C8000000000000659000"
+    ∷ "06000000659000000003CA00000003FC0000000400000003020101000003340203000000C80000000000006590000000006590"
     ∷ [])
 
 sample-asks : map orderIn (lines sampleRecord) ≡ map Asks sample ++ (Settle 100 ∷ [])
@@ -83,6 +84,7 @@ unfolding codes line text flatten oneTo keep total greatest lastOr any all least
     spread choices covering larger before best bestOf
     openBetween openToDeveloper openTo insert insertAll declaredBy openLevels row rows admissible coveringChoices award preferred mostPreferred firstPreferred winner
     lodgedApplied takenOut remaining short secondPrice
+    existingPlants isSmall grantsFrom grants newAward newToSmall sufficient pricePaid
     recordsFrom records settlingNumber settlementAt settlement
     isHex valueOf charOf digits numberFrom known fixed each count layout fieldsAt textAt kindOf asked wellFormed callOf read onFirst lines
     firsts seconds orderOf ordered orderIn closingText settlingText answerLine replyTo ledgerAfter repliesFrom replies

@@ -19,7 +19,7 @@ use Rattle.format.specs.FieldLaws.{WellFormed, reads, Formed, formed, as-many-a
 use Rattle.format.specs.Lines.{lines}
 use Rattle.format.specs.Written.{lineOf, frameOf, writable}
 use Rattle.format.specs.WrittenLaws.{reads-back, writes-back, frame-first}
-use Rattle.rules.specs.Ledger.{Ledger, start, Move, Offer, Lodge, Cancel, SetUp, Register, Open, By, Close}
+use Rattle.rules.specs.Ledger.{Ledger, start, Move, Offer, Lodge, Cancel, Own, Named, SetUp, Register, Open, By, Close}
 use Rattle.replies.specs.Orders.{Order, Malformed, Asks, Settle, firsts, seconds, orderOf, ordered, orderIn}
 use Rattle.replies.specs.WrittenOrders.{raw, paired, rawOf, listsMatch, writableOrder, frameOfOrder}
 use Rattle.replies.specs.Replies.{replyTo, ledgerAfter, repliesFrom, replies}
@@ -64,7 +64,8 @@ order-raw : (o : Order) → listsMatch o ≡ true → orderOf (rawOf o) ≡ o
 unfolding orderOf rawOf listsMatch
 order-raw Malformed e = refl
 order-raw (Asks (SetUp s)) e = refl
-order-raw (Asks (Register n x)) e = refl
+order-raw (Asks (Register n Own x)) e = refl
+order-raw (Asks (Register n (Named g) x)) e = refl
 order-raw (Asks (Open c)) e = refl
 order-raw (Asks (By n (Offer ps qs))) e = by-steps n Offer ps qs e
 order-raw (Asks (By n (Lodge ps qs))) e = by-steps n Lodge ps qs e
@@ -147,8 +148,9 @@ raw-order c f =
     (at-kind c 5 _ _ (λ e. (plain c f 5 e refl, refl))
     (at-kind c 6 _ _ (λ e. (plain c f 6 e refl, refl))
     (at-kind c 7 _ _ (λ e. with-steps c f 7 e 1 refl refl)
+    (at-kind c 8 _ _ (λ e. (with-list c f 8 e 6 refl refl, refl))
     (at-kind c 9 _ _ (λ e. (plain c f 9 e refl, refl))
-    (record { back = λ o. absurd (o refl) }))))))))
+    (record { back = λ o. absurd (o refl) })))))))))
 
 -- ---- a line
 

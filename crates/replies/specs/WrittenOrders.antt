@@ -6,7 +6,7 @@ use lib.Dec.{eqb}
 use lib.ListN.{length}
 use Rattle.format.specs.Fields.{RawCall}
 use Rattle.format.specs.Written.{frameOf, writable}
-use Rattle.rules.specs.Ledger.{Offer, Lodge, Cancel, SetUp, Register, Open, By, Close}
+use Rattle.rules.specs.Ledger.{Offer, Lodge, Cancel, Own, Named, SetUp, Register, Open, By, Close}
 use Rattle.replies.specs.Orders.{Order, Malformed, Asks, Settle}
 
 abbrev pub raw : ℕ → List ℕ → RawCall
@@ -22,7 +22,8 @@ paired (p ∷ ps) (q ∷ qs) = p ∷ q ∷ paired ps qs
 unfoldable pub rawOf : Order → RawCall
 rawOf Malformed = raw 0 []
 rawOf (Asks (SetUp s)) = raw 1 (s .ce ∷ s .d ∷ s .m1 ∷ s .m2 ∷ s .a ∷ [])
-rawOf (Asks (Register n x)) = raw 2 (x .project ∷ n ∷ x .kind ∷ x .study ∷ x .day ∷ length (x .levels) ∷ x .levels)
+rawOf (Asks (Register n Own x)) = raw 2 (x .project ∷ n ∷ x .kind ∷ x .study ∷ x .day ∷ length (x .levels) ∷ x .levels)
+rawOf (Asks (Register n (Named g) x)) = raw 8 (x .project ∷ n ∷ x .kind ∷ g ∷ x .study ∷ x .day ∷ length (x .levels) ∷ x .levels)
 rawOf (Asks (Open c)) = raw 3 (c ∷ [])
 rawOf (Asks (By n (Offer ps qs))) = raw 4 (n ∷ length ps ∷ paired ps qs)
 rawOf (Asks (By n (Lodge ps qs))) = raw 7 (n ∷ length ps ∷ paired ps qs)
@@ -34,7 +35,7 @@ rawOf (Settle limit) = raw 6 (limit ∷ [])
 unfoldable pub listsMatch : Order → Bool
 listsMatch Malformed = true
 listsMatch (Asks (SetUp s)) = true
-listsMatch (Asks (Register n x)) = true
+listsMatch (Asks (Register n w x)) = true
 listsMatch (Asks (Open c)) = true
 listsMatch (Asks (By n (Offer ps qs))) = eqb (length ps) (length qs)
 listsMatch (Asks (By n (Lodge ps qs))) = eqb (length ps) (length qs)

@@ -35,11 +35,12 @@ const CLOSING: Form = Form {
     tail: [0, 0, 0, 0, 0, 0, 0, 0],
 };
 
-// 06: P, Dem, total, choices, covering, awards; behind the awards the remainder, the second price and its mark.
+// 06: P, Dem, total, choices, covering, awards; behind the awards the remainder, the second price and its mark, the mark of participation and the
+// price paid to existing plants.
 const SETTLING: Form = Form {
     head: [8, 10, 10, 8, 8, 2, 0, 0],
     room: 192,
-    tail: [8, 8, 2, 0, 0, 0, 0, 0],
+    tail: [8, 8, 2, 2, 8, 0, 0, 0],
 };
 
 // The others add nothing.

@@ -19,5 +19,9 @@ itemsBehind s =
     item (bytesOf "kept ") (s .kept) ++ item (bytesOf "remainder ") (s .remainder)
     ++ item (bytesOf "second ") (s .second) ++ item (bytesOf "short ") (cond (s .short) 1 0)
 
+-- last: the mark of insufficient participation, and the price paid to existing plants (document 02, 10)
+unfoldable pub itemsPaid : Settled → List ℕ
+itemsPaid s = item (bytesOf "insufficient ") (cond (s .insufficient) 1 0) ++ item (bytesOf "paid ") (s .paid)
+
 unfoldable pub settledLines : Settled → List ℕ → List ℕ
-settledLines s awards = items s ++ awardLines awards (min (s .records) 32) ++ itemsBehind s
+settledLines s awards = items s ++ awardLines awards (min (s .records) 32) ++ itemsBehind s ++ itemsPaid s

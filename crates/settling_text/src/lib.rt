@@ -3,7 +3,7 @@ ghost use mathlib.Core.Path.{_≡_};
 ghost use Prim.Native.Nat.{_+_, _≤_, min};
 ghost use lib.ListN.{length};
 ghost use Rattle.decimal_text.specs.Puts.{Puts};
-ghost use Rattle.settling_text.specs.SettledLines.{items, itemsBehind, settledLines};
+ghost use Rattle.settling_text.specs.SettledLines.{items, itemsBehind, itemsPaid, settledLines};
 use settling::Settled;
 
 // What an accepted settling says before its awards.
@@ -29,6 +29,16 @@ fn put_items_behind(out: &mut [u8], at: usize, s: Settled) -> usize
     decimal_text::put_item(out, second, b"short ", reply_values::mark(s.short))
 }
 
+// What it says last (document 02, 10).
+fn put_paid(out: &mut [u8], at: usize, s: Settled) -> usize
+    requires { ⌜ at + 100 ≤ length (now out) ⌝ }
+    ensures { λ r. ⌜ Puts (itemsPaid s) 100 (now (out .entry)) (now (out .exit)) at r ⌝ }
+{
+    let mark = reply_values::mark(s.insufficient);
+    let insufficient = decimal_text::put_item(out, at, b"insufficient ", mark);
+    decimal_text::put_item(out, insufficient, b"paid ", s.paid as u64)
+}
+
 // How many award records a reply has: 192 bytes hold 32.
 fn count(s: Settled) -> usize
     ensures { λ r. ⌜ (r ≡ min (s .records) 32) × (r ≤ 32) ⌝ }
@@ -45,5 +55,6 @@ pub fn put_settled(out: &mut [u8], at: usize, s: Settled, awards: [u8; 192]) -> 
 {
     let next = put_items(out, at, s);
     let behind = award_text::put_awards(out, next, awards, count(s));
-    put_items_behind(out, behind, s)
+    let last = put_items_behind(out, behind, s);
+    put_paid(out, last, s)
 }

@@ -8,9 +8,9 @@ use lib.ListN.{drop, getD}
 use borrow.Author.Tests.{ne-eqb}
 use Rattle.rules.specs.Ledger.{Move, Call, By}
 use Rattle.rules.specs.Rounds.{Answered, numberAlone}
-use Rattle.replies.specs.Orders.{Asks, firsts, seconds, setUpOf, registrationOf, moveOf}
+use Rattle.replies.specs.Orders.{Asks, firsts, seconds, setUpOf, registrationOf, registrationForOf, moveOf}
 use Rattle.replies.specs.Replies.{callKind, closingText, answerLine, replyTo}
-use Rattle.auction.specs.Called.{Called, setsUp, registers}
+use Rattle.auction.specs.Called.{Called, setsUp, registers, registersFor}
 use Rattle.auction.specs.declared.Auction.{Auction}
 use Rattle.reply_sizes.specs.TextLaws.{Bare, plain-text}
 use Rattle.turns.specs.Turns.{Answers, Takes}
@@ -38,6 +38,10 @@ set-up-is ns ce d m1 m2 a e0 e1 e2 e3 e4 = rw (e0, e1, e2, e3, e4)
 pub registration-is : (ns ls : List ℕ) (k n kind study day : ℕ) → k ≡ getD ns 0 0 → n ≡ getD ns 1 0 → kind ≡ getD ns 2 0 → study ≡ getD ns 3 0
     → day ≡ getD ns 4 0 → ls ≡ drop 6 ns → registers k n kind study day ls ≡ registrationOf ns
 registration-is ns ls k n kind study day e0 e1 e2 e3 e4 e = rw (e0, e1, e2, e3, e4, e)
+
+pub registration-for-is : (ns ls : List ℕ) (k n kind g study day : ℕ) → k ≡ getD ns 0 0 → n ≡ getD ns 1 0 → kind ≡ getD ns 2 0 → g ≡ getD ns 3 0
+    → study ≡ getD ns 4 0 → day ≡ getD ns 5 0 → ls ≡ drop 7 ns → registersFor k n kind g study day ls ≡ registrationForOf ns
+registration-for-is ns ls k n kind g study day e0 e1 e2 e3 e4 e5 e = rw (e0, e1, e2, e3, e4, e5, e)
 
 pub move-is : (move : List ℕ → List ℕ → Move) (ns ps qs : List ℕ) (n : ℕ) → n ≡ getD ns 0 0 → ps ≡ firsts (drop 2 ns) → qs ≡ seconds (drop 2 ns) → By n (move ps qs) ≡ moveOf move ns
 move-is move ns ps qs n e f g = rw (e, f, g)

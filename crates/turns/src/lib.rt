@@ -1,7 +1,7 @@
 // A turn of a replay: the next auction and the reply; one for each kind of frame whose call answers with a number alone.
 ghost use mathlib.Core.Path.{_≡_};
 ghost use lib.ListN.{getD};
-ghost use Rattle.replies.specs.Orders.{Asks, setUpOf, registrationOf, moveOf};
+ghost use Rattle.replies.specs.Orders.{Asks, setUpOf, registrationOf, registrationForOf, moveOf};
 ghost use Rattle.rules.specs.Ledger.{Offer, Lodge, Cancel, Open, By};
 ghost use Rattle.frame_fields.specs.FrameFields.{fieldsOf, Framed};
 ghost use Rattle.turns.specs.Turns.{Answers, Takes};
@@ -33,6 +33,8 @@ pub const UNSETTLED: Settled = Settled {
     kept: 0,
     second: 0,
     short: false,
+    insufficient: false,
+    paid: 0,
     records: 0,
 };
 
@@ -66,16 +68,12 @@ pub fn register_turn(auction: Auction, frame: Frame) -> Turn
     requires { ⌜ Framed 2 frame ⌝ }
     ensures { λ r. ⌜ Takes auction (Asks (registrationOf (fieldsOf frame))) r ⌝ }
 {
-    let project = frame_fields::byte(frame, 0);
-    let developer = frame_fields::byte(frame, 1);
-    let kind = frame_fields::byte(frame, 2);
-    let study = frame_fields::word(frame, 3);
-    let day = frame_fields::word(frame, 4);
-    let n = frame_fields::byte(frame, 5) as usize;
-    let levels = frame_fields::column(frame, 6, 1, n);
+    let r = frame_fields::registration_in(frame, 3);
+    let n = r.count;
+    let levels = r.levels;
     answered(
         2,
-        auction.register(project, developer, kind, study, day, &levels[..n]),
+        auction.register(r.project, r.developer, r.kind, r.study, r.day, &levels[..n]),
     )
 }
 
@@ -111,6 +109,28 @@ pub fn lodge_turn(auction: Auction, frame: Frame) -> Turn
     answered(
         7,
         auction.lodge(steps.developer, &prices[..n], &levels[..n]),
+    )
+}
+
+pub fn register_for_turn(auction: Auction, frame: Frame) -> Turn
+    requires { ⌜ Framed 8 frame ⌝ }
+    ensures { λ r. ⌜ Takes auction (Asks (registrationForOf (fieldsOf frame))) r ⌝ }
+{
+    let r = frame_fields::registration_in(frame, 4);
+    let agent = frame_fields::byte(frame, 3);
+    let n = r.count;
+    let levels = r.levels;
+    answered(
+        8,
+        auction.register_for(
+            r.project,
+            r.developer,
+            r.kind,
+            agent,
+            r.study,
+            r.day,
+            &levels[..n],
+        ),
     )
 }
 

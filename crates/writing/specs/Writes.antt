@@ -5,7 +5,7 @@ use mathlib.Core.List.{List, _∷_}
 use lib.Dec.{eqb}
 use lib.ListN.{length}
 use Rattle.format.specs.Written.{frameOf, writable}
-use Rattle.rules.specs.Ledger.{Register}
+use Rattle.rules.specs.Ledger.{Agency, Own, Named, Register}
 use Rattle.replies.specs.Orders.{Order, Asks}
 use Rattle.replies.specs.WrittenOrders.{raw, paired, writableOrder, frameOfOrder}
 use Rattle.frame_writing.specs.declared.Written.{Written}
@@ -21,7 +21,13 @@ WritesSteps k n ps qs old new r =
     let c = raw k (n ∷ length ps ∷ paired ps qs) in
     Lodges (eqb (length ps) (length qs) && writable c) (frameOf c) old new r
 
--- a registration by its numbers
+-- a registration by its numbers: with an agent either way, with the developer's own (02), and with one that is named (08; document 02, 10)
+abbrev pub registrationBy : Agency → ℕ → ℕ → ℕ → ℕ → ℕ → List ℕ → Order
+registrationBy w project n kind study day levels =
+    Asks (Register n w (record { project = project; kind = kind; study = study; day = day; levels = levels }))
+
 abbrev pub registration : ℕ → ℕ → ℕ → ℕ → ℕ → List ℕ → Order
-registration project n kind study day levels =
-    Asks (Register n (record { project = project; kind = kind; study = study; day = day; levels = levels }))
+registration project n kind study day levels = registrationBy Own project n kind study day levels
+
+abbrev pub registrationFor : ℕ → ℕ → ℕ → ℕ → ℕ → ℕ → List ℕ → Order
+registrationFor project n kind agent study day levels = registrationBy (Named agent) project n kind study day levels

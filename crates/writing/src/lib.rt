@@ -8,7 +8,7 @@ ghost use Rattle.rules.specs.Ledger.{settingsOf, Offer, Lodge, Cancel, SetUp, O
 ghost use Rattle.replies.specs.Orders.{Asks, Settle};
 ghost use Rattle.replies.specs.WrittenOrders.{raw, paired};
 ghost use Rattle.frame_writing.specs.Lodged.{Encodes};
-ghost use Rattle.writing.specs.Writes.{registration, Writes, WritesSteps};
+ghost use Rattle.writing.specs.Writes.{registration, registrationFor, Writes, WritesSteps};
 use frame_writing::Written;
 
 // ---- lists of fields
@@ -140,6 +140,31 @@ pub fn write_lodging(developer: u64, prices: &[u64], levels: &[u64], frame: &mut
     ensures { λ r. ⌜ Writes (Asks (By developer (Lodge (now (prices .entry)) (now (levels .entry))))) (now (frame .entry)) (now (frame .exit)) r ⌝ }
 {
     write_steps(7, developer, prices, levels, frame)
+}
+
+// 08 registration with its agent (document 02, 10).
+pub fn write_registration_for(
+    project: u64,
+    developer: u64,
+    kind: u64,
+    agent: u64,
+    study: u64,
+    day: u64,
+    levels: &[u64],
+    frame: &mut [u8],
+) -> Written
+    ensures { λ r. ⌜ Writes (registrationFor project developer kind agent study day (now (levels .entry))) (now (frame .entry)) (now (frame .exit)) r ⌝ }
+{
+    let head = [
+        project,
+        developer,
+        kind,
+        agent,
+        study,
+        day,
+        levels.len() as u64,
+    ];
+    write_list(8, &head, levels, frame)
 }
 
 // 09 cancellation (document 02, 7).

@@ -57,20 +57,29 @@ returns-7 : tie.Need-returns-7
 unfolding orderOf
 returns-7 c = ordered-as _ _ _ 7 (omega arith) (c .before .if7 .taken) (c .lodge-turn .ensures)
 
-cancel-turn-requires : tie.Need-cancel-turn-requires
-cancel-turn-requires c κs = framed 9 _ (c .before .before .before .before .before .before .before .before .pre) (omega arith) (c .if8 .taken)
+register-for-turn-requires : tie.Need-register-for-turn-requires
+register-for-turn-requires c κs = framed 8 _ (c .before .before .before .before .before .before .before .before .pre) (omega arith) (c .if8 .taken)
 
 returns-8 : tie.Need-returns-8
 unfolding orderOf
-returns-8 c = ordered-as _ _ _ 9 (omega arith) (c .before .if8 .taken) (c .cancel-turn .ensures)
+returns-8 c = ordered-as _ _ _ 8 (omega arith) (c .before .if8 .taken) (c .register-for-turn .ensures)
+
+cancel-turn-requires : tie.Need-cancel-turn-requires
+cancel-turn-requires c κs =
+    framed 9 _ (c .before .before .before .before .before .before .before .before .before .pre) (omega arith) (c .if9 .taken)
+
+returns-9 : tie.Need-returns-9
+unfolding orderOf
+returns-9 c = ordered-as _ _ _ 9 (omega arith) (c .before .if9 .taken) (c .cancel-turn .ensures)
 
 malformed-requires : tie.Need-malformed-requires
 malformed-requires c κs = tt
 
-returns-9 : tie.Need-returns-9
+returns-10 : tie.Need-returns-10
 unfolding orderOf
-returns-9 c =
-    let f4 = c .before .before .before .before .before in
+returns-10 c =
+    let f7 = c .before .before .before in
+    let f4 = f7 .before .before .before in
     let f1 = f4 .before .before .before in
     let f = f1 .before .args .frame in
     let none : orderOf (heldFrame f) ≡ Malformed =
@@ -79,10 +88,11 @@ returns-9 c =
       ne-eqb (f .kind) 2 (f4 .before .before .if2 .left),
       ne-eqb (f .kind) 3 (f4 .before .if3 .left),
       ne-eqb (f .kind) 4 (f4 .if4 .left),
-      ne-eqb (f .kind) 5 (c .before .before .before .before .if5 .left),
-      ne-eqb (f .kind) 6 (c .before .before .before .if6 .left),
-      ne-eqb (f .kind) 7 (c .before .before .if7 .left),
-      ne-eqb (f .kind) 9 (c .before .if8 .left),
+      ne-eqb (f .kind) 5 (f7 .before .before .if5 .left),
+      ne-eqb (f .kind) 6 (f7 .before .if6 .left),
+      ne-eqb (f .kind) 7 (f7 .if7 .left),
+      ne-eqb (f .kind) 8 (c .before .before .if8 .left),
+      ne-eqb (f .kind) 9 (c .before .if9 .left),
     ) in
     ordered-none _ f _ none (c .malformed .ensures)
 
@@ -104,7 +114,9 @@ respond-spec =
     returns-6
     lodge-turn-requires
     returns-7
-    cancel-turn-requires
+    register-for-turn-requires
     returns-8
+    cancel-turn-requires
+    returns-9
     malformed-requires
-    returns-9)
+    returns-10)

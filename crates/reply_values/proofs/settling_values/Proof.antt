@@ -16,8 +16,14 @@ cast-t6 c = search needs
 mark-requires : tie.Need-mark-requires
 mark-requires c κs = search needs
 
+mark-requires-2 : tie.Need-mark-requires-2
+mark-requires-2 c κs = search needs
+
+cast-t9 : tie.Need-cast-t9
+cast-t9 c = search needs
+
 returns : tie.Need-returns
-returns c = λ s e. rw (c .mark .ensures, e) record { head = refl; tail = refl }
+returns c = λ s e. rw (c .before .before .mark .ensures, c .before .mark2 .ensures, e) record { head = refl; tail = refl }
 
 pub settling-values-spec : {M : Type 1} → statement M
-settling-values-spec = tie.close (tie.spec cast-t2 cast-t5 cast-t6 mark-requires returns)
+settling-values-spec = tie.close (tie.spec cast-t2 cast-t5 cast-t6 mark-requires mark-requires-2 cast-t9 returns)
