@@ -103,6 +103,15 @@ uint64_t write_registration(uint64_t project, uint64_t developer, uint64_t kind,
                             uint64_t day, const uint64_t *levels, size_t levels_length,
                             uint8_t *frame, size_t frame_length);
 
+/*
+ * Frame 08, a developer's registration that names its agent, 1 to 32; replaying frame 02 makes the
+ * developer's number its agent. The agent fits below 2^8; all else is as in frame 02. The frame has 29
+ * bytes and 8 a level; 16 levels fit a line.
+ */
+uint64_t write_registration_for(uint64_t project, uint64_t developer, uint64_t kind, uint64_t agent,
+                                uint64_t study, uint64_t day, const uint64_t *levels,
+                                size_t levels_length, uint8_t *frame, size_t frame_length);
+
 /* Frame 03, opening of a round down to the closing price c, below 2^32. The frame has 11 bytes. */
 uint64_t write_opening(uint64_t c, uint8_t *frame, size_t frame_length);
 

@@ -26,7 +26,7 @@ _Static_assert(REFERENCE_ENGINE_REFUSAL(11) == UINT64_MAX - 10, "refusal 11 is 2
     "0100\n0200\n0200\n0200\n0200\n0300\n0400\n0400\n0400\n"                     \
     "0500FFFFFFFFFFFFFFC900000000\n"                                               \
     "06000000659000000003CA00000003FC0000000400000003020101000003340203000000C8"   \
-    "000000000000659000\n"
+    "0000000000006590000000006590\n"
 
 /* An existing plant of 300 and 700 beside one of 950; the first lodges a fall to 300. */
 #define LODGED                                            \
@@ -44,7 +44,28 @@ _Static_assert(REFERENCE_ENGINE_REFUSAL(11) == UINT64_MAX - 10, "refusal 11 is 2
     "06000000271000000004B000000004E2"     \
     "000000010000000102"                   \
     "01010000012C0202000003B6"             \
-    "000000000000753000\n"
+    "0000000000007530000000002710\n"
+
+/* 820 of 1,000 and a new plant of 200, both of agent 1, so that 22,000 are paid at 26,000; agents 0
+ * and 33 are refused. */
+#define FOR_AN_AGENT                                      \
+    "0100004E2000000003E8000000038400000004B000009C40\n" \
+    "0201010100000000000000000100000334\n"               \
+    "0802020200000000000000000001000000C8\n"             \
+    "0802020221000000000000000001000000C8\n"             \
+    "0802020201000000000000000001000000C8\n"             \
+    "03000061A8\n"                                       \
+    "0402010000659000000000\n"                           \
+    "05\n"                                               \
+    "0600000002\n"
+
+#define FOR_AN_AGENT_REPLIES                \
+    "0100\n0200\n0803\n0803\n0800\n0300\n" \
+    "0400\n0500FFFFFFFFFFFFFF6500000000\n" \
+    "06000000659000000003CA00000003FC"      \
+    "000000020000000102"                    \
+    "0101000003340202000000C8"              \
+    "00000000000065900001000055F0\n"
 
 struct check {
     const char *name, *record, *replies;
@@ -61,7 +82,10 @@ static const struct check checks[] = {
     {"lodged list", LODGED, LODGED_REPLIES},
     {"lodging before set-up", "070100", "0702\n"},
     {"cancellation before set-up", "0902", "0902\n"},
-    {"kind 08", "0802", "FF0C\n"},
+    {"agent", FOR_AN_AGENT, FOR_AN_AGENT_REPLIES},
+    {"registration for an agent before set-up", "0805050205000000000000000001000000C8", "0802\n"},
+    {"cut frame 08", "0802", "FF0C\n"},
+    {"kind 0A", "0A02", "FF0C\n"},
 };
 
 static unsigned made, failed;

@@ -27,7 +27,7 @@ struct list {
 /* A call: its kind, its numbers, and the lists of those that have some. */
 struct check {
     int kind;
-    uint64_t numbers[5];
+    uint64_t numbers[6];
     struct list first, second;
     const char *frame; /* NULL if the call is not writable */
 };
@@ -100,6 +100,25 @@ static const struct check checks[] = {
     {7, {1}, {1, {26000}}, {2, {100, 0}}, NULL},
     {7, {1}, {1, {26000}}, {0}, NULL},
 
+    {8, {2, 3, 2, 1, 500, 20}, {1, {200}}, {0}, "0802030201000001F40000001401000000C8\n"},
+    {8, {2, 3, 2, 3, 500, 20}, {1, {200}}, {0}, "0802030203000001F40000001401000000C8\n"},
+    {8, {0, 0, 77, 0, 0, 0}, {1, {0}}, {0}, "0800004D0000000000000000000100000000\n"},
+    {8, {255, 255, 255, 255, MAX32, MAX32}, {1, {MAX32}}, {0},
+     "08FFFFFFFFFFFFFFFFFFFFFFFF01FFFFFFFF\n"},
+    {8, {1, 2, 3, 6, 4, 5}, {0}, {0}, "0801020306000000040000000500\n"},
+    {8, {1, 2, 3, 6, 4, 5}, {16, {UP_TO_8, UP_TO_8}}, {0},
+     "0801020306000000040000000510" EIGHT EIGHT "\n"},
+    {8, {1, 2, 3, 6, 4, 5}, {17, {UP_TO_8, UP_TO_8, 9}}, {0}, NULL},
+    {8, {BITS(8), 2, 3, 6, 4, 5}, {1, {6}}, {0}, NULL},
+    {8, {1, BITS(8), 3, 6, 4, 5}, {1, {6}}, {0}, NULL},
+    {8, {1, 2, BITS(8), 6, 4, 5}, {1, {6}}, {0}, NULL},
+    {8, {1, 2, 3, BITS(8), 4, 5}, {1, {6}}, {0}, NULL},
+    {8, {1, 2, 3, BITS(32) + 6, 4, 5}, {1, {6}}, {0}, NULL},
+    {8, {1, 2, 3, 6, BITS(32), 5}, {1, {6}}, {0}, NULL},
+    {8, {1, 2, 3, 6, 4, BITS(32)}, {1, {6}}, {0}, NULL},
+    {8, {1, 2, 3, 6, 4, 5}, {2, {6, BITS(32)}}, {0}, NULL},
+    {8, {1, 2, 3, 6, 4, 5}, {2, {BITS(63), 6}}, {0}, NULL},
+
     {9, {2}, {0}, {0}, "0902\n"},
     {9, {0}, {0}, {0}, "0900\n"},
     {9, {255}, {0}, {0}, "09FF\n"},
@@ -132,6 +151,9 @@ static uint64_t write_frame(const struct check *check, const uint64_t *first,
     case 7:
         return write_lodging(n[0], first, check->first.length, second, check->second.length, frame,
                              length);
+    case 8:
+        return write_registration_for(n[0], n[1], n[2], n[3], n[4], n[5], first,
+                                      check->first.length, frame, length);
     default:
         return write_cancellation(n[0], frame, length);
     }
@@ -185,6 +207,8 @@ static void write_null(void)
     made++;
     if (write_offer(2, NULL, 0, NULL, 0, NULL, 0) != REFERENCE_ENGINE_REFUSAL(13) ||
         write_registration(BITS(8), 1, 1, 0, 0, NULL, 0, NULL, 0) != REFERENCE_ENGINE_REFUSAL(14) ||
+        write_registration_for(1, 1, 1, 1, 0, 0, NULL, 0, NULL, 0) !=
+            REFERENCE_ENGINE_REFUSAL(13) ||
         write_closing(NULL, 0) != REFERENCE_ENGINE_REFUSAL(13) ||
         write_lodging(2, NULL, 0, NULL, 0, NULL, 0) != REFERENCE_ENGINE_REFUSAL(13) ||
         write_cancellation(2, NULL, 0) != REFERENCE_ENGINE_REFUSAL(13) ||

@@ -2,9 +2,11 @@
  * A deliberately wrong engine over the right one, to see that the comparisons report a fault.
  * WRONG in the environment names it: demand (one kWh more), remainder (that of the quotient, which
  * is CE less the right one), digit (the last digit of the replies), behind (the byte behind the
- * replies), mark (that of the second price is never short), order (the first two awards change
- * places), step (the last digit of an offer's frame), width (an opening's price cut to its field) or
- * kind (a lodging written as an offer); without it the engine is right.
+ * replies), mark (that of the second price is never short), sufficient (participation always is, by
+ * its mark), paid (existing plants are always paid P), order (the first two awards change places), step
+ * (the last digit of an offer's frame), width (an opening's price cut to its field), kind (a lodging
+ * written as an offer), agent (a registration for the developer's own number) or own (one for it in
+ * frame 02); without it the engine is right.
  */
 #include "reference_engine.h"
 #include <stdlib.h>
@@ -14,6 +16,10 @@ uint64_t right_demand(uint64_t ce, uint64_t d, uint64_t m1, uint64_t m2, uint64_
 uint64_t right_demand_remainder(uint64_t ce, uint64_t d, uint64_t m1, uint64_t m2, uint64_t p);
 uint64_t right_replay(const uint8_t *record, size_t record_length, uint8_t *replies,
                       size_t replies_length);
+uint64_t right_write_registration_for(uint64_t project, uint64_t developer, uint64_t kind,
+                                      uint64_t agent, uint64_t study, uint64_t day,
+                                      const uint64_t *levels, size_t levels_length, uint8_t *frame,
+                                      size_t frame_length);
 uint64_t right_write_opening(uint64_t c, uint8_t *frame, size_t frame_length);
 uint64_t right_write_offer(uint64_t developer, const uint64_t *prices, size_t prices_length,
                            const uint64_t *levels, size_t levels_length, uint8_t *frame,
@@ -37,13 +43,20 @@ uint64_t demand_remainder(uint64_t ce, uint64_t d, uint64_t m1, uint64_t m2, uin
     return answer > 0 && answer < ce && fault("remainder") ? ce - answer : answer;
 }
 
-/* Where the awards of a settling's reply begin, the digits of each, and those behind them. */
-enum { AWARDS = 50, AWARD = 12, BEHIND = 18 };
+/* Where P and the awards of a settling's reply begin, the digits of a price, of each award, and of all
+ * behind the awards: remainder, second price and its mark, then the mark of participation and the
+ * price paid. */
+enum { P = 4, PRICE = 8, AWARDS = 50, AWARD = 12, BEHIND = 28 };
 
 /* The faults of an accepted settling's reply, which has so many characters. */
 static void settle_wrong(uint8_t *reply, uint64_t length) {
+    uint8_t *paid = reply + length - PRICE;
     if (fault("mark"))
-        reply[length - 1] = '0';
+        paid[-3] = '0';
+    if (fault("sufficient"))
+        paid[-1] = '0';
+    if (fault("paid"))
+        memcpy(paid, reply + P, PRICE);
     if (fault("order") && length >= AWARDS + 2 * AWARD + BEHIND) {
         uint8_t first[AWARD], *awards = reply + AWARDS;
         memcpy(first, awards, AWARD);
@@ -75,6 +88,17 @@ uint64_t replay(const uint8_t *record, size_t record_length, uint8_t *replies,
     if (fault("behind") && written < replies_length)
         replies[written] ^= 1;
     return written;
+}
+
+uint64_t write_registration_for(uint64_t project, uint64_t developer, uint64_t kind, uint64_t agent,
+                                uint64_t study, uint64_t day, const uint64_t *levels,
+                                size_t levels_length, uint8_t *frame, size_t frame_length) {
+    if (agent == developer && fault("own"))
+        return write_registration(project, developer, kind, study, day, levels, levels_length, frame,
+                                  frame_length);
+    return right_write_registration_for(project, developer, kind,
+                                        fault("agent") ? developer : agent, study, day, levels,
+                                        levels_length, frame, frame_length);
 }
 
 uint64_t write_opening(uint64_t c, uint8_t *frame, size_t frame_length) {

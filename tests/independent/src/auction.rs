@@ -1,5 +1,6 @@
-//! The ledger of document 01, which closes by document 02's request 1 and applies the lists lodged
-//! by its request 5: what the calls of one auction leave behind, in order.
+//! The ledger of document 01, which closes by document 02's request 1, applies the lists lodged by
+//! its request 5 and knows the agents of its request 10: what the calls of one auction leave behind,
+//! in order.
 //! Each call makes the paper's checks in the paper's order; a refused one changes nothing.
 //! Numbers come in as wide as a caller can pass them and are held as u64.
 
@@ -16,7 +17,8 @@ use std::collections::{BTreeMap, BTreeSet};
 use std::iter;
 use std::ops::{Range, RangeInclusive};
 
-/// The numbers of projects and developers (document 01, Registration).
+/// The numbers of projects and developers (document 01, Registration), and of agents (document 02,
+/// request 10).
 pub const NUMBERS: RangeInclusive<u8> = 1..=32;
 /// Kind of an existing plant (document 01, Registration).
 pub const EXISTING: u8 = 1;
@@ -132,7 +134,7 @@ impl Auction {
         Ok(())
     }
 
-    /// Checks: 2, 3, 4.
+    /// Checks: 2, 3, 4. The agent is the developer's number (document 02, request 10).
     pub fn register(
         &mut self,
         project: u8,
@@ -142,10 +144,35 @@ impl Auction {
         start_day: u32,
         levels: &[u32],
     ) -> Result<(), u8> {
+        let agent = developer;
+        self.register_for(
+            project,
+            developer,
+            kind,
+            agent,
+            study_value,
+            start_day,
+            levels,
+        )
+    }
+
+    /// A registration that names its agent (document 02, request 10). Checks: 2, 3, 4.
+    #[allow(clippy::too_many_arguments, reason = "the fields of frame 08")]
+    pub fn register_for(
+        &mut self,
+        project: u8,
+        developer: u8,
+        kind: u8,
+        agent: u8,
+        study_value: u32,
+        start_day: u32,
+        levels: &[u32],
+    ) -> Result<(), u8> {
         require(self.phase == Phase::Registering, NOT_IN_THIS_PHASE)?;
         require(
-            NUMBERS.contains(&project)
-                && NUMBERS.contains(&developer)
+            [project, developer, agent]
+                .iter()
+                .all(|number| NUMBERS.contains(number))
                 && !self.developers.contains_key(&developer),
             BAD_NUMBER,
         )?;
@@ -160,6 +187,7 @@ impl Auction {
             number: developer,
             project,
             kind,
+            agent,
             study_value,
             start_day,
             quantity: *levels.last().expect("at least one level"),

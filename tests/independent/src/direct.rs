@@ -27,7 +27,7 @@ fn numbers(line: &str) -> Vec<u64> {
 }
 
 /// Makes a line's call: its kind and its numbers. A lone 7 is a fresh auction, and 7 with numbers a
-/// lodging.
+/// lodging; a registration with an agent behind its levels is that of frame 08.
 fn make(auction: &mut Auction, line: &[u64]) -> String {
     match *line {
         [1, ce, d, m1, m2, a] => answered(1, auction.set_up(ce, d, m1, m2, a)),
@@ -35,6 +35,12 @@ fn make(auction: &mut Auction, line: &[u64]) -> String {
             let levels = first(&LEVELS, n);
             let [project, developer, kind] = [project, developer, kind].map(byte);
             answered(2, auction.register(project, developer, kind, 0, 0, levels))
+        }
+        [2, project, developer, kind, n, agent] => {
+            let levels = first(&LEVELS, n);
+            let [project, developer, kind, agent] = [project, developer, kind, agent].map(byte);
+            let answer = auction.register_for(project, developer, kind, agent, 0, 0, levels);
+            answered(8, answer)
         }
         [3, c] => answered(3, auction.open(word(c))),
         [4, developer, n, m] => {

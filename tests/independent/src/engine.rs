@@ -35,6 +35,18 @@ mod host {
             frame: *mut u8,
             frame_length: usize,
         ) -> u64;
+        pub fn write_registration_for(
+            project: u64,
+            developer: u64,
+            kind: u64,
+            agent: u64,
+            study: u64,
+            day: u64,
+            levels: *const u64,
+            levels_length: usize,
+            frame: *mut u8,
+            frame_length: usize,
+        ) -> u64;
         pub fn write_opening(c: u64, frame: *mut u8, frame_length: usize) -> u64;
         pub fn write_offer(
             developer: u64,
@@ -126,6 +138,20 @@ pub fn write(fields: &Fields, frame: &mut [u8]) -> u64 {
                 start,
                 length,
             ),
+            (8, &[project, developer, kind, agent, study, day], [levels]) => {
+                host::write_registration_for(
+                    project,
+                    developer,
+                    kind,
+                    agent,
+                    study,
+                    day,
+                    levels.as_ptr(),
+                    levels.len(),
+                    start,
+                    length,
+                )
+            }
             (9, &[developer], []) => host::write_cancellation(developer, start, length),
             _ => panic!("no call: {fields:?}"),
         }

@@ -2,6 +2,7 @@
 //! same record. Most are auctions that settle, with refused calls and damaged lines between
 //! their calls; each line is also made here, so that the next one can fit the auction.
 
+mod agents;
 mod aimed;
 mod books;
 mod cancellations;
@@ -20,6 +21,7 @@ use crate::parts::in_parts;
 use crate::random::Random;
 use crate::replay::{make, read_call, write_call, Call};
 use crate::settling::number_of_choices;
+pub use agents::with_agent;
 pub use aimed::DECISIVE;
 use books::Book;
 pub use counted::{largest_book, LARGEST_BOOKS};
@@ -41,7 +43,8 @@ pub fn records_of(seeds: Range<u64>) -> Vec<Vec<u8>> {
 pub fn record(seed: u64) -> Vec<u8> {
     let mut writer = Writer::new(seed);
     match writer.random.between(1, 100) {
-        1..=84 => writer.auction(books::book),
+        1..=74 => writer.auction(books::book),
+        75..=84 => writer.auction(agents::even_book),
         85..=88 => writer.auction(books::long_book),
         89..=90 => writer.counted_auction(),
         91..=95 => writer.any_calls(),

@@ -1,6 +1,6 @@
 //! Replay of a recorded auction: frames in, replies out (document 01, Frames; at their ends the
-//! remainders of document 02's request 4 and the second price of its request 5); and frames out
-//! (request 2).
+//! remainders of document 02's request 4, the second price of its request 5 and the participation of
+//! its request 10); and frames out (request 2).
 
 mod frames;
 mod writing;
@@ -64,23 +64,7 @@ pub fn make(auction: &mut Auction, call: &Call) -> Result<Accepted, u8> {
         &Call::SetUp { ce, d, m1, m2, a } => {
             auction.set_up(ce, d, m1, m2, a).map(|()| Accepted::Plain)
         }
-        Call::Register {
-            project,
-            developer,
-            kind,
-            study_value,
-            start_day,
-            levels,
-        } => auction
-            .register(
-                *project,
-                *developer,
-                *kind,
-                *study_value,
-                *start_day,
-                levels,
-            )
-            .map(|()| Accepted::Plain),
+        Call::Register { .. } => register(auction, call).map(|()| Accepted::Plain),
         &Call::Open { c } => auction.open(c).map(|()| Accepted::Plain),
         Call::Offer {
             developer,
@@ -108,6 +92,26 @@ pub fn make(auction: &mut Auction, call: &Call) -> Result<Accepted, u8> {
 }
 
 const AWARD_BYTES: usize = 192;
+
+/// A registration without an agent, or for one (document 02, request 10).
+fn register(auction: &mut Auction, call: &Call) -> Result<(), u8> {
+    let &Call::Register {
+        project,
+        developer,
+        kind,
+        agent,
+        study_value: study,
+        start_day: day,
+        ref levels,
+    } = call
+    else {
+        unreachable!("a registration");
+    };
+    match agent {
+        None => auction.register(project, developer, kind, study, day, levels),
+        Some(agent) => auction.register_for(project, developer, kind, agent, study, day, levels),
+    }
+}
 
 /// The kind in the reply to a malformed line.
 const MALFORMED_KIND: u8 = 0xFF;
@@ -147,7 +151,8 @@ fn behind_answer(accepted: &Accepted) -> String {
 }
 
 /// P 8, Dem 10, total 10, choices 8, covering 8, awards 2, then project 2, developer 2,
-/// quantity 8, by rising project, then the remainder 8, the second price 8 and its mark 2.
+/// quantity 8, by rising project, then the remainder 8, the second price 8 and its mark 2, the mark
+/// of participation 2 and the price paid to existing plants 8.
 fn settled(settlement: &Settlement) -> String {
     let mut rest = [
         (settlement.closing_price, 8),
@@ -164,7 +169,13 @@ fn settled(settlement: &Settlement) -> String {
         rest += &digits(award.developer.into(), 2);
         rest += &digits(award.quantity, 8);
     }
-    rest += &digits(settlement.remainder, 8);
-    rest += &digits(settlement.second_price, 8);
-    rest + &digits(settlement.short.into(), 2)
+    rest + &[
+        (settlement.remainder, 8),
+        (settlement.second_price, 8),
+        (settlement.short.into(), 2),
+        (settlement.insufficient.into(), 2),
+        (settlement.paid, 8),
+    ]
+    .map(|(number, width)| digits(number, width))
+    .concat()
 }

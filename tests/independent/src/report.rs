@@ -1,7 +1,7 @@
 //! What a program that compares replies prints: one line a group of records with what their
 //! replies were, and the first difference; how often rounds closed where the closing rule
-//! decides; how often demand had a remainder; what lodged lists and cancellations did; how searches
-//! went; what closings did to the supply curve; and what it ends with.
+//! decides; how often demand had a remainder; what lodged lists and cancellations did; who
+//! participated; how searches went; what closings did to the supply curve; and what it ends with.
 
 mod cancellations;
 mod closings;
@@ -9,6 +9,7 @@ mod curves;
 mod cut;
 mod features;
 mod lodgings;
+mod participation;
 mod remainders;
 mod searches;
 
@@ -21,6 +22,7 @@ pub use curves::{Redrawn, CURVES, LONGEST_CURVE};
 use cut::Cut;
 pub use features::Features;
 pub use lodgings::{Lodgings, LODGINGS};
+pub use participation::{Participation, PARTICIPATION};
 pub use remainders::Remainders;
 use searches::SEARCHES;
 use std::collections::BTreeMap;
@@ -64,6 +66,7 @@ pub struct Group {
     remainders: Remainders,
     lodgings: Features<Lodgings>,
     cancellations: Features<Cancellations>,
+    participation: Features<Participation>,
     cut: Cut,
     searches: Features<Settlement>,
     curves: Features<Redrawn>,
@@ -84,6 +87,7 @@ impl Group {
             remainders: Remainders::default(),
             lodgings: Features::new(LODGINGS),
             cancellations: Features::new(CANCELLATIONS),
+            participation: Features::new(PARTICIPATION),
             cut: Cut::default(),
             searches: Features::new(SEARCHES),
             curves: Features::new(CURVES),
@@ -118,6 +122,7 @@ impl Group {
         self.remainders.join(&other.remainders);
         self.lodgings.join(&other.lodgings);
         self.cancellations.join(&other.cancellations);
+        self.participation.join(&other.participation);
         self.cut.join(&other.cut);
         self.searches.join(&other.searches);
         self.curves.join(&other.curves);
@@ -131,6 +136,8 @@ impl Group {
         self.remainders.count(replies);
         self.lodgings.count(&Lodgings::of(record));
         self.cancellations.count(&Cancellations::of(record));
+        let participation = Participation::of(record, replies);
+        self.participation.count(&participation);
         let replies = lines(replies);
         let settled = replies.iter().any(|reply| reply.starts_with(b"0600"));
         self.records += 1;
@@ -202,6 +209,7 @@ impl Group {
         self.remainders.print();
         self.lodgings.print("lodgings by record");
         self.cancellations.print("cancellations by record");
+        self.participation.print("participation by record");
         self.cut.print();
         if !self.words.is_empty() {
             println!("  words: {}", listed_counts(&self.words));

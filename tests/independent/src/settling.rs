@@ -1,8 +1,9 @@
 //! Settling a closed auction: document 01, Closing price and award, and document 02's second price
-//! (request 5), read literally.
+//! (request 5) and participation (request 10), read literally.
 //! Every admissible choice is looked at; only the closing prices are found without trying every
 //! price, and `closing_price_by_walk` stands beside it.
 
+mod participation;
 mod search;
 
 use crate::auction::{Auction, Developer, Phase, Withdrawal};
@@ -37,6 +38,10 @@ pub struct Settlement {
     pub second_price: u64,
     /// Whether A was not covered for it.
     pub short: bool,
+    /// Whether participation is insufficient (document 02, request 10).
+    pub insufficient: bool,
+    /// The price paid to existing plants (document 02, request 10).
+    pub paid: u64,
 }
 
 #[derive(Clone, Copy, Debug, PartialEq, Eq)]
@@ -67,9 +72,8 @@ impl Developer {
     }
 
     fn quantity_after(&self, made: impl Fn(&&Withdrawal) -> bool) -> u64 {
-        let highest = *self.levels.last().expect("at least one level");
         let last = self.withdrawals.iter().rfind(made);
-        last.map_or(highest, |withdrawal| withdrawal.level)
+        last.map_or(self.highest_level(), |withdrawal| withdrawal.level)
     }
 
     /// Whether the level is open to it: declared, or 0, and from its own low to its own high.
@@ -162,24 +166,28 @@ impl Auction {
         let demand = self.settings().demand(p);
         let (covering, award) = award(open, demand);
         let above_0 = std::iter::zip(self.projects(), &award).filter(|(_, &level)| level > 0);
+        let awards: Vec<Award> = above_0
+            .map(|((project, developers), &level)| Award {
+                project,
+                developer: awarded_developer(&developers, level, p),
+                quantity: level,
+            })
+            .collect();
         let (second_price, short) = self.second_price();
+        let insufficient = !self.participation_is_sufficient(&awards);
         Settlement {
             closing_price: p,
             demand,
             total: award.iter().sum(),
             choices: number_of_choices(open),
             covering,
-            awards: above_0
-                .map(|((project, developers), &level)| Award {
-                    project,
-                    developer: awarded_developer(&developers, level, p),
-                    quantity: level,
-                })
-                .collect(),
+            awards,
             kept: kept(open, demand),
             remainder: self.settings().remainder(p),
             second_price,
             short,
+            insufficient,
+            paid: self.paid_to_existing(p, insufficient),
         }
     }
 }

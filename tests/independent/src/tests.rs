@@ -1,6 +1,7 @@
 //! Tests of the independent implementation: what document 01 writes out, and what its rules imply
 //! on generated records.
 
+mod agents;
 mod awards;
 mod cancelling;
 mod causes;
@@ -9,6 +10,7 @@ mod curve;
 mod fixed;
 mod frames;
 mod lodging;
+mod participation;
 mod properties;
 mod rounds;
 mod sample;

@@ -65,7 +65,8 @@ fn drawn(curve: &[Entry]) -> String {
 }
 
 /// The settlement's numbers, then its awards by rising project, then how many complete choices
-/// were not set aside, which no reply says, the remainder, and the second price with its mark.
+/// were not set aside, which no reply says, the remainder, the second price with its mark, and
+/// whether participation is insufficient with the price paid to existing plants.
 fn settled(settlement: &Settlement) -> String {
     let mut text = [
         ("price", settlement.closing_price),
@@ -82,5 +83,7 @@ fn settled(settlement: &Settlement) -> String {
     }
     let (kept, remainder) = (settlement.kept.len(), settlement.remainder);
     let (second, short) = (settlement.second_price, u8::from(settlement.short));
-    text + &format!("kept {kept}\nremainder {remainder}\nsecond {second}\nshort {short}\n")
+    let (insufficient, paid) = (u8::from(settlement.insufficient), settlement.paid);
+    text += &format!("kept {kept}\nremainder {remainder}\nsecond {second}\nshort {short}\n");
+    text + &format!("insufficient {insufficient}\npaid {paid}\n")
 }

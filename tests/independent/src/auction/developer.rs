@@ -17,6 +17,7 @@ pub struct Developer {
     pub number: u8,
     pub project: u8,
     pub kind: u8,
+    pub agent: u8,
     pub study_value: u32,
     pub start_day: u32,
     pub levels: Vec<u64>,
@@ -27,6 +28,11 @@ pub struct Developer {
 }
 
 impl Developer {
+    /// The highest level that it declared, whatever it has withdrawn since.
+    pub fn highest_level(&self) -> u64 {
+        *self.levels.last().expect("at least one level")
+    }
+
     /// Every level that it may offer: those declared, and 0.
     pub fn levels_and_0(&self) -> impl Iterator<Item = u64> + '_ {
         iter::once(0).chain(self.levels.iter().copied())

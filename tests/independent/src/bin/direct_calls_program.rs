@@ -38,6 +38,9 @@ struct Seen {
     several_records: u64,
     accepted: u64,
     refused: u64,
+    /// Registrations with an agent, accepted and refused by 3 (document 02, request 10).
+    for_agents: u64,
+    agents_refused: u64,
     difference: Option<String>,
 }
 
@@ -74,6 +77,10 @@ impl Seen {
         let accepted = lines.iter().filter(|line| line.accepted).count() as u64;
         self.accepted += accepted;
         self.refused += lines.len() as u64 - accepted;
+        let [for_agents, agents_refused] =
+            ["8 0", "8 3"].map(|answer| printed.lines().filter(|line| *line == answer).count());
+        self.for_agents += for_agents as u64;
+        self.agents_refused += agents_refused as u64;
         let settlings = printed.lines().filter(|line| line.starts_with("6 0 "));
         let records: Vec<u64> = settlings.map(records).collect();
         self.settled += u64::from(!records.is_empty());
@@ -88,22 +95,30 @@ impl Seen {
         self.several_records += other.several_records;
         self.accepted += other.accepted;
         self.refused += other.refused;
+        self.for_agents += other.for_agents;
+        self.agents_refused += other.agents_refused;
         self.difference = self.difference.take().or(other.difference);
     }
 
     fn report(&self) -> ExitCode {
         println!(
             "direct calls: {AUCTIONS} auctions, {} settle, each also without its refused calls; {} \
-             calls accepted, {} refused; {} settlings accepted, {} with several records: {}",
+             calls accepted, {} refused; {} registrations with an agent accepted, {} refused by 3; {} \
+             settlings accepted, {} with several records: {}",
             self.settled,
             self.accepted,
             self.refused,
+            self.for_agents,
+            self.agents_refused,
             self.settlings,
             self.several_records,
             self.difference.as_deref().unwrap_or("ok")
         );
         // Too few would show nothing.
-        let enough = self.settled >= AUCTIONS / 2 && self.refused >= AUCTIONS;
+        let enough = self.settled >= AUCTIONS / 2
+            && self.refused >= AUCTIONS
+            && self.for_agents >= AUCTIONS
+            && self.agents_refused >= AUCTIONS / 5;
         if self.difference.is_none() && enough {
             ExitCode::SUCCESS
         } else {

@@ -7,7 +7,8 @@
 //! One line a group of records: their replies by kind and answer, and `ok` or the first
 //! difference; below it, how many lines were written again, how many rounds closed where the
 //! closing rule decides, how many closings and settlings had a remainder, what lodged lists and
-//! cancellations did, and how much was cut. The exit status is 0 only if no group differs.
+//! cancellations did, who participated, and how much was cut. The exit status is 0 only if no group
+//! differs.
 
 #[path = "../engine.rs"]
 mod engine;
@@ -34,11 +35,12 @@ fn main() -> ExitCode {
     verdict(stated.iter().chain(&fixed).chain(&compared))
 }
 
-const STATED: [fn() -> Group; 4] = [
+const STATED: [fn() -> Group; 5] = [
     sample_record,
     twelve_numbers,
     lodged_lists,
     cancelled_offers,
+    agents,
 ];
 
 const COMPARED: [(&str, Records); 4] = [
@@ -159,17 +161,23 @@ fn twelve_numbers() -> Group {
 
 /// Records with lodged lists (document 02, request 5).
 fn lodged_lists() -> Group {
-    let mut group = Group::new("lodged lists");
-    for (record, stated) in sample::LODGED {
-        compare_stated(&mut group, record, stated);
-    }
-    group
+    stated("lodged lists", &sample::LODGED)
 }
 
 /// Records with cancellations (document 02, request 7).
 fn cancelled_offers() -> Group {
-    let mut group = Group::new("cancelled offers");
-    for (record, stated) in sample::CANCELLED {
+    stated("cancelled offers", &sample::CANCELLED)
+}
+
+/// Records with agents (document 02, request 10).
+fn agents() -> Group {
+    stated("agents", &sample::PARTICIPATION)
+}
+
+/// Records, each with the replies that are stated.
+fn stated(name: &'static str, records: &[(&str, &str)]) -> Group {
+    let mut group = Group::new(name);
+    for (record, stated) in records {
         compare_stated(&mut group, record, stated);
     }
     group

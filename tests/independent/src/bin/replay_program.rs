@@ -29,22 +29,13 @@ fn main() -> ExitCode {
 
 /// Groups of records, and the bytes of standard input that arrive at once.
 const GROUPS: [(&str, Records, usize); 6] = [
-    ("sample and examples", sample_and_examples, AT_ONCE),
+    ("sample and examples", sample::records, AT_ONCE),
     ("edges of lines", edges::lines, AT_ONCE),
     ("sizes of records", edges::record_sizes, AT_ONCE),
     ("sizes of replies", edges::reply_sizes, AT_ONCE),
     ("generated", || records_of(0..500), AT_ONCE),
     ("sizes of records, in pieces", edges::record_sizes, 5_000),
 ];
-
-fn sample_and_examples() -> Vec<Vec<u8>> {
-    let sample = sample::RECORD.as_bytes().to_vec();
-    let examples = sample::EXAMPLES.map(|example| sample::example(example).0.into_bytes());
-    let stated = sample::LODGED.iter().chain(&sample::CANCELLED);
-    let stated = stated.map(|(record, _)| record.as_bytes().to_vec());
-    let records = [sample].into_iter().chain(examples);
-    records.chain(stated).collect()
-}
 
 fn compare(group: &mut Group, record: &[u8], output: &Output) {
     let expected = printed(record);

@@ -31,7 +31,7 @@ fn main() -> ExitCode {
 
 /// Groups of records, and the bytes of standard input that arrive at once.
 const GROUPS: [(&str, Records, usize); 8] = [
-    ("sample and examples", sample_and_examples, AT_ONCE),
+    ("sample and examples", sample::records, AT_ONCE),
     ("fixed records", fixed::records, AT_ONCE),
     ("edges of lines", edges::lines, AT_ONCE),
     ("sizes of records", edges::record_sizes, AT_ONCE),
@@ -41,15 +41,6 @@ const GROUPS: [(&str, Records, usize); 8] = [
     ("generated", || records_of(0..20_000), AT_ONCE),
     ("sizes of records, in pieces", edges::record_sizes, 5_000),
 ];
-
-fn sample_and_examples() -> Vec<Vec<u8>> {
-    let sample = sample::RECORD.as_bytes().to_vec();
-    let examples = sample::EXAMPLES.map(|example| sample::example(example).0.into_bytes());
-    let stated = sample::LODGED.iter().chain(&sample::CANCELLED);
-    let stated = stated.map(|(record, _)| record.as_bytes().to_vec());
-    let records = [sample].into_iter().chain(examples);
-    records.chain(stated).collect()
-}
 
 fn compare(group: &mut Group, record: &[u8], output: &Output) {
     let (expected, settlement) = traced_with_settlement(record);
@@ -69,7 +60,7 @@ fn compare(group: &mut Group, record: &[u8], output: &Output) {
 }
 
 /// Counts the replies, which begin with a digit or a capital, and the words by their names; the
-/// excess by its sign, the remainder by whether it is 0, the mark, previews by what they say.
+/// excess by its sign, the remainder by whether it is 0, the marks, previews by what they say.
 fn count(group: &mut Group, record: &[u8], text: &[u8]) {
     let (below, replies): (Vec<&[u8]>, Vec<&[u8]>) = lines(text)
         .into_iter()
@@ -86,6 +77,8 @@ fn count(group: &mut Group, record: &[u8], text: &[u8]) {
             ("remainder", _) => "remainder above 0",
             ("short", "0") => "short 0",
             ("short", _) => "short 1",
+            ("insufficient", "0") => "insufficient 0",
+            ("insufficient", _) => "insufficient 1",
             ("preview", "2 0 0 0") => "preview refused",
             ("preview", numbers) if numbers.ends_with(" 1") => "preview closed",
             ("preview", _) => "preview open",

@@ -53,16 +53,19 @@ impl Script {
     /// A call out of turn or with lists of any lengths, unless it would open or close a round.
     fn disturb(&mut self) {
         let random = &mut self.random;
-        let developer = random.between(0, 34);
+        let [developer, agent] = [(); 2].map(|()| random.between(0, 34));
+        let no_agent = random.one_of(&[0, 33, 255]);
         let [n, m] = [(); 2].map(|()| random.between(0, PRICES.len() as u64));
         let levels = random.between(0, LEVELS.len() as u64);
         let bytes = random.between(0, 200);
-        let numbers: &[u64] = match (random.between(1, 5), self.auction.phase()) {
+        let numbers: &[u64] = match (random.between(1, 7), self.auction.phase()) {
             (1, _) => &[1, 20_000, n, 2, 4, 40_000],
             (2, Phase::Registering) => &[2, developer, developer, 3, levels],
             (2, _) => &[2, 1, developer, 2, levels],
             (3, _) => &[3, 9_999],
             (4, _) => &[4, developer, n, m],
+            (5, _) => &[2, developer, developer, 3, levels, agent],
+            (6, _) => &[2, developer, developer, 2, levels, no_agent],
             _ => &[6, n, bytes],
         };
         self.write(numbers);
@@ -85,7 +88,11 @@ impl Script {
             let any = self.random.between(1, MOST_LEVELS as u64);
             let levels = self.random.one_of(&[8, 8, 8, any]);
             let kind = self.random.one_of(&[EXISTING, NEW, NEW]);
-            self.call(&[2, project.into(), developer.into(), kind.into(), levels]);
+            let agent = self.random.between(1, most);
+            let [project, developer, kind] = [project, developer, kind].map(u64::from);
+            let numbers = [2, project, developer, kind, levels, agent];
+            let named = self.random.chance(50);
+            self.call(if named { &numbers } else { &numbers[..5] });
         }
     }
 

@@ -1,5 +1,6 @@
 //! Sound settings and registrations, with a demand that the registered plants can meet.
 
+use super::agents;
 use crate::auction::{Auction, EXISTING, MOST_LEVELS, NEW, NUMBERS};
 use crate::random::Random;
 use crate::replay::{make, Call};
@@ -24,9 +25,14 @@ pub fn book(random: &mut Random) -> Book {
         registrations.extend(members_of(random, &scale, project, &members));
     }
     random.shuffle(&mut registrations);
+    agents::name_some(random, &mut registrations);
     let supply = supply(&registrations);
+    let set_up = match agents::demand_at_15_per_cent(random, &registrations) {
+        Some(d) if random.chance(20) => settings_for(random, supply, d),
+        _ => settings(random, supply),
+    };
     Book {
-        set_up: settings(random, supply),
+        set_up,
         registrations,
     }
 }
@@ -48,6 +54,7 @@ pub fn long_book(random: &mut Random) -> Book {
         registrations.push(register(random, project, developer, kind, levels));
     }
     random.shuffle(&mut registrations);
+    agents::name_some(random, &mut registrations);
     let ce = random.one_of(&[200, 20_000, 500_000]);
     Book {
         set_up: set_up_at_m1(ce, 1),
@@ -114,6 +121,7 @@ pub fn register(
         project,
         developer,
         kind,
+        agent: None,
         study_value: random.one_of(&[0, 400, 400, 500, u32::MAX, any]),
         start_day: random.one_of(&[0, 10, 10, 20, u32::MAX, any]),
         levels,
@@ -121,7 +129,7 @@ pub fn register(
 }
 
 /// Supply before any withdrawal.
-fn supply(registrations: &[Call]) -> u64 {
+pub fn supply(registrations: &[Call]) -> u64 {
     let mut auction = Auction::new();
     let set_up = auction.set_up(20_000, 1_000, 900, 1_200, 40_000);
     set_up.expect("the settings of the paper's sample");
@@ -131,10 +139,14 @@ fn supply(registrations: &[Call]) -> u64 {
     auction.supply()
 }
 
+fn entrants_cost(random: &mut Random) -> u64 {
+    let any = random.of_any_size(1, 250_000);
+    2 * random.one_of(&[1, 3, 5, 20, 20, 10_000, 250_000, any, any])
+}
+
 /// Settings under which such a supply covers A, now and then just so, or is one short.
 fn settings(random: &mut Random, supply: u64) -> Call {
-    let any = random.of_any_size(1, 250_000);
-    let ce = 2 * random.one_of(&[1, 3, 5, 20, 20, 10_000, 250_000, any, any]);
+    let ce = entrants_cost(random);
     if random.chance(1) {
         return set_up_at_m1(ce, supply + 1);
     }
@@ -150,6 +162,20 @@ fn settings(random: &mut Random, supply: u64) -> Call {
         }
     }
     set_up_at_m1(ce, 1)
+}
+
+/// Settings with this D, under which such a supply covers A: that is 2 × CE, where Dem is M1.
+pub fn settings_for(random: &mut Random, supply: u64, d: u64) -> Call {
+    let ce = entrants_cost(random);
+    let most = supply.min(d - 1);
+    let any = random.between(1, most);
+    Call::SetUp {
+        ce,
+        d,
+        m1: random.one_of(&[any, most]),
+        m2: m2_above(random, d),
+        a: 2 * ce,
+    }
 }
 
 /// A is 2 × CE, where Dem is M1.

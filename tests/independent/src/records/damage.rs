@@ -20,9 +20,9 @@ pub fn line(random: &mut Random, frame: &[u8]) -> Vec<u8> {
         // One item less or more than the count says.
         6 => line.truncate(length.saturating_sub(random.one_of(&[8, 16]))),
         7 => line.resize(length + random.one_of(&[1, 2, 8, 16]), b'0'),
-        8 => line[..2].copy_from_slice(
-            random.one_of(&[b"00", b"04", b"07", b"08", b"09", b"0A", b"10", b"FF"]),
-        ),
+        8 => line[..2].copy_from_slice(random.one_of(&[
+            b"00", b"02", b"04", b"07", b"08", b"09", b"0A", b"10", b"FF",
+        ])),
         9 => line.resize(LONGEST_LINE, b'0'),
         10 => line.resize(LONGEST_LINE + 1, b'0'),
         11 => line.extend_from_slice(frame),

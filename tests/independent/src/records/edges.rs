@@ -52,6 +52,7 @@ fn long_lines() -> Vec<Vec<u8>> {
             "040208",
             "070108",
             "020505020000000000000000FF",
+            "08050502050000000000000000FF",
         ] {
             let mut line = start.as_bytes().to_vec();
             line.resize(length, b'0');
@@ -60,8 +61,9 @@ fn long_lines() -> Vec<Vec<u8>> {
     }
     for count in [8, 9, 16, 17, 255] {
         let levels: String = (1..=count).map(|level| format!("{level:08X}")).collect();
-        let line = format!("020505020000000000000000{count:02X}{levels}");
-        lines.push(line.into_bytes());
+        for start in ["020505020000000000000000", "08050502050000000000000000"] {
+            lines.push(format!("{start}{count:02X}{levels}").into_bytes());
+        }
     }
     for count in [8, 9, 10, 255] {
         let steps = (0..count).map(|step| format!("{:08X}{:08X}", 39_999 - step, 0));
@@ -108,7 +110,7 @@ pub fn reply_sizes() -> Vec<Vec<u8>> {
     let around = PROGRAM_BYTES - 6..=PROGRAM_BYTES + 6;
     let mut records: Vec<Vec<u8>> = around.map(replied_by).collect();
     let (book, settling) = (thirty_two_awards(), "06FFFFFFFF\n");
-    for count in [143, 144, 145, 300] {
+    for count in [140, 141, 142, 300] {
         let record = book.clone() + &settling.repeat(count);
         records.push(record.into_bytes());
     }

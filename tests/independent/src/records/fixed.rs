@@ -10,6 +10,7 @@ mod limits;
 mod lodgings;
 mod offers;
 mod openings;
+mod participation;
 mod phases;
 mod prices;
 mod registrations;
@@ -26,14 +27,14 @@ pub fn records() -> Vec<Vec<u8>> {
 }
 
 /// Records by what they are about.
-pub fn groups() -> [(&'static str, Vec<Vec<u8>>); 13] {
+pub fn groups() -> [(&'static str, Vec<Vec<u8>>); 14] {
     let records = |scripts: Vec<Script>| scripts.into_iter().map(|script| script.record);
     GROUPS.map(|(name, scripts)| (name, records(scripts()).collect()))
 }
 
 type Group = (&'static str, fn() -> Vec<Script>);
 
-const GROUPS: [Group; 13] = [
+const GROUPS: [Group; 14] = [
     ("whole auctions", auctions::scripts),
     ("phases", phases::scripts),
     ("settings", settings::scripts),
@@ -47,6 +48,7 @@ const GROUPS: [Group; 13] = [
     ("lodgings", lodgings::scripts),
     ("cancellations", cancellations::scripts),
     ("supply curves", curves::scripts),
+    ("participation", participation::scripts),
 ];
 
 /// A step of an offer: price and new level.
@@ -101,12 +103,28 @@ impl Script {
     }
 
     /// With this study value and start day.
-    fn register_with(self, (study_value, start_day): (u32, u32), plant: Plant) -> Script {
-        let (project, developer, kind, levels) = plant;
+    fn register_with(self, study_and_day: (u32, u32), plant: Plant) -> Script {
+        self.registration(None, study_and_day, plant)
+    }
+
+    /// Plants of this agent, by frame 08.
+    fn register_for(self, agent: u8, plants: &[Plant]) -> Script {
+        let register =
+            |script: Script, &plant: &Plant| script.registration(Some(agent), (0, 0), plant);
+        plants.iter().fold(self, register)
+    }
+
+    fn registration(
+        self,
+        agent: Option<u8>,
+        (study_value, start_day): (u32, u32),
+        (project, developer, kind, levels): Plant,
+    ) -> Script {
         self.call(&Call::Register {
             project,
             developer,
             kind,
+            agent,
             study_value,
             start_day,
             levels: levels_in_kwh(levels),

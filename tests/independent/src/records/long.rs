@@ -45,6 +45,7 @@ fn registration(number: u8) -> Call {
         project: number,
         developer: number,
         kind: if existing { EXISTING } else { NEW },
+        agent: None,
         study_value: 0,
         start_day: 0,
         levels: if existing {

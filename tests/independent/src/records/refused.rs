@@ -1,6 +1,7 @@
 //! Calls to be refused: sound ones for the auction as it stands, made out of turn or with one
 //! to three causes planted, so that the order of the checks decides the number.
 
+use super::agents::with_agent;
 use super::books::{register, some_levels};
 use super::choices;
 use crate::auction::{Auction, Developer, Phase, Round, EXISTING, HIGHEST_LEVEL, NEW, NUMBERS};
@@ -86,7 +87,9 @@ fn registration(random: &mut Random, auction: &Auction) -> Call {
     let project = random.between(1, 32) as u8;
     let levels = some_levels(random, &[1, 2, 3, 5, 8, 13, 100, 150, 200, HIGHEST_LEVEL]);
     let kind = random.one_of(&[EXISTING, NEW]);
-    register(random, project, developer, kind, levels)
+    let any = random.between(1, 32) as u8;
+    let agent = random.one_of(&[None, Some(developer), Some(any)]);
+    with_agent(register(random, project, developer, kind, levels), agent)
 }
 
 fn spoil_registration(random: &mut Random, auction: &Auction, call: &mut Call) {
@@ -94,6 +97,7 @@ fn spoil_registration(random: &mut Random, auction: &Auction, call: &mut Call) {
         project,
         developer,
         kind,
+        agent,
         levels,
         ..
     } = call
@@ -107,12 +111,13 @@ fn spoil_registration(random: &mut Random, auction: &Auction, call: &mut Call) {
         .chain([(0, 0)])
         .collect();
     let (other_project, other_developer) = random.one_of(&registered);
-    match random.between(1, 5) {
+    match random.between(1, 6) {
         1 => *project = random.one_of(&[0, 33, 255]),
         2 => *developer = random.one_of(&[0, 33, 255, other_developer, other_developer]),
         3 => *kind = random.one_of(&[0, 3, 255]),
         // Wrong if either of the two is an existing plant.
         4 => (*project, *kind) = (other_project, random.one_of(&[EXISTING, NEW])),
+        5 => *agent = Some(random.one_of(&[0, 33, 255])),
         _ => *levels = bad_levels(random, levels),
     }
 }

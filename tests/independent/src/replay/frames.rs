@@ -1,5 +1,5 @@
-//! The lines of a record and the calls they hold (document 01, Frames; document 02, requests 5 and
-//! 7).
+//! The lines of a record and the calls they hold (document 01, Frames; document 02, requests 5, 7
+//! and 10).
 //! Fields, their order and widths stand in one table; reading and writing go by it.
 
 /// A call of the auction, each number as wide as its field.
@@ -16,6 +16,8 @@ pub enum Call {
         project: u8,
         developer: u8,
         kind: u8,
+        /// Named in frame 08; none in frame 02, which makes it the developer's number.
+        agent: Option<u8>,
         study_value: u32,
         start_day: u32,
         levels: Vec<u32>,
@@ -49,6 +51,7 @@ pub(super) const OFFER: u8 = 4;
 pub(super) const CLOSE: u8 = 5;
 pub(super) const SETTLE: u8 = 6;
 pub(super) const LODGE: u8 = 7;
+pub(super) const REGISTRATION_FOR: u8 = 8;
 pub(super) const CANCEL: u8 = 9;
 
 /// The fields of one kind of frame. Those of an item stand as often as the count says, which
@@ -62,7 +65,7 @@ pub(crate) struct Row {
 /// A field's name and its width in hexadecimal digits.
 type Field = (&'static str, usize);
 
-pub(crate) const ROWS: [Row; 8] = [
+pub(crate) const ROWS: [Row; 9] = [
     Row {
         kind: SET_UP,
         fields: &[("CE", 8), ("D", 10), ("M1", 10), ("M2", 10), ("A", 8)],
@@ -105,6 +108,20 @@ pub(crate) const ROWS: [Row; 8] = [
         kind: LODGE,
         fields: &[("developer", 2), ("count", 2)],
         item: &[("price", 8), ("level", 8)],
+    },
+    // As a registration, with the agent after the kind of plant.
+    Row {
+        kind: REGISTRATION_FOR,
+        fields: &[
+            ("project", 2),
+            ("developer", 2),
+            ("kind", 2),
+            ("agent", 2),
+            ("study", 8),
+            ("day", 8),
+            ("count", 2),
+        ],
+        item: &[("level", 8)],
     },
     Row {
         kind: CANCEL,
@@ -193,15 +210,11 @@ fn narrow<T: TryFrom<u64>>(number: u64) -> T {
 fn call(kind: u8, numbers: &[u64]) -> Call {
     match (kind, numbers) {
         (SET_UP, &[ce, d, m1, m2, a]) => Call::SetUp { ce, d, m1, m2, a },
-        (REGISTRATION, [project, developer, kind, study, day, _count, levels @ ..]) => {
-            Call::Register {
-                project: narrow(*project),
-                developer: narrow(*developer),
-                kind: narrow(*kind),
-                study_value: narrow(*study),
-                start_day: narrow(*day),
-                levels: levels.iter().map(|&level| narrow(level)).collect(),
-            }
+        (REGISTRATION, [project, developer, kind, rest @ ..]) => {
+            registration([*project, *developer, *kind], None, rest)
+        }
+        (REGISTRATION_FOR, [project, developer, kind, agent, rest @ ..]) => {
+            registration([*project, *developer, *kind], Some(*agent), rest)
         }
         (OPEN, &[c]) => Call::Open { c: narrow(c) },
         (OFFER, [developer, _count, steps @ ..]) => {
@@ -228,6 +241,23 @@ fn call(kind: u8, numbers: &[u64]) -> Call {
             limit: narrow(limit),
         },
         _ => unreachable!("the numbers are those of the table"),
+    }
+}
+
+/// The registration with these numbers: what stands behind the agent, or where it would, is the same
+/// in either frame.
+fn registration([project, developer, kind]: [u64; 3], agent: Option<u64>, rest: &[u64]) -> Call {
+    let [study, day, _count, levels @ ..] = rest else {
+        unreachable!("the numbers are those of the table")
+    };
+    Call::Register {
+        project: narrow(project),
+        developer: narrow(developer),
+        kind: narrow(kind),
+        agent: agent.map(narrow),
+        study_value: narrow(*study),
+        start_day: narrow(*day),
+        levels: levels.iter().map(|&level| narrow(level)).collect(),
     }
 }
 

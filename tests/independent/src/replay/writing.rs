@@ -1,8 +1,8 @@
 //! Calls to frames (document 02, request 2), by the table that the reader goes by.
 
 use super::frames::{
-    row, Call, CANCEL, CLOSE, KIND_WIDTH, LODGE, LONGEST_LINE, OFFER, OPEN, REGISTRATION, SETTLE,
-    SET_UP,
+    row, Call, CANCEL, CLOSE, KIND_WIDTH, LODGE, LONGEST_LINE, OFFER, OPEN, REGISTRATION,
+    REGISTRATION_FOR, SETTLE, SET_UP,
 };
 use crate::{host_number, require, FRAME_BUFFER_TOO_SHORT, NOT_WRITABLE};
 
@@ -120,14 +120,19 @@ pub fn fields(call: &Call) -> Fields {
             project,
             developer,
             kind,
+            agent,
             study_value,
             start_day,
             levels,
         } => {
-            let bytes = [project, developer, kind].map(|&byte| u64::from(byte));
+            let frame = match agent {
+                None => REGISTRATION,
+                Some(_) => REGISTRATION_FOR,
+            };
+            let bytes = [project, developer, kind].into_iter().chain(agent);
+            let bytes = bytes.map(|&byte| u64::from(byte));
             let words = [study_value, start_day].map(|&word| u64::from(word));
-            let numbers = [&bytes[..], &words].concat();
-            (REGISTRATION, numbers, vec![wide(levels)])
+            (frame, bytes.chain(words).collect(), vec![wide(levels)])
         }
         &Call::Open { c } => (OPEN, vec![c.into()], vec![]),
         Call::Offer {

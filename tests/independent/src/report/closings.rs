@@ -56,7 +56,7 @@ fn registers_large_level(line: &[u8], reply: &[u8]) -> bool {
     let Some(Call::Register { levels, .. }) = read_call(line) else {
         return false;
     };
-    reply == b"0200" && levels.last().is_some_and(|&highest| highest >= LARGE_LEVEL)
+    reply.ends_with(b"00") && levels.last().is_some_and(|&highest| highest >= LARGE_LEVEL)
 }
 
 /// The excess in the reply to an accepted closing.

@@ -9,8 +9,9 @@ pub struct Remainders {
     at_p: [u64; 2],
 }
 
-/// Digits behind the remainder of a settling: the second price and its mark.
-const BEHIND: usize = 10;
+/// Digits behind the remainder of a settling: the second price and its mark, the mark of
+/// participation and the price paid to existing plants.
+const BEHIND: usize = 20;
 
 /// 1 if the number at the end of a reply is above 0.
 fn above_0(reply: &[u8]) -> usize {

@@ -41,6 +41,7 @@ fn registration(auction: &Auction, call: &Call) -> Vec<(u8, bool)> {
         project,
         developer,
         kind,
+        agent,
         levels,
         ..
     } = call
@@ -48,6 +49,7 @@ fn registration(auction: &Auction, call: &Call) -> Vec<(u8, bool)> {
         return Vec::new();
     };
     let outside = |number: &u8| *number < 1 || *number > 32;
+    let bad_agent = agent.is_some_and(|agent| outside(&agent));
     let used = auction.developers().contains_key(developer);
     let mut on_project = auction
         .developers()
@@ -64,7 +66,10 @@ fn registration(auction: &Auction, call: &Call) -> Vec<(u8, bool)> {
         _ => true,
     };
     vec![
-        (3, outside(project) || outside(developer) || used),
+        (
+            3,
+            outside(project) || outside(developer) || bad_agent || used,
+        ),
         (4, bad_levels || bad_project),
     ]
 }
@@ -184,6 +189,9 @@ const MEETING: &[(u8, u8, u8)] = &[
     (7, 6, 7),
     (7, 15, 6),
     (7, 15, 7),
+    (8, 2, 3),
+    (8, 2, 4),
+    (8, 3, 4),
     (9, 2, 3),
     (9, 2, 16),
     (9, 3, 16),

@@ -5,11 +5,13 @@ use crate::replay::{lines, replay};
 use std::collections::BTreeSet;
 
 /// The refusals of each group, by kind and number.
-const REFUSED: [(&str, &[&str]); 13] = [
+const REFUSED: [(&str, &[&str]); 14] = [
     ("whole auctions", &["0203", "0302", "0305", "0407", "0502"]),
     (
         "phases",
-        &["0102", "0202", "0302", "0402", "0502", "0702", "0902"],
+        &[
+            "0102", "0202", "0302", "0402", "0502", "0702", "0802", "0902",
+        ],
     ),
     ("settings", &["0101", "0102"]),
     ("registrations", &["0203", "0204"]),
@@ -35,6 +37,7 @@ const REFUSED: [(&str, &[&str]); 13] = [
             "0302", "0402", "0406", "0407", "0408", "0502", "060A", "0910",
         ],
     ),
+    ("participation", &["0802", "0803", "0804"]),
 ];
 
 #[test]

@@ -1,5 +1,6 @@
 //! Frames by bytes: what is a line, what is a frame, and which calls frames make.
 
+use crate::records::with_agent;
 use crate::replay::{lines, next_line, read_call, replay, write_call, Call};
 use crate::sample::{RECORD, REPLY};
 
@@ -78,6 +79,7 @@ fn calls_of_the_sample() {
             project: 2,
             developer: 2,
             kind: 2,
+            agent: None,
             study_value: 400,
             start_day: 10,
             levels: vec![100, 200]
@@ -99,6 +101,21 @@ fn calls_of_the_sample() {
     }
 }
 
+/// The agent stands after the kind of plant; named or not, it is another call.
+#[test]
+fn calls_with_agents() {
+    let without = lines(RECORD.as_bytes())[2];
+    let call = read_call(without).expect("a frame");
+    for agent in [0, 2, 3, 255] {
+        let named = with_agent(call.clone(), Some(agent));
+        let line = format!("08020202{agent:02X}000001900000000A0200000064000000C8");
+        assert_eq!(read_call(line.as_bytes()), Some(named.clone()));
+        assert_eq!(write_call(&named), line.as_bytes());
+        assert_ne!(named, call);
+    }
+    assert_eq!(write_call(&call), without);
+}
+
 /// Fields hold all that their digits can say.
 #[test]
 fn widest_fields() {
@@ -115,11 +132,15 @@ fn widest_fields() {
         project: 255,
         developer: 255,
         kind: 255,
+        agent: None,
         study_value: u32::MAX,
         start_day: u32::MAX,
         levels: vec![u32::MAX],
     };
     let line = format!("02{}01FFFFFFFF", "F".repeat(22));
+    assert_eq!(read_call(line.as_bytes()), Some(widest.clone()));
+    let line = format!("08{}01FFFFFFFF", "F".repeat(24));
+    let widest = with_agent(widest, Some(255));
     assert_eq!(read_call(line.as_bytes()), Some(widest));
     let widest = Call::Settle { limit: u32::MAX };
     assert_eq!(read_call(b"06FFFFFFFF"), Some(widest));
@@ -130,6 +151,7 @@ fn malformed_lines() {
     let registration = "0203040200000000000000000100000096";
     let offer = "0402010000659000000064";
     let lodging = "0702010000659000000064";
+    let registration_for = "080304020100000000000000000100000096";
     let mut malformed: Vec<String> = [
         "",
         "0",
@@ -164,6 +186,8 @@ fn malformed_lines() {
         "0701010000659000000064FF",
         "0802010000659000000064",
         "0802",
+        "0803040200000000000000000100000096",
+        "02030402010000000000000000000100000096",
         "09",
         "090",
         "09020",
@@ -172,7 +196,7 @@ fn malformed_lines() {
     ]
     .map(str::to_owned)
     .to_vec();
-    for frame in [registration, offer, lodging] {
+    for frame in [registration, offer, lodging, registration_for] {
         malformed.push(frame[..frame.len() - 1].to_owned());
         malformed.push(frame[..frame.len() - 8].to_owned());
         malformed.push(frame.to_owned() + "0");
@@ -206,6 +230,9 @@ fn counts() {
     ] {
         let levels: String = (1..=count).map(|level| format!("{level:08X}")).collect();
         let line = format!("020505020000000000000000{count:02X}{levels}");
+        assert_eq!(reply_behind(REGISTERED, &line), reply, "{count} levels");
+        let line = format!("08050502090000000000000000{count:02X}{levels}");
+        let reply = reply.replace("02", "08");
         assert_eq!(reply_behind(REGISTERED, &line), reply, "{count} levels");
     }
     for (count, reply) in [
@@ -252,6 +279,7 @@ fn refusals() {
         ("05", "0502"),
         ("0600000064", "0602"),
         ("070100", "0702"),
+        ("0805050205000000000000000001000000C8", "0802"),
         ("0902", "0902"),
     ] {
         assert_eq!(reply_behind(0, line), reply);

@@ -1,9 +1,9 @@
-//! Document 01's sample record and its whole reply, with what document 02's requests 4 and 5 add;
-//! the records with lodged lists and with cancellations.
+//! Document 01's sample record and its whole reply, with what document 02's requests 4, 5 and 10 add;
+//! the records with lodged lists, with cancellations and with agents.
 
 use super::sample_closed;
 use crate::replay::{lines, replay, replay_into};
-use crate::sample::{CANCELLED, LODGED, RECORD, REPLY};
+use crate::sample::{CANCELLED, LODGED, PARTICIPATION, RECORD, REPLY};
 use crate::settling::Award;
 
 #[test]
@@ -12,8 +12,9 @@ fn whole_reply() {
 }
 
 #[test]
-fn lodged_lists_and_cancellations() {
-    for (record, reply) in LODGED.iter().chain(&CANCELLED) {
+fn lodged_lists_cancellations_and_agents() {
+    let stated = LODGED.iter().chain(&CANCELLED).chain(&PARTICIPATION);
+    for (record, reply) in stated {
         let replies = String::from_utf8(replay(record.as_bytes())).expect("digits");
         assert_eq!(replies, *reply);
     }
@@ -66,6 +67,7 @@ fn settled_by_calls() {
     assert_eq!((settlement.choices, settlement.covering), (4, 3));
     assert_eq!(settlement.remainder, 0);
     assert_eq!((settlement.second_price, settlement.short), (26_000, false));
+    assert_eq!((settlement.insufficient, settlement.paid), (false, 26_000));
     let award = |project, developer, quantity| Award {
         project,
         developer,

@@ -5,8 +5,10 @@ use super::{each_step, Step, RECORDS};
 use crate::auction::Auction;
 use crate::records::DECISIVE;
 use crate::replay::{lines, replay, Accepted, Call};
-use crate::report::{Cancellations, Closings, Features, Lodgings, Redrawn, Remainders};
-use crate::report::{CANCELLATIONS, CURVES, LODGINGS};
+use crate::report::{
+    Cancellations, Closings, Features, Lodgings, Participation, Redrawn, Remainders,
+};
+use crate::report::{CANCELLATIONS, CURVES, LODGINGS, PARTICIPATION};
 use crate::settling::{Award, Settlement};
 use std::collections::BTreeMap;
 
@@ -23,6 +25,7 @@ struct Shares {
     remainders: Remainders,
     lodgings: Features<Lodgings>,
     cancellations: Features<Cancellations>,
+    participation: Features<Participation>,
     curves: Features<Redrawn>,
 }
 
@@ -38,6 +41,7 @@ impl Shares {
             remainders: Remainders::default(),
             lodgings: Features::new(LODGINGS),
             cancellations: Features::new(CANCELLATIONS),
+            participation: Features::new(PARTICIPATION),
             curves: Features::new(CURVES),
         }
     }
@@ -48,6 +52,8 @@ impl Shares {
         self.remainders.count(&replies);
         self.lodgings.count(&Lodgings::of(record));
         self.cancellations.count(&Cancellations::of(record));
+        let participation = Participation::of(record, &replies);
+        self.participation.count(&participation);
         for closing in Redrawn::all(record) {
             self.curves.count(&closing);
         }
@@ -90,6 +96,7 @@ impl Shares {
         self.remainders.print();
         self.lodgings.print("lodgings by record");
         self.cancellations.print("cancellations by record");
+        self.participation.print("participation by record");
         self.curves.print("curves by closing");
     }
 }
@@ -104,6 +111,7 @@ const REPLIES: &[(u8, &[u8])] = &[
     (0x05, &[0, 2]),
     (0x06, &[0, 2, 10]),
     (0x07, &[0, 2, 15, 6, 7]),
+    (0x08, &[0, 2, 3, 4]),
     (0x09, &[0, 2, 3, 16]),
     (0xFF, &[12]),
 ];
@@ -132,14 +140,17 @@ fn shares_of_replies() {
     assert!(remainders.iter().flatten().all(|&count| count >= 1_000));
     let refused = [2, 15, 6, 7].map(|number| shares.replies[&(7, number)]);
     assert!(refused.iter().all(|&count| count >= 500), "{refused:?}");
+    let refused = [2, 3, 4].map(|number| shares.replies[&(8, number)]);
+    assert!(refused.iter().all(|&count| count >= 500), "{refused:?}");
     let refused = [2, 3, 16].map(|number| shares.replies[&(9, number)]);
     assert!(refused.iter().all(|&count| count >= 500), "{refused:?}");
     let lodgings: Vec<_> = shares.lodgings.counts().collect();
     let cancellations: Vec<_> = shares.cancellations.counts().collect();
+    let participation: Vec<_> = shares.participation.counts().collect();
     let mut curves: Vec<_> = shares.curves.counts().collect();
     // The longest are fixed records.
     curves.retain(|(name, _)| *name != "256");
-    for counts in [lodgings, cancellations, curves] {
+    for counts in [lodgings, cancellations, participation, curves] {
         assert!(counts[0].1 * 3 >= shares.records, "{counts:?}");
         assert!(counts.iter().all(|(_, count)| *count >= 500), "{counts:?}");
     }

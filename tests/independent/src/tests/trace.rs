@@ -2,7 +2,7 @@
 
 use crate::records::edges;
 use crate::replay::{lines, replay, PROGRAM_BYTES};
-use crate::sample::{LODGED, RECORD, TRACE};
+use crate::sample::{LODGED, PARTICIPATION, RECORD, TRACE};
 use crate::trace::traced;
 
 #[test]
@@ -44,9 +44,9 @@ fn remainders() {
         format!("{SET_UP}02010101000000000000000001000003B7\n030000752F\n05\n0600000001\n");
     let trace = "0100\n0200\n0300\npreview 0 0 19900 1\n\
         0500000000000000000000004DBC\nexcess 0\nremainder 19900\n\
-        06000000752F00000003B700000003B70000000100000001010101000003B700004DBC0000752F00\n\
+        06000000752F00000003B700000003B70000000100000001010101000003B700004DBC0000752F00000000752F\n\
         price 29999\ndemand 951\ntotal 951\nchoices 1\ncovering 1\naward 1 1 951\nkept 1\n\
-        remainder 19900\nsecond 29999\nshort 0\n";
+        remainder 19900\nsecond 29999\nshort 0\ninsufficient 0\npaid 29999\n";
     assert_eq!(traced(record.as_bytes()), trace.as_bytes());
     let record = format!(
         "{SET_UP}02010102000000000000000001000003B6\n030000752F\n04010100007531\
@@ -54,9 +54,9 @@ fn remainders() {
     );
     let trace = "0100\n0200\n0300\n0400\npreview 0 -951 19900 1\n\
         0500FFFFFFFFFFFFFC4900004DBC\nexcess -951\nremainder 19900\ncurve 30001 950 0\n\
-        06000000753100000003B600000003B60000000200000001010101000003B6000000640000753100\n\
+        06000000753100000003B600000003B60000000200000001010101000003B60000006400007531000000007531\n\
         price 30001\ndemand 950\ntotal 950\nchoices 2\ncovering 1\naward 1 1 950\nkept 1\n\
-        remainder 100\nsecond 30001\nshort 0\n";
+        remainder 100\nsecond 30001\nshort 0\ninsufficient 0\npaid 30001\n";
     assert_eq!(traced(record.as_bytes()), trace.as_bytes());
 }
 
@@ -91,8 +91,27 @@ fn second_prices() {
     let ends = [(30_000, 0), (40_000, 1), (26_000, 0)];
     for ((record, _), (second, short)) in LODGED.into_iter().zip(ends) {
         let trace = traced(record.as_bytes());
-        let end = format!("\nremainder 0\nsecond {second}\nshort {short}\n");
+        let end =
+            format!("\nremainder 0\nsecond {second}\nshort {short}\ninsufficient 0\npaid 26000\n");
         assert!(trace.ends_with(end.as_bytes()));
+    }
+}
+
+/// The last words of the records with agents.
+#[test]
+fn participation() {
+    let ends = [
+        (1, 22_000),
+        (1, 19_000),
+        (1, 22_000),
+        (0, 26_000),
+        (0, 25_000),
+        (1, 22_000),
+    ];
+    for ((record, _), (insufficient, paid)) in PARTICIPATION.into_iter().zip(ends) {
+        let trace = traced(record.as_bytes());
+        let end = format!("\nshort 0\ninsufficient {insufficient}\npaid {paid}\n");
+        assert!(trace.ends_with(end.as_bytes()), "{record}");
     }
 }
 

@@ -50,6 +50,7 @@ fn refused_calls_are_writable() {
     assert_eq!(text(&of(2, &[0; 5], &[&[]])), format!("02{:024}\n", 0));
     assert_eq!(text(&of(4, &[0], &[&[], &[]])), "040000\n");
     assert_eq!(text(&of(7, &[0], &[&[], &[]])), "070000\n");
+    assert_eq!(text(&of(8, &[0; 6], &[&[]])), format!("08{:026}\n", 0));
     assert_eq!(text(&of(9, &[0], &[])), "0900\n");
 }
 
@@ -63,6 +64,7 @@ fn widths() {
         (of(4, &[0], &[&[0, 0], &[0, 0]]), &[2, 8, 8, 8, 8]),
         (of(6, &[0], &[]), &[8]),
         (of(7, &[0], &[&[0, 0], &[0, 0]]), &[2, 8, 8, 8, 8]),
+        (of(8, &[0; 6], &[&[0, 0]]), &[2, 2, 2, 2, 8, 8, 8, 8]),
         (of(9, &[0], &[]), &[2]),
     ] {
         for (place, width) in widths.iter().enumerate() {
@@ -83,7 +85,7 @@ fn widths() {
     }
 }
 
-/// 16 levels are 154 characters, 9 steps 150; one more makes 162 and 166.
+/// 16 levels are 154 characters, with an agent 156, and 9 steps 150; one more makes 162, 164 and 166.
 #[test]
 fn lengths() {
     for count in 0..=300 {
@@ -92,6 +94,7 @@ fn lengths() {
             (of(2, &[1; 5], &[list]), 26, 8, 16),
             (of(4, &[1], &[list, list]), 6, 16, 9),
             (of(7, &[1], &[list, list]), 6, 16, 9),
+            (of(8, &[1; 6], &[list]), 28, 8, 16),
         ] {
             if count <= most {
                 assert_eq!(text(&call).len(), head + item * count + 1);
@@ -111,6 +114,22 @@ fn unequal_lists() {
             assert_eq!(causes(&call), [Cause::UnequalLists]);
             assert_eq!(frame(&call), Err(14));
         }
+    }
+}
+
+/// Each registration in its own frame, also where the agent is the developer's number.
+#[test]
+fn frames_of_registrations() {
+    let (without, own) = (
+        of(2, &[2, 3, 2, 500, 20], &[&[200]]),
+        of(8, &[2, 3, 2, 3, 500, 20], &[&[200]]),
+    );
+    assert_eq!(text(&without), "02020302000001F40000001401000000C8\n");
+    assert_eq!(text(&own), "0802030203000001F40000001401000000C8\n");
+    for call in [without, own] {
+        let frame = frame(&call).expect("a writable call");
+        let read = frame.strip_suffix(b"\n").and_then(read_call);
+        assert_eq!(read.map(|read| fields(&read)), Some(call));
     }
 }
 

@@ -1,7 +1,7 @@
 //! Each call in each phase that does not accept it: a sound one, then one that has a second cause
 //! behind 2.
 
-use super::{between_rounds, closed, opened, registered, Script, SETTINGS};
+use super::{between_rounds, closed, opened, registered, Plant, Script, SETTINGS};
 use crate::auction::NEW;
 
 pub(super) fn scripts() -> Vec<Script> {
@@ -73,11 +73,13 @@ fn set_ups_refused(script: Script) -> Script {
 
 /// 2 over 3 and 4.
 fn registrations_refused(script: Script) -> Script {
-    script.register(&[
+    let plants: &[Plant] = &[
         (5, 5, NEW, &[10]),
         (5, 33, NEW, &[10]),
         (5, 5, NEW, &[5, 5]),
-    ])
+    ];
+    let script = script.register(plants).register_for(6, plants);
+    script.register_for(33, &plants[..1])
 }
 
 /// 2 over 15, 6 and 7.
