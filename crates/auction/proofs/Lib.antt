@@ -9,5 +9,3 @@ mod Offering
 mod Cancelling
 mod Lodging
 mod ClosingRound
-mod Previewing
-mod ReadingCurve

@@ -2,16 +2,11 @@
 use Prim.Native.Nat.{ℕ}
 use mathlib.Core.Path.{_≡_}
 use mathlib.Core.List.{List, [], _∷_, _++_}
-use lib.ListN.{length, getD}
 use Rattle.rules.specs.Ledger.{settingsOf, Agency, Own, Named, Call, SetUp, Register, Close}
 use Rattle.rules.specs.Rounds.{ledger, Answered, numberAlone, answer}
-use Rattle.rules.specs.Preview.{Previewed, preview, previewAlone}
-use Rattle.supply_curve.specs.Curve.{Point, supplyCurve, noPoint}
 use Rattle.auction.specs.declared.Auction.{Auction}
 use Rattle.auction.specs.declared.Answer.{Answer}
 use Rattle.auction.specs.declared.Closing.{Closing}
-use Rattle.auction.specs.declared.Preview.{Preview}
-use Rattle.auction.specs.declared.SupplyPoint.{SupplyPoint}
 use Rattle.auction.specs.Holds.{auctionOf}
 
 -- Refused, on every value of the struct: the auction stays, and every other number is 0. And for every list of calls whose ledger the
@@ -36,26 +31,6 @@ AnswersNumber c a r = Called c a (r .auction) (numberIn r)
 -- a closing
 abbrev pub AnswersClosing : Auction → Closing → Type 0
 AnswersClosing a r = Called Close a (r .auction) (closingIn r)
-
--- what a preview says
-abbrev pub previewIn : Preview → Previewed
-previewIn r = record { answered = record { number = r .number; excess = r .excess; remainder = r .remainder }; closed = r .closed }
-
--- a preview of closing. Refused, on every value of the struct: every other place is 0, and not closed. And for every list of calls whose
--- ledger the auction holds it is the ledger's, which is by the definitions of closing
-pub record Previews (a : Auction) (r : Preview) : Type 0 where
-  pub zero : (r .number ≡ 0 → ⊥) → previewIn r ≡ previewAlone (r .number)
-  pub right : (cs : List Call) → a ≡ auctionOf (ledger cs) → previewIn r ≡ preview (ledger cs)
-
--- the point that a reading says
-abbrev pub supplyPointIn : SupplyPoint → Point
-supplyPointIn r = record { price = r .price; before = r .before; after = r .after }
-
--- a reading of the supply curve (document 02, 9). For every list of calls whose ledger the auction holds: the number of points of the ledger's
--- curve, which is by the definitions of supply, and its point at this place, zero past the end
-pub record ReadsCurve (a : Auction) (place : ℕ) (r : SupplyPoint) : Type 0 where
-  pub entries : (cs : List Call) → a ≡ auctionOf (ledger cs) → r .entries ≡ length (supplyCurve (ledger cs))
-  pub point : (cs : List Call) → a ≡ auctionOf (ledger cs) → supplyPointIn r ≡ getD (supplyCurve (ledger cs)) place noPoint
 
 abbrev pub setsUp : ℕ → ℕ → ℕ → ℕ → ℕ → Call
 setsUp ce d m1 m2 a = SetUp (settingsOf ce d m1 m2 a)

@@ -1,5 +1,4 @@
 pub mod Holds
 pub mod Called
 pub mod CalledLaws
-pub mod PreviewLaws
 pub mod Parts

@@ -1,11 +1,10 @@
-// The auction: its state, passed by value, the seven calls that change it, a preview of closing, and the supply curve read. Each call's contract
-// is an equation with the ledger of document 01, for every list of calls (specs/Called.antt).
+// The auction: its state, passed by value, and the calls that change it. Each call's contract is an equation with the ledger of document 01, for every list of calls (specs/Called.antt).
 ghost use mathlib.Core.Path.{_≡_};
 ghost use mathlib.Core.List.{[]};
 ghost use Rattle.rules.specs.Ledger.{Open, By, Offer, Lodge, Cancel};
 ghost use Rattle.rules.specs.Rounds.{ledger};
 ghost use Rattle.auction.specs.Holds.{auctionOf};
-ghost use Rattle.auction.specs.Called.{AnswersNumber, AnswersClosing, Previews, ReadsCurve, setsUp, registers, registersFor, refusedAnswer};
+ghost use Rattle.auction.specs.Called.{AnswersNumber, AnswersClosing, setsUp, registers, registersFor, refusedAnswer};
 use clock::Settings;
 use history::History;
 use kept_curve::Curve;
@@ -40,22 +39,6 @@ pub struct Closing {
     pub excess: i64,
     pub remainder: u32,
     pub auction: Auction,
-}
-
-// What a closing would answer, and whether the auction would then be closed. It holds no auction.
-pub struct Preview {
-    pub number: u8,
-    pub excess: i64,
-    pub remainder: u32,
-    pub closed: bool,
-}
-
-// The number of points of the supply curve, and the one at a place, zero past the end. It holds no auction.
-pub struct SupplyPoint {
-    pub entries: usize,
-    pub price: u32,
-    pub before: u64,
-    pub after: u64,
 }
 
 impl Auction {
@@ -353,39 +336,6 @@ impl Auction {
             excess: figures.excess,
             remainder: figures.remainder,
             auction: next,
-        }
-    }
-
-    // Looking before closing (document 02, 6): closes a copy. Checks: 2.
-    pub fn preview(self) -> Preview
-        ensures { λ r. ⌜ Previews self r ⌝ }
-    {
-        let closing = self.close();
-        let number = closing.number;
-        let phase = closing.auction.phase;
-        Preview {
-            number: number,
-            excess: closing.excess,
-            remainder: closing.remainder,
-            closed: clock::is_closed(number, phase),
-        }
-    }
-
-    // The supply curve, point by point (document 02, 9). Before its first point supply is that of the highest levels.
-    pub fn supply_point(self, place: usize) -> SupplyPoint
-        ensures { λ r. ⌜ ReadsCurve self place r ⌝ }
-    {
-        let projects = self.projects;
-        let declared = self.declared;
-        let curve = self.curve;
-        let highest = lows::highest_levels(declared);
-        let first = supply::supply(projects, highest);
-        let point = curve.point(first, place);
-        SupplyPoint {
-            entries: curve.count,
-            price: point.price,
-            before: point.before,
-            after: point.after,
         }
     }
 }

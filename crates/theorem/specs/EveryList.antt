@@ -37,8 +37,8 @@ use Rattle.auction.proofs.Auction.offer.Statement as offer-states
 use Rattle.auction.proofs.Auction.lodge.Statement as lodge-states
 use Rattle.auction.proofs.Auction.cancel.Statement as cancel-states
 use Rattle.auction.proofs.Auction.close.Statement as close-states
-use Rattle.auction.proofs.Auction.preview.Statement as preview-states
-use Rattle.auction.proofs.Auction.supply_point.Statement as supply-point-states
+use Rattle.readings.proofs.preview_closing.Statement as preview-states
+use Rattle.readings.proofs.supply_point.Statement as supply-point-states
 use Rattle.auction.proofs.Auction.new.Met as new-met
 use Rattle.auction.proofs.Auction.set_up.Met as set-up-met
 use Rattle.auction.proofs.Auction.register.Met as register-met
@@ -48,8 +48,8 @@ use Rattle.auction.proofs.Auction.offer.Met as offer-met
 use Rattle.auction.proofs.Auction.lodge.Met as lodge-met
 use Rattle.auction.proofs.Auction.cancel.Met as cancel-met
 use Rattle.auction.proofs.Auction.close.Met as close-met
-use Rattle.auction.proofs.Auction.preview.Met as preview-met
-use Rattle.auction.proofs.Auction.supply_point.Met as supply-point-met
+use Rattle.readings.proofs.preview_closing.Met as preview-met
+use Rattle.readings.proofs.supply_point.Met as supply-point-met
 
 -- `Made c a r b`: the call c, made on the auction a, is answered r and returns b, as the method's own contract says
 pub data Made : Call → Auction → Answered → Auction → Type 0 where
@@ -100,6 +100,10 @@ reached (followed {cs = cs} {c = c} {r = r} w m) =
     let f = reached w in
     let s = by-contract m in
     (s .next cs (f .0), ap₂ (λ (xs : List Answered) (x : Answered). xs ++ (x ∷ [])) (f .1) (s .answer cs (f .0)) ∙ sym (answers-snoc cs c))
+
+-- two runs of one list of calls get equal answers and reach equal auctions
+pub same-answers : {cs : List Call} {rs rs′ : List Answered} {a a′ : Auction} → Run cs rs a → Run cs rs′ a′ → (rs ≡ rs′) × (a ≡ a′)
+same-answers w v = let e = reached w in let f = reached v in (e .1 ∙ sym (f .1), e .0 ∙ sym (f .0))
 
 -- THE THEOREM: each method meets its contract, in every model, and by the contracts alone the auction that a list of calls reaches holds
 -- the ledger of the list, and the answers along the way are the ledger's

@@ -3,11 +3,6 @@ pub mod Previewed
 pub mod SupplyCurves
 pub mod ReadBack
 pub mod Runs
-pub mod AwardRecords
-pub mod RecordOrder
-pub mod Stated
-pub mod StatedLaws
-pub mod Determined
 pub mod Untouched
 pub mod Settling
 pub mod Readable

@@ -15,11 +15,11 @@ use Rattle.rules.specs.Clearing.{demandAt}
 use Rattle.rules.specs.Refusals.{floor, number}
 use Rattle.rules.specs.Rounds.{supplyAfter, ledger, Answered}
 use Rattle.rules.specs.Preview.{Previewed, previewAlone, preview-closed}
-use Rattle.auction.specs.Called.{previewIn}
-use Rattle.auction.specs.PreviewLaws.{previewed}
+use Rattle.readings.specs.Readings.{previewIn}
+use Rattle.readings.specs.PreviewLaws.{previewed}
 use Rattle.auction.specs.declared.Auction.{Auction}
-use Rattle.auction.specs.declared.Preview.{Preview}
-use Rattle.auction.proofs.Auction.preview.Reads as previewing
+use Rattle.readings.specs.declared.Preview.{Preview}
+use Rattle.readings.proofs.preview_closing.Reads as previewing
 use Rattle.theorem.specs.EveryList.{Made, by-contract, Run, reached}
 
 -- p is what the preview of the auction a says, as the method's own contract has it

@@ -22,9 +22,9 @@ use Rattle.settling.proofs.settle.Met as settle-met
 use Rattle.theorem.specs.EveryList.{Run, reached, EveryList, every-list}
 use Rattle.theorem.specs.Previewed.{PreviewStated, preview-stated}
 use Rattle.theorem.specs.SupplyCurves.{CurveStated, curve-stated}
-use Rattle.theorem.specs.Stated.{Stated}
-use Rattle.theorem.specs.Determined.{determined, by-accepted}
-use Rattle.theorem.specs.StatedLaws.{stated}
+use Rattle.stated.specs.Stated.{Stated}
+use Rattle.stated.specs.Determined.{determined, by-accepted}
+use Rattle.stated.specs.StatedLaws.{stated}
 
 -- the arguments x: the auction, the limit, the buffer; y: the same at the call's end
 pub record Settling (M : Type 1) : Type 2 where

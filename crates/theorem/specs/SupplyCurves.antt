@@ -16,11 +16,11 @@ use Rattle.supply_curve.specs.Curve.{Point, supplyCurve, noPoint, suppliedAt}
 use Rattle.supply_curve.specs.CurveLaws.{Joined, WithdrewAt, curve-prices, curve-falls, curve-prices-in, curve-joined, looked-up}
 use Rattle.supply_curve.specs.Closings.{curve-few}
 use Rattle.kept_curve.specs.Held.{heldCurve}
-use Rattle.auction.specs.Called.{supplyPointIn}
+use Rattle.readings.specs.Readings.{supplyPointIn}
 use Rattle.auction.specs.Holds.{auctionOf}
 use Rattle.auction.specs.declared.Auction.{Auction}
-use Rattle.auction.specs.declared.SupplyPoint.{SupplyPoint}
-use Rattle.auction.proofs.Auction.supply_point.Reads as reading
+use Rattle.readings.specs.declared.SupplyPoint.{SupplyPoint}
+use Rattle.readings.proofs.supply_point.Reads as reading
 use Rattle.theorem.specs.EveryList.{Run, reached}
 
 -- r is what reading this place of the auction's curve says, as the method's own contract has it

@@ -24,7 +24,7 @@ fn step(auction: Auction, line: &[u8]) -> Turn {
 
 // What a closing would answer.
 fn look(auction: Auction) -> PreviewShown {
-    let preview = auction.preview();
+    let preview = readings::preview_closing(auction);
     PreviewShown {
         number: preview.number,
         excess: reply_values::bits_of(preview.excess),
@@ -57,14 +57,14 @@ fn points_shown(reply: Reply, auction: Auction) -> usize {
     if reply.kind != 5 {
         return 0;
     }
-    let first = auction.supply_point(0);
+    let first = readings::supply_point(auction, 0);
     first.entries
 }
 
 // Writes the first points of the supply curve (document 02, 9), one a line.
 fn show_curve(auction: Auction, points: usize) {
     for place in 0..points {
-        let point = auction.supply_point(place);
+        let point = readings::supply_point(auction, place);
         let mut text = io::buffer();
         let n = trace_text::put_point(&mut text, point.price, point.before, point.after);
         io::write_all(libc::STDOUT_FILENO, &text[..n]);

@@ -1,8 +1,8 @@
 -- A point of the curve, from the supply of the highest levels on.
 use borrow.Author.Needs.{needs}
-use Rattle.auction.proofs.ReadingCurve.{reads-curve}
-use Rattle.auction.proofs.Auction.supply_point.Statement.{statement}
-use Rattle.auction.proofs.Auction.supply_point.Tie as tie
+use Rattle.readings.proofs.ReadingCurve.{reads-curve}
+use Rattle.readings.proofs.supply_point.Statement.{statement}
+use Rattle.readings.proofs.supply_point.Tie as tie
 
 highest-levels-requires : tie.Need-highest-levels-requires
 highest-levels-requires c κs = search needs

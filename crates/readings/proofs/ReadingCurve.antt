@@ -16,10 +16,10 @@ use Rattle.lows.specs.Lows.{Highests}
 use Rattle.kept_curve.specs.Held.{heldCurve, PointAt}
 use Rattle.kept_curve.specs.HeldLaws.{curve-fits}
 use Rattle.kept_curve.specs.declared.CurvePoint.{CurvePoint}
 use Rattle.auction.specs.declared.Auction.{Auction}
-use Rattle.auction.specs.declared.SupplyPoint.{SupplyPoint}
+use Rattle.readings.specs.declared.SupplyPoint.{SupplyPoint}
 use Rattle.auction.specs.Holds.{auctionOf}
-use Rattle.auction.specs.Called.{ReadsCurve}
+use Rattle.readings.specs.Readings.{ReadsCurve}
 
 module _ (a : Auction) (place : ℕ) (firsts : List ℕ) (first : ℕ) (p : CurvePoint) where
   -- what the reading says

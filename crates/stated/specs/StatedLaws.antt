@@ -28,8 +28,8 @@ use Rattle.auction.specs.declared.Auction.{Auction}
 use Rattle.numbers.specs.Tails.{laid}
 use Rattle.settling.specs.Settles.{Settles, settledAs}
 use Rattle.settling.specs.declared.Settled.{Settled}
-use Rattle.theorem.specs.RecordOrder.{records-rise}
-use Rattle.theorem.specs.Stated.{Accepted, Within, Fit, Stated}
+use Rattle.stated.specs.RecordOrder.{records-rise}
+use Rattle.stated.specs.Stated.{Accepted, Within, Fit, Stated}
 
 module _ (l : Ledger) (s : Sound l) (c : isClosed (l .phase) ≡ true) (old new : List ℕ) where
   began : started (l .phase) ≡ true

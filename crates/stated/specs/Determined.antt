@@ -15,15 +15,13 @@ use Rattle.numbers.specs.Tails.{laid}
 use Rattle.rules.specs.Ledger.{Call, Ledger}
 use Rattle.rules.specs.Clearing.{covered, closingPrice}
 use Rattle.rules.specs.Refusals.{isClosed}
-use Rattle.rules.specs.Rounds.{ledger, Answered}
+use Rattle.rules.specs.Rounds.{ledger}
 use Rattle.rules.specs.Award.{admissible}
 use Rattle.rules.specs.Settling.{records, settlementAt, settlement}
 use Rattle.reachable.specs.AcceptedCalls.{acceptedCalls, same-accepted}
-use Rattle.auction.specs.declared.Auction.{Auction}
 use Rattle.settling.specs.Settles.{refusedWith, settledAs}
 use Rattle.settling.specs.declared.Settled.{Settled}
-use Rattle.theorem.specs.EveryList.{Run, reached}
-use Rattle.theorem.specs.Stated.{Within, Fit, Accepted, Stated}
+use Rattle.stated.specs.Stated.{Within, Fit, Accepted, Stated}
 
 -- an accepted answer is the ledger's settlement
 accepted-is : (l : Ledger) (old new : List ℕ) (r : Settled) → r .number ≡ 0 → Accepted l old new r → r ≡ settledAs (settlement l)
@@ -95,7 +93,3 @@ module _ (cs ds : List Call) (limit limit′ : ℕ) (old old′ new new′ : Lis
   by-accepted e f g s t =
       let u : Stated (ledger cs) limit old new′ r′ = rw (same-accepted cs ds e, f, g) t in
       determined (ledger cs) limit old new new′ r r′ s u
-
--- the calls before it too: two runs of one list of calls get equal answers and reach equal auctions
-pub same-answers : {cs : List Call} {rs rs′ : List Answered} {a a′ : Auction} → Run cs rs a → Run cs rs′ a′ → (rs ≡ rs′) × (a ≡ a′)
-same-answers w v = let e = reached w in let f = reached v in (e .1 ∙ sym (f .1), e .0 ∙ sym (f .0))

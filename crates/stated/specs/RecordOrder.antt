@@ -8,7 +8,7 @@ use lib.ListN.{length, getD}
 use Rattle.rules.specs.Ledger.{Ledger}
 use Rattle.rules.specs.Award.{award, winner}
 use Rattle.rules.specs.Settling.{recordOf, recordsFrom, records}
-use Rattle.theorem.specs.AwardRecords.{firstByte, ByRisingProject}
+use Rattle.stated.specs.AwardRecords.{firstByte, ByRisingProject}
 
 -- records of projects from k on
 abbrev FromProject : ℕ → List (List ℕ) → Type 0

@@ -7,10 +7,11 @@ use borrow.Author.Tests.{ne-eqb}
 use Rattle.rules.specs.Ledger.{Close}
 use Rattle.rules.specs.Rounds.{Answered}
 use Rattle.rules.specs.Preview.{preview}
 use Rattle.auction.specs.declared.Auction.{Auction}
-use Rattle.auction.specs.declared.Preview.{Preview}
-use Rattle.auction.specs.Called.{Called, Previews}
-use Rattle.auction.specs.PreviewLaws.{mark-is}
+use Rattle.readings.specs.declared.Preview.{Preview}
+use Rattle.auction.specs.Called.{Called}
+use Rattle.readings.specs.Readings.{Previews}
+use Rattle.readings.specs.PreviewLaws.{mark-is}
 use Rattle.clock.specs.Tests.{isClosedBy}
 
 -- what a preview says: of an answered closing r, with this excess and this mark

@@ -10,10 +10,11 @@ use Rattle.rules.specs.Refusals.{isClosed, number}
 use Rattle.rules.specs.Rounds.{step, ledger, Answered, numberAlone, granted, answer}
 use Rattle.rules.specs.Preview.{Previewed, preview}
 use Rattle.reachable.specs.Steps.{ledger-snoc}
 use Rattle.auction.specs.declared.Auction.{Auction}
-use Rattle.auction.specs.declared.Preview.{Preview}
+use Rattle.readings.specs.declared.Preview.{Preview}
 use Rattle.auction.specs.Holds.{phaseNumber, auctionOf}
-use Rattle.auction.specs.Called.{Called, previewIn, Previews}
+use Rattle.auction.specs.Called.{Called}
+use Rattle.readings.specs.Readings.{previewIn, Previews}
 use Rattle.clock.specs.Tests.{isClosedBy}
 
 closed-number : (p : Phase) → eqb (phaseNumber p) 4 ≡ isClosed p

@@ -3,10 +3,10 @@ use mir.Facts.{toZ-ofZ}
 use mir.Syntax.{w64}
 use mir.Val.{SFits}
 use borrow.Author.Needs.{needs}
 use Rattle.auction.specs.Called.{closingIn}
-use Rattle.auction.proofs.Previewing.{previews}
-use Rattle.auction.proofs.Auction.preview.Statement.{statement}
-use Rattle.auction.proofs.Auction.preview.Tie as tie
+use Rattle.readings.proofs.Previewing.{previews}
+use Rattle.readings.proofs.preview_closing.Statement.{statement}
+use Rattle.readings.proofs.preview_closing.Tie as tie
 
 close-requires : tie.Need-close-requires
 close-requires c κs = search needs
@@ -20,5 +20,5 @@ returns c =
     let s : SFits w64 (closed .result .excess) = search needs in
     previews _ _ (closingIn (closed .result)) _ _ (closed .ensures) (toZ-ofZ s) (c .before .is-closed .ensures)
 
-pub preview-spec : {M : Type 1} → statement M
-preview-spec = tie.close (tie.spec close-requires is-closed-requires returns)
+pub preview-closing-spec : {M : Type 1} → statement M
+preview-closing-spec = tie.close (tie.spec close-requires is-closed-requires returns)

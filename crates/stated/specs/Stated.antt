@@ -20,7 +20,7 @@ use Rattle.rules.specs.Settling.{records}
 use Rattle.awards.specs.ParticipationLaws.{Recorded}
 use Rattle.settling.specs.Settles.{refusedWith}
 use Rattle.settling.specs.declared.Settled.{Settled}
-use Rattle.theorem.specs.AwardRecords.{awardedLevel, Goes, ByRisingProject}
+use Rattle.stated.specs.AwardRecords.{awardedLevel, Goes, ByRisingProject}
 
 -- the admissible choices do not outnumber the limit, capped at 65,536
 abbrev pub Within : Ledger → ℕ → Type 0

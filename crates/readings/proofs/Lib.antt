@@ -1,0 +1,2 @@
+mod Previewing
+mod ReadingCurve

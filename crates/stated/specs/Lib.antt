@@ -1,0 +1,5 @@
+pub mod AwardRecords
+pub mod RecordOrder
+pub mod Stated
+pub mod StatedLaws
+pub mod Determined

@@ -1,0 +1,1 @@
+// What is stated of settling for every list of calls. Specifications only: see specs/.
