@@ -34,7 +34,7 @@ registered u v w =
 
 -- one round, in which nobody withdraws
 abbrev round : List Call
-round = Open 29000 ∷ By 2 (Offer [] []) ∷ By 3 (Offer [] []) ∷ Close ∷ []
+round = Open 29990 ∷ By 2 (Offer [] []) ∷ By 3 (Offer [] []) ∷ Close ∷ []
 
 abbrev Paid : ℕ → ℕ → ℕ → ℕ → Bool → ℕ → Type 0
 Paid u v w p mark paid =
