@@ -1,9 +1,9 @@
-mod Calls
+pub mod Calls
 mod Phases
 mod SettingUp
 mod Registering
 mod Opening
-mod DeveloperHeld
+pub mod DeveloperHeld
 mod Moving
 mod Offering
 mod Cancelling

@@ -1,1 +1,1 @@
-mod PricesThatFall
+pub mod PricesThatFall
