@@ -39,6 +39,7 @@ use Rattle.auction.proofs.Auction.cancel.Statement as cancel-states
 use Rattle.auction.proofs.Auction.close.Statement as close-states
 use Rattle.readings.proofs.preview_closing.Statement as preview-states
 use Rattle.readings.proofs.supply_point.Statement as supply-point-states
+use Rattle.forcing.proofs.who_can_force.Statement as who-can-force-states
 use Rattle.auction.proofs.Auction.new.Met as new-met
 use Rattle.auction.proofs.Auction.set_up.Met as set-up-met
 use Rattle.auction.proofs.Auction.register.Met as register-met
@@ -50,6 +51,7 @@ use Rattle.auction.proofs.Auction.cancel.Met as cancel-met
 use Rattle.auction.proofs.Auction.close.Met as close-met
 use Rattle.readings.proofs.preview_closing.Met as preview-met
 use Rattle.readings.proofs.supply_point.Met as supply-point-met
+use Rattle.forcing.proofs.who_can_force.Met as who-can-force-met
 
 -- `Made c a r b`: the call c, made on the auction a, is answered r and returns b, as the method's own contract says
 pub data Made : Call → Auction → Answered → Auction → Type 0 where
@@ -119,6 +121,7 @@ pub record EveryList (M : Type 1) : Type 2 where
   pub close-meets : close-states.statement M
   pub preview-meets : preview-states.statement M
   pub supply-point-meets : supply-point-states.statement M
+  pub who-can-force-meets : who-can-force-states.statement M
   pub held : {cs : List Call} {rs : List Answered} {a : Auction} → Run cs rs a → a ≡ auctionOf (ledger cs)
   pub answered : {cs : List Call} {rs : List Answered} {a : Auction} → Run cs rs a → rs ≡ answers cs
 
@@ -135,6 +138,7 @@ every-list = record {
   close-meets = close-met.met;
   preview-meets = preview-met.met;
   supply-point-meets = supply-point-met.met;
+  who-can-force-meets = who-can-force-met.met;
   held = λ w. reached w .0;
   answered = λ w. reached w .1;
 }

@@ -1,6 +1,7 @@
 pub mod EveryList
 pub mod Previewed
 pub mod SupplyCurves
+pub mod PriceForced
 pub mod ReadBack
 pub mod Runs
 pub mod Untouched

@@ -22,6 +22,7 @@ use Rattle.settling.proofs.settle.Met as settle-met
 use Rattle.theorem.specs.EveryList.{Run, reached, EveryList, every-list}
 use Rattle.theorem.specs.Previewed.{PreviewStated, preview-stated}
 use Rattle.theorem.specs.SupplyCurves.{CurveStated, curve-stated}
+use Rattle.theorem.specs.PriceForced.{ForcingStated, forcing-stated}
 use Rattle.stated.specs.Stated.{Stated}
 use Rattle.stated.specs.Determined.{determined, by-accepted}
 use Rattle.stated.specs.StatedLaws.{stated}
@@ -46,10 +47,11 @@ pub record Settling (M : Type 1) : Type 2 where
       acceptedCalls cs ≡ acceptedCalls cs′ → x .1 .0 ≡ x′ .1 .0 → now (x .1 .1 .0) ≡ now (x′ .1 .1 .0) →
       Run cs rs (x .0) → settle.Post κs x r y → Run cs′ rs′ (x′ .0) → settle.Post κs′ x′ r′ y′ →
       (r ≡ r′) × (now (y .1 .1 .0) ≡ now (y′ .1 .1 .0))
-  -- LOOKING BEFORE CLOSING (document 02, 6) and SUPPLY CURVE BESIDE THE BOOK (document 02, 9): what a preview and a reading of the auction that the
-  -- list reaches say is the ledger's
+  -- LOOKING BEFORE CLOSING (document 02, 6), SUPPLY CURVE BESIDE THE BOOK (document 02, 9) and WHO CAN FORCE THE PRICE (document 02, 11): what a
+  -- preview, a reading and the outcome forced from the auction that the list reaches say is the ledger's
   pub preview : PreviewStated
   pub curve : CurveStated
+  pub forcing : ForcingStated
 
 module _ {cs : List Call} {rs : List Answered} (κs : Lfts 1) (x : ArgsD signature κs) (r : Settled) (y : AtExit (endedOf 1 kinds.ps kinds.r) κs) where
   as-stated : Run cs rs (x .0) → settle.Post κs x r y → Stated (ledger cs) (x .1 .0) (now (x .1 .1 .0)) (now (y .1 .1 .0)) r
@@ -65,4 +67,5 @@ settling = record {
       by-accepted cs cs′ _ _ _ _ _ _ r r′ e f g (as-stated κs x r y w s) (as-stated κs′ x′ r′ y′ w′ s′);
   preview = preview-stated;
   curve = curve-stated;
+  forcing = forcing-stated;
 }
