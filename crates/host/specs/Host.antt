@@ -14,3 +14,7 @@ hostNumber a = valueOr a (a .value)
 -- the same of the remainder (document 02, 4)
 unfoldable pub hostRemainder : Answer → ℕ
 hostRemainder a = valueOr a (a .remainder)
+
+-- an answer of a number and a value alone
+abbrev pub answerOf : ℕ → ℕ → Answer
+answerOf n v = record { number = n; value = v; remainder = 0 }

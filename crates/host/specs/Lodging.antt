@@ -9,10 +9,7 @@ use Rattle.replies.specs.Orders.{Order}
 use Rattle.replies.specs.WrittenOrders.{writableOrder, frameOfOrder}
 use Rattle.frame_writing.specs.declared.Written.{Written}
 use Rattle.writing.specs.Writes.{Writes}
-use Rattle.host.specs.Host.{hostNumber}
-
-abbrev answerOf : ℕ → ℕ → Answer
-answerOf n v = record { number = n; value = v; remainder = 0 }
+use Rattle.host.specs.Host.{answerOf, hostNumber}
 
 -- the number for an order and a buffer
 unfoldable pub hostBytes : Order → List ℕ → ℕ

@@ -1,18 +1,33 @@
 // The calls that a C host links: plain numbers and slices of them, no preconditions.
 ghost use mathlib.Core.Path.{_≡_};
+ghost use lib.ListN.{length};
 ghost use Rattle.curve.specs.Answer.{demandAnswer};
 ghost use Rattle.rules.specs.Ledger.{settingsOf, Offer, Lodge, Cancel, SetUp, Open, By, Close};
+ghost use Rattle.rules.specs.Rounds.{ledger};
 ghost use Rattle.replies.specs.Orders.{Asks, Settle};
 ghost use Rattle.replies.specs.Replies.{replies};
+ghost use Rattle.record_calls.specs.Calls.{callsIn};
 ghost use Rattle.record_replay.specs.Replayed.{hosted, over};
+ghost use Rattle.record_forcing.specs.Chosen.{chosenIn};
 ghost use Rattle.writing.specs.Writes.{registration, registrationFor};
-ghost use Rattle.host.specs.Host.{hostNumber, hostRemainder};
+ghost use Rattle.host.specs.Host.{answerOf, hostNumber, hostRemainder};
+ghost use Rattle.host.specs.Forcing.{hostForcing};
 ghost use Rattle.host.specs.Lodging.{answer, HostWrites};
 use demand::Demanded;
 use frame_writing::Written;
 
 // What C gets for refusal 1.
 const REFUSAL_1: u64 = 0xffff_ffff_ffff_ffff;
+
+// What C gets of an answer: the value, or 2^64 less the refusal's number.
+fn host_number(number: u8, value: u64) -> u64
+    ensures { λ r. ⌜ r ≡ hostNumber (answerOf number value) ⌝ }
+{
+    if number == 0 {
+        return value;
+    }
+    REFUSAL_1 - (number as u64 - 1)
+}
 
 // Dem(p), or 2^64 - 1 where the settings or p are beyond their bounds.
 #[no_mangle]
@@ -45,16 +60,30 @@ pub extern "C" fn replay(src: &[u8], out: &mut [u8]) -> u64
     record_replay::replay(src, out)
 }
 
+// Who can force the price (document 02, 11) in the auction that a record leaves behind: the outcome, and the best first move in the
+// buffer's first byte.
+#[no_mangle]
+pub extern "C" fn who_can_force(
+    src: &[u8],
+    first: u64,
+    second: u64,
+    prices: &[u64],
+    chosen: &mut [u8],
+) -> u64
+    ensures { λ r. ⌜ r ≡ hostForcing (ledger (callsIn (now (src .entry)))) first second (now (prices .entry)) (length (now (chosen .entry))) ⌝ }
+    ensures { λ _. ⌜ now (chosen .exit) ≡ chosenIn (ledger (callsIn (now (src .entry)))) first second (now (prices .entry)) (now (chosen .entry)) ⌝ }
+{
+    let told = record_forcing::who_can_force(src, first, second, prices, chosen);
+    host_number(told.number, told.outcome as u64)
+}
+
 // ---- frames written (document 02, 2)
 
 // What C gets of a writing: the bytes written, or 2^64 less the refusal's number.
 fn host_bytes(written: Written) -> u64
     ensures { λ r. ⌜ r ≡ hostNumber (answer written) ⌝ }
 {
-    if written.number == 0 {
-        return written.bytes as u64;
-    }
-    REFUSAL_1 - (written.number as u64 - 1)
+    host_number(written.number, written.bytes as u64)
 }
 
 // 01 set-up.

@@ -2,7 +2,7 @@
 use Prim.Native.Nat.{ℕ, _+_, _-_, _≤_, _<_}
 use mathlib.Core.Path.{_≡_, refl, sym, ap, ap₂, _∙_}
 use mathlib.Core.Bool.{Bool, true, false}
-use mathlib.Core.List.{List, [], _∷_, _++_, append-nil}
+use mathlib.Core.List.{List, [], _∷_, _++_}
 use native.Mathlib.Omega.{arith}
 use borrow.Author.Tests.{le-leb, lt-leb, leb-true}
 use borrow.Rule.Slice.PartMut.{putMid, midOf}
@@ -13,21 +13,15 @@ use Rattle.format.specs.LineLaws.{line-inside, next-line, no-line}
 use Rattle.numbers.specs.Tails.{laid, grow, length-laid, tail-is, Filled, filled-more, filled-all}
 use Rattle.rules.specs.Ledger.{Call, Ledger}
 use Rattle.rules.specs.Rounds.{stepAll, ledger}
-use Rattle.reachable.specs.Steps.{ledger-snoc}
-use Rattle.replies.specs.Orders.{Order, Malformed, Asks, Settle, orderIn}
-use Rattle.replies.specs.Replies.{ledgerAfter, repliesFrom, replies}
+use Rattle.replies.specs.Orders.{Order, orderIn}
+use Rattle.replies.specs.Replies.{repliesFrom, replies}
+use Rattle.record_calls.specs.Calls.{asked}
+use Rattle.record_calls.specs.CallLaws.{after-asked}
 use Rattle.auction.specs.Holds.{auctionOf}
 use Rattle.auction.specs.declared.Auction.{Auction}
 use Rattle.reply_sizes.specs.Texts.{textOf}
-use Rattle.turns.specs.Turns.{asked, Takes}
+use Rattle.turns.specs.Turns.{Takes}
 use Rattle.turns.specs.declared.Turn.{Turn}
-
--- the calls that an order asks give the ledger after it
-after-asked : (cs : List Call) (o : Order) → ledger (cs ++ asked o) ≡ ledgerAfter (ledger cs) o
-unfolding ledgerAfter
-after-asked cs Malformed = ap ledger (append-nil cs)
-after-asked cs (Asks c) = ledger-snoc cs c
-after-asked cs (Settle limit) = ap ledger (append-nil cs)
 
 -- the replies to what is left of a record behind the place `at`, once the calls cs were made
 abbrev pub left : List Call → ℕ → List ℕ → List ℕ

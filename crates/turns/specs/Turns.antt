@@ -1,11 +1,12 @@
 -- What a turn ensures: the reply's text and the next auction, for every list of calls whose ledger the auction holds.
 use Prim.Native.Nat.{ℕ}
 use mathlib.Core.Path.{_≡_}
-use mathlib.Core.List.{List, [], _∷_, _++_}
+use mathlib.Core.List.{List, _++_}
 use Rattle.rules.specs.Ledger.{Call}
 use Rattle.rules.specs.Rounds.{ledger}
-use Rattle.replies.specs.Orders.{Order, Malformed, Asks, Settle}
+use Rattle.replies.specs.Orders.{Order}
 use Rattle.replies.specs.Replies.{replyTo}
+use Rattle.record_calls.specs.Calls.{asked}
 use Rattle.auction.specs.Holds.{auctionOf}
 use Rattle.auction.specs.declared.Auction.{Auction}
 use Rattle.reply_sizes.specs.Texts.{textOf}
@@ -16,12 +17,6 @@ pub record Answers (k : ℕ) (next : Auction) (n : ℕ) (t : Turn) : Type 0 wher
   pub auction : t .auction ≡ next
   pub kind : t .reply .kind ≡ k
   pub number : t .reply .number ≡ n
-
--- the calls that an order asks
-abbrev pub asked : Order → List Call
-asked Malformed = []
-asked (Asks c) = c ∷ []
-asked (Settle limit) = []
 
 pub record Takes (a : Auction) (o : Order) (t : Turn) : Type 0 where
   pub text : (cs : List Call) → a ≡ auctionOf (ledger cs) → textOf (t .reply) ≡ replyTo (ledger cs) o

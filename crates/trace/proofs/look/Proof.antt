@@ -2,8 +2,8 @@
 use Rattle.trace.proofs.look.Statement.{statement}
 use Rattle.trace.proofs.look.Tie as tie
 
-preview-requires : tie.Need-preview-requires
-preview-requires c κs = tt
+preview-closing-requires : tie.Need-preview-closing-requires
+preview-closing-requires c κs = tt
 
 bits-of-requires : tie.Need-bits-of-requires
 bits-of-requires c κs = tt
@@ -12,4 +12,4 @@ returns : tie.Need-returns
 returns c = tt
 
 pub look-spec : {M : Type 1} → statement M
-look-spec = tie.close (tie.spec preview-requires bits-of-requires returns)
+look-spec = tie.close (tie.spec preview-closing-requires bits-of-requires returns)

@@ -3,15 +3,12 @@ use native.Mathlib.Omega.{arith}
 use borrow.Author.Needs.{needs}
 use borrow.Author.Tests.{eq-eqb, ne-eqb}
 use Rattle.host.specs.Host.{hostNumber}
-use Rattle.host.proofs.host_bytes.Statement.{statement}
-use Rattle.host.proofs.host_bytes.Tie as tie
+use Rattle.host.proofs.host_number.Statement.{statement}
+use Rattle.host.proofs.host_number.Tie as tie
 
 returns : tie.Need-returns
 unfolding hostNumber
 returns c = simp (eq-eqb _ _ (c .if1 .taken))
-
-cast-result : tie.Need-cast-result
-cast-result c = search needs
 
 sub-result : tie.Need-sub-result
 sub-result c = search needs
@@ -21,7 +18,7 @@ sub-result-2 c = search needs
 
 returns-2 : tie.Need-returns-2
 unfolding hostNumber
-returns-2 c = simp (ne-eqb _ _ (c .before .if1 .left)) (omega arith)
+returns-2 c = simp (ne-eqb _ _ (c .if1 .left)) (omega arith)
 
-pub host-bytes-spec : {M : Type 1} → statement M
-host-bytes-spec = tie.close (tie.spec returns cast-result sub-result sub-result-2 returns-2)
+pub host-number-spec : {M : Type 1} → statement M
+host-number-spec = tie.close (tie.spec returns sub-result sub-result-2 returns-2)

@@ -1,0 +1,19 @@
+-- The calls that a record asks, in its order (document 01, Frames): a call for each line that asks one.
+use Prim.Native.Nat.{ℕ}
+use mathlib.Core.List.{List, [], _∷_, _++_}
+use Rattle.format.specs.Lines.{lines}
+use Rattle.rules.specs.Ledger.{Call}
+use Rattle.replies.specs.Orders.{Order, Malformed, Asks, Settle, orderIn}
+
+-- the calls that an order asks: settlings and malformed lines ask none
+abbrev pub asked : Order → List Call
+asked Malformed = []
+asked (Asks c) = c ∷ []
+asked (Settle limit) = []
+
+unfoldable pub callsOf : List (List ℕ) → List Call
+callsOf [] = []
+callsOf (line ∷ rest) = asked (orderIn line) ++ callsOf rest
+
+unfoldable pub callsIn : List ℕ → List Call
+callsIn bytes = callsOf (lines bytes)

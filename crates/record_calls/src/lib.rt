@@ -1,0 +1,1 @@
+// The calls that a record asks. Specifications only: see specs/.
