@@ -65,6 +65,43 @@ uint64_t replay(const uint8_t *record, size_t record_length, uint8_t *replies,
                 size_t replies_length);
 
 /*
+ * Who can force the price: a game of two developers late in an auction. The calls of a record are
+ * made from a fresh auction, as `replay` makes them; settlings and malformed lines change nothing.
+ * The auction must then stand between rounds, after at least one closed round, whose closing price
+ * is the standing price. From the first listed price to the last the two move in turn, one move a
+ * price, the first developer beginning: the mover keeps its quantity, or withdraws to 0 at that
+ * price; one at 0 can only keep. All others keep theirs, and no lodged withdrawal is applied. After
+ * the last price the outcome is the lowest covered listed price, or the standing price if no listed
+ * one is covered. The first developer wants it high, the second low.
+ *
+ *   record   the record's bytes, record_length of them; only read
+ *   first    the number of the developer that moves first
+ *   second   that of the other; both are of kind 2, in different projects
+ *   prices   prices_length of them, 1 to 10, falling strictly, from the floor to the standing price
+ *            less 1; only read
+ *   move     the lent buffer, move_length bytes; it must not overlap the record or the prices
+ *
+ * Returns the outcome that the first can force against every reply, and the second can hold it to
+ * against every reply. A best first move stands in the first byte of the buffer: 0 keep, 1
+ * withdraw; keep, where both force the outcome. The bytes behind it stay. There are three
+ * refusals, tested in this order, and each leaves every byte of the buffer as it was:
+ *
+ *   REFERENCE_ENGINE_REFUSAL(2), which is 2^64 - 2: the auction is in another phase.
+ *
+ *   REFERENCE_ENGINE_REFUSAL(17), which is 2^64 - 17: the developers or the prices are not as
+ *   described.
+ *
+ *   REFERENCE_ENGINE_REFUSAL(11), which is 2^64 - 11: the buffer has no byte.
+ *
+ * Any numbers, prices and bytes may be passed, in any number, and a length of 0 goes with any
+ * pointer, NULL too. The call keeps no state and touches no other memory of the host, so any
+ * number of threads may make it at once, each with its own buffer.
+ */
+uint64_t who_can_force(const uint8_t *record, size_t record_length, uint64_t first,
+                       uint64_t second, const uint64_t *prices, size_t prices_length,
+                       uint8_t *move, size_t move_length);
+
+/*
  * Writing the record of an auction, a call at a time: each call below writes one frame, the line
  * of docs/FORMAT.md with its 0A, from the start of the lent buffer. Frames written one behind the
  * other are a record: lend the rest of the record's buffer to each call.

@@ -5,8 +5,10 @@
  * replies), mark (that of the second price is never short), sufficient (participation always is, by
  * its mark), paid (existing plants are always paid P), order (the first two awards change places), step
  * (the last digit of an offer's frame), width (an opening's price cut to its field), kind (a lodging
- * written as an offer), agent (a registration for the developer's own number) or own (one for it in
- * frame 02); without it the engine is right.
+ * written as an offer), agent (a registration for the developer's own number), own (one for it in
+ * frame 02), move (the rivals' first move: keep and withdraw change places), kept (the outcome when
+ * both rivals keep), rivals (the second begins) or beyond (the byte behind the move); without it the
+ * engine is right.
  */
 #include "reference_engine.h"
 #include <stdlib.h>
@@ -27,6 +29,9 @@ uint64_t right_write_offer(uint64_t developer, const uint64_t *prices, size_t pr
 uint64_t right_write_lodging(uint64_t developer, const uint64_t *prices, size_t prices_length,
                              const uint64_t *levels, size_t levels_length, uint8_t *frame,
                              size_t frame_length);
+uint64_t right_who_can_force(const uint8_t *record, size_t record_length, uint64_t first,
+                             uint64_t second, const uint64_t *prices, size_t prices_length,
+                             uint8_t *move, size_t move_length);
 
 static int fault(const char *name) {
     const char *wrong = getenv("WRONG");
@@ -120,4 +125,37 @@ uint64_t write_lodging(uint64_t developer, const uint64_t *prices, size_t prices
                        size_t frame_length) {
     return (fault("kind") ? right_write_offer : right_write_lodging)(
         developer, prices, prices_length, levels, levels_length, frame, frame_length);
+}
+
+/* The lowest of the prices that is the outcome of a game of its own: in a game of one price no move
+ * lowers the supply there. */
+static uint64_t all_keep(const uint8_t *record, size_t record_length, uint64_t first, uint64_t second,
+                         const uint64_t *prices, size_t prices_length) {
+    uint64_t outcome = 0;
+    uint8_t move;
+    for (size_t left = prices_length; left > 0; left--) {
+        const uint64_t *price = prices + left - 1;
+        outcome = right_who_can_force(record, record_length, first, second, price, 1, &move, 1);
+        if (outcome == *price)
+            break;
+    }
+    return outcome;
+}
+
+uint64_t who_can_force(const uint8_t *record, size_t record_length, uint64_t first, uint64_t second,
+                       const uint64_t *prices, size_t prices_length, uint8_t *move,
+                       size_t move_length) {
+    int exchanged = fault("rivals");
+    uint64_t outcome =
+        right_who_can_force(record, record_length, exchanged ? second : first,
+                            exchanged ? first : second, prices, prices_length, move, move_length);
+    if (outcome > REFERENCE_ENGINE_REFUSAL(18))
+        return outcome;
+    if (fault("move"))
+        move[0] ^= 1;
+    if (fault("beyond") && move_length > 1)
+        move[1] ^= 1;
+    if (fault("kept"))
+        return all_keep(record, record_length, first, second, prices, prices_length);
+    return outcome;
 }

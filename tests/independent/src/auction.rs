@@ -337,6 +337,14 @@ impl Auction {
         auction
     }
 
+    /// The same auction as if the developer had then withdrawn so.
+    pub fn with_withdrawal(&self, developer: u8, withdrawal: Withdrawal) -> Auction {
+        let mut auction = self.clone();
+        let withdrawing = auction.developers.get_mut(&developer);
+        withdrawing.expect("registered").withdraw(&[withdrawal]);
+        auction
+    }
+
     pub fn phase(&self) -> &Phase {
         &self.phase
     }

@@ -69,6 +69,16 @@ mod host {
             frame_length: usize,
         ) -> u64;
         pub fn write_cancellation(developer: u64, frame: *mut u8, frame_length: usize) -> u64;
+        pub fn who_can_force(
+            record: *const u8,
+            record_length: usize,
+            first: u64,
+            second: u64,
+            prices: *const u64,
+            prices_length: usize,
+            first_move: *mut u8,
+            first_move_length: usize,
+        ) -> u64;
     }
 }
 
@@ -155,5 +165,30 @@ pub fn write(fields: &Fields, frame: &mut [u8]) -> u64 {
             (9, &[developer], []) => host::write_cancellation(developer, start, length),
             _ => panic!("no call: {fields:?}"),
         }
+    }
+}
+
+/// The outcome that can be forced, with a best first move in the first byte of `first_move`, or 2^64
+/// less 2, 17 or 11 for those refusals.
+pub fn who_can_force(
+    record: &[u8],
+    first: u64,
+    second: u64,
+    prices: &[u64],
+    first_move: &mut [u8],
+) -> u64 {
+    // SAFETY: the call reads the record and the prices and writes the move; an exclusive borrow keeps
+    // them apart.
+    unsafe {
+        host::who_can_force(
+            record.as_ptr(),
+            record.len(),
+            first,
+            second,
+            prices.as_ptr(),
+            prices.len(),
+            first_move.as_mut_ptr(),
+            first_move.len(),
+        )
     }
 }

@@ -9,6 +9,8 @@ pub mod curve;
 pub mod cutting;
 mod demand;
 pub mod direct;
+pub mod forcing;
+pub mod games;
 pub mod lent;
 pub mod parts;
 pub mod program;
@@ -65,6 +67,8 @@ pub const NOT_WRITABLE: u8 = 14;
 pub const NO_EXISTING_PLANT: u8 = 15;
 /// Refusal 16: cancellation by a developer of whom no offer stands in the round.
 pub const NO_STANDING_OFFER: u8 = 16;
+/// Refusal 17: a pair of rivals or a price list not as described.
+pub const NO_SUCH_GAME: u8 = 17;
 
 /// The one number of 64 bits that a C host gets: for a refusal, 2^64 less its number.
 pub fn host_number(answer: Answer) -> u64 {

@@ -11,6 +11,7 @@ mod crowded;
 mod damage;
 pub mod edges;
 pub mod fixed;
+mod late;
 mod lodgings;
 mod long;
 mod offers;
@@ -26,6 +27,7 @@ pub use aimed::DECISIVE;
 use books::Book;
 pub use counted::{largest_book, LARGEST_BOOKS};
 pub use crowded::{easy_book, hard_book};
+pub use late::late_record;
 pub use long::long_record;
 use std::ops::Range;
 

@@ -22,6 +22,19 @@ pub fn replay(record: &[u8]) -> Vec<u8> {
     lines.flat_map(|line| reply(&mut auction, line)).collect()
 }
 
+/// The auction after a record's calls, from a fresh one. Settlings are not made: they change nothing,
+/// and many take long.
+pub fn auction_after(record: &[u8]) -> Auction {
+    let mut auction = Auction::new();
+    for call in lines(record).into_iter().filter_map(read_call) {
+        if !matches!(call, Call::Settle { .. }) {
+            // Refused calls are among them.
+            let _ = make(&mut auction, &call);
+        }
+    }
+    auction
+}
+
 /// The C call: the number of bytes written from the buffer's start, or 2^64 - 11 with the
 /// buffer untouched.
 pub fn replay_into(record: &[u8], buffer: &mut [u8]) -> u64 {

@@ -8,6 +8,7 @@ mod closings;
 mod curves;
 mod cut;
 mod features;
+mod games;
 mod lodgings;
 mod participation;
 mod remainders;
@@ -21,6 +22,7 @@ pub use closings::Closings;
 pub use curves::{Redrawn, CURVES, LONGEST_CURVE};
 use cut::Cut;
 pub use features::Features;
+pub use games::{Asked, GAMES, REFUSED};
 pub use lodgings::{Lodgings, LODGINGS};
 pub use participation::{Participation, PARTICIPATION};
 pub use remainders::Remainders;
@@ -260,7 +262,7 @@ fn shown(line: &[u8]) -> String {
 }
 
 /// The lines, each on its own, and not too many.
-fn listed(bytes: &[u8]) -> String {
+pub fn listed(bytes: &[u8]) -> String {
     const MOST: usize = 100;
     let lines = lines(bytes);
     let mut text = String::new();

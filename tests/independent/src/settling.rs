@@ -93,18 +93,10 @@ impl Auction {
     /// Fewer withdrawals lie above a higher price, and none raises a quantity, so highs do not
     /// fall from one price to the next. Dem does not rise: more quantities are priced at most
     /// so, and none below M1 before 2 × CE. Hence the covered prices passed are all from P on;
-    /// A is one of them, and `low` stays at or below P.
+    /// A is one of them.
     pub fn closing_price(&self) -> u64 {
-        let (mut low, mut high) = self.passed();
-        while low < high {
-            let middle = (low + high) / 2;
-            if self.covered(middle) {
-                high = middle;
-            } else {
-                low = middle + 1;
-            }
-        }
-        low
+        let (last_c, a) = self.passed();
+        lowest(last_c, a, |p| self.covered(p))
     }
 
     /// P, with every price that the clock passed tried from the last C upwards.
@@ -190,6 +182,20 @@ impl Auction {
             paid: self.paid_to_existing(p, insufficient),
         }
     }
+}
+
+/// The lowest number from `low` to `high` of which it holds, by bisection: it holds of `high`, and of
+/// all above that one.
+pub(crate) fn lowest(mut low: u64, mut high: u64, holds: impl Fn(u64) -> bool) -> u64 {
+    while low < high {
+        let middle = (low + high) / 2;
+        if holds(middle) {
+            high = middle;
+        } else {
+            low = middle + 1;
+        }
+    }
+    low
 }
 
 /// Open to a project, document 01's term: open to some developer of it, and not below the

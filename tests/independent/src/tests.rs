@@ -8,6 +8,7 @@ mod causes;
 mod checks;
 mod curve;
 mod fixed;
+mod forcing;
 mod frames;
 mod lodging;
 mod participation;

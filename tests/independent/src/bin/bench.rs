@@ -1,18 +1,21 @@
 //! Times the engine through its C interface beside the independent implementation.
 //! Two lines a record: with a buffer of exactly the replies' length and with an ample one, as
-//! most hosts lend it. Each has the best of several runs of either, and their ratio.
+//! most hosts lend it. One line a game, which has a buffer of one byte. Each has the best of several
+//! runs of either, and their ratio.
 
 #[path = "../engine.rs"]
 mod engine;
 
+use independent::forcing::who_can_force;
+use independent::games::stated;
 use independent::records::{easy_book, hard_book, largest_book, long_record, LARGEST_BOOKS};
 use independent::replay::{replay, replay_into};
 use independent::sample;
 use std::hint::black_box;
 use std::time::{Duration, Instant};
 
-/// A replay call: the engine's or the independent implementation's.
-type Replay = fn(&[u8], &mut [u8]) -> u64;
+/// A call with a lent buffer: the engine's or the independent implementation's.
+type Call<'a> = &'a dyn Fn(&mut [u8]) -> u64;
 
 const RUNS: usize = 25;
 
@@ -29,6 +32,7 @@ fn main() {
     compare("65,536 choices in 32 projects", &book, 1);
     compare("65,536 choices, lows nearly cover", &easy_book(), 1);
     compare("65,536 choices, largest projects last", &hard_book(), 1);
+    compare_game("game of 10 prices, 100 times", 100);
 }
 
 /// Times so many replays of the record into either buffer.
@@ -38,27 +42,51 @@ fn compare(name: &str, record: &[u8], times: usize) {
         let mut lent = vec![0; length];
         assert_eq!(engine::replay(record, &mut lent), replies.len() as u64);
         assert!(lent.starts_with(&replies), "{name}: the replies differ");
-        let (engine, independent) = best(record, &mut lent, times);
-        let ratio = engine.as_secs_f64() / independent.as_secs_f64();
-        println!("{name} | {buffer} | {engine:.2?} | {independent:.2?} | {ratio:.3}");
+        let calls: [Call; 2] = [&|lent| engine::replay(black_box(record), lent), &|lent| {
+            replay_into(black_box(record), lent)
+        }];
+        print_best(name, buffer, calls, &mut lent, times);
     }
 }
 
-/// The best times of the engine and of the independent implementation. They take turns, so that
-/// other work on the machine meets both.
-fn best(record: &[u8], lent: &mut [u8], times: usize) -> (Duration, Duration) {
-    let (mut engine, mut independent) = (Duration::MAX, Duration::MAX);
+/// Times so many questions who can force the price, in a game of 10 prices.
+fn compare_game(name: &str, times: usize) {
+    let record = stated::written(&stated::between_rounds());
+    let (first, second, prices) = (3, 2, stated::TEN);
+    let calls: [Call; 2] = [
+        &|lent| engine::who_can_force(black_box(&record), first, second, prices, lent),
+        &|lent| who_can_force(black_box(&record), first, second, prices, lent),
+    ];
+    let [engine, independent] = calls.map(|call| {
+        let mut first_move = [0];
+        (call(&mut first_move), first_move)
+    });
+    assert_eq!(engine, independent, "{name}: the answers differ");
+    print_best(name, "1 byte", calls, &mut [0], times);
+}
+
+/// Prints the line of the engine's call and the independent implementation's.
+fn print_best(name: &str, buffer: &str, calls: [Call; 2], lent: &mut [u8], times: usize) {
+    let [engine, independent] = best(calls, lent, times);
+    let ratio = engine.as_secs_f64() / independent.as_secs_f64();
+    println!("{name} | {buffer} | {engine:.2?} | {independent:.2?} | {ratio:.3}");
+}
+
+/// The best time of each. They take turns, so that other work on the machine meets both.
+fn best(calls: [Call; 2], lent: &mut [u8], times: usize) -> [Duration; 2] {
+    let mut best = [Duration::MAX; 2];
     for _ in 0..RUNS {
-        engine = engine.min(time(engine::replay, record, lent, times));
-        independent = independent.min(time(replay_into, record, lent, times));
+        for (best, call) in best.iter_mut().zip(calls) {
+            *best = time(call, lent, times).min(*best);
+        }
     }
-    (engine, independent)
+    best
 }
 
-fn time(replay: Replay, record: &[u8], replies: &mut [u8], times: usize) -> Duration {
+fn time(call: Call, lent: &mut [u8], times: usize) -> Duration {
     let start = Instant::now();
     for _ in 0..times {
-        black_box(replay(black_box(record), black_box(replies)));
+        black_box(call(black_box(lent)));
     }
     start.elapsed()
 }

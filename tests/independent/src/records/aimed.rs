@@ -3,7 +3,7 @@
 
 use super::Writer;
 use crate::auction::{Auction, Closing, Settings};
-use crate::replay::{lines, make, read_call, write_call, Call};
+use crate::replay::{auction_after, lines, write_call, Call};
 
 /// Around 0 and around 1,000.
 pub const DECISIVE: [i64; 6] = [-1, 0, 1, 999, 1_000, 1_001];
@@ -21,7 +21,7 @@ impl Writer {
             return;
         };
         let record = with_settings(&self.record, settings, &moved);
-        let auction = after(&record);
+        let auction = auction_after(&record);
         if same_but_settings(&auction, &self.auction) {
             (self.record, self.auction) = (record, auction);
         }
@@ -50,16 +50,6 @@ fn with_settings(record: &[u8], settings: &Settings, others: &Settings) -> Vec<u
         .iter()
         .flat_map(|line| [line, &b"\n"[..]].concat())
         .collect()
-}
-
-/// The auction after the lines of a record.
-fn after(record: &[u8]) -> Auction {
-    let mut auction = Auction::new();
-    for call in lines(record).into_iter().filter_map(read_call) {
-        // Refused calls are among them.
-        let _ = make(&mut auction, &call);
-    }
-    auction
 }
 
 fn same_but_settings(one: &Auction, other: &Auction) -> bool {
