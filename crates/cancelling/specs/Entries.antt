@@ -40,13 +40,53 @@ put-apart n k x y f e = fun-ext (λ j. go j (eqb j n) refl (eqb j k) refl)
     go j true h false g = refl
     go j false h t g = refl
 
--- ---- a call aside of developer n
+-- ---- a call beside developer n's entry
 
 -- whichever entry y stands in n's place
-pub record Aside (n : ℕ) (l : Ledger) (c : Call) : Type 0 where
+pub record Beside (n : ℕ) (l : Ledger) (c : Call) : Type 0 where
   pub next : (y : Developer) → step (withDeveloper l n y) c ≡ withDeveloper (step l c) n y
   pub answered : (y : Developer) → answer (withDeveloper l n y) c ≡ answer l c
   pub entry : step l c .developers n ≡ l .developers n
+
+-- a move of another developer's, in any phase
+module _ (n : ℕ) (l : Ledger) (k : ℕ) (m : Move) (e : eqb k n ≡ false) where
+  same-move : (y x : Developer) (o : Move) → moveNumber (withDeveloper l n y) k x o ≡ moveNumber l k x o
+  unfolding moveNumber
+  same-move y x (Offer ps qs) = refl
+  same-move y x (Lodge ps qs) = refl
+  same-move y x Cancel = refl
+
+  pub same-number : (y : Developer) → number (withDeveloper l n y) (By k m) ≡ number l (By k m)
+  unfolding number
+  same-number y = same-move y _ m ∙ ap (λ (x : Developer). moveNumber l k x m) (put-beside n k y (l .developers) e)
+
+  same-accepted : (y : Developer) → accepted (withDeveloper l n y) (By k m) ≡ withDeveloper (accepted l (By k m)) n y
+  unfolding accepted
+  same-accepted y =
+      ap (λ (x : Developer). withDevelopers l (put k (moved x m) (put n y (l .developers)))) (put-beside n k y (l .developers) e)
+      ∙ ap (withDevelopers l) (put-apart n k (moved (l .developers k) m) y (l .developers) e)
+
+  pub move-beside : Beside n l (By k m)
+  unfolding step answer granted accepted
+  move-beside = record {
+    next = λ y.
+        ap (λ (v : ℕ). cond (eqb v 0) (accepted (withDeveloper l n y) (By k m)) (withDeveloper l n y)) (same-number y)
+        ∙ go y (eqb (number l (By k m)) 0);
+    answered = λ y. ap (λ (v : ℕ). cond (eqb v 0) (numberAlone 0) (numberAlone v)) (same-number y);
+    entry = by-step (λ q. q .developers n ≡ l .developers n) l (By k m) refl (λ g. entry-stays);
+  }
+    where
+      go : (y : Developer) (b : Bool) → cond b (accepted (withDeveloper l n y) (By k m)) (withDeveloper l n y) ≡ withDeveloper (cond b (accepted l (By k m)) l) n y
+      go y true = same-accepted y
+      go y false = refl
+
+      entry-stays : accepted l (By k m) .developers n ≡ l .developers n
+      entry-stays = put-beside k n (moved (l .developers k) m) (l .developers) (apart k n e)
+
+-- ---- a call aside of developer n, in an open round
+
+pub record Aside (n : ℕ) (l : Ledger) (c : Call) : Type 0 where
+  pub beside : Beside n l c
   pub round : inRound (step l c .phase) ≡ true
 
 module _ (n : ℕ) (l : Ledger) (r : inRound (l .phase) ≡ true) where
@@ -55,54 +95,22 @@ module _ (n : ℕ) (l : Ledger) (r : inRound (l .phase) ≡ true) where
   refused-aside c k z h =
       let same : step l c ≡ l = step-refused l c (λ e. z (sym (h l refl) ∙ e)) in
       record {
-        next = λ y.
-            step-refused (withDeveloper l n y) c (λ e. z (sym (h (withDeveloper l n y) refl) ∙ e))
-            ∙ ap (λ (m : Ledger). withDeveloper m n y) (sym same);
-        answered = λ y. alike (withDeveloper l n y) refl ∙ sym (alike l refl);
-        entry = ap (λ (m : Ledger). m .developers n) same;
+        beside = record {
+          next = λ y.
+              step-refused (withDeveloper l n y) c (λ e. z (sym (h (withDeveloper l n y) refl) ∙ e))
+              ∙ ap (λ (m : Ledger). withDeveloper m n y) (sym same);
+          answered = λ y. alike (withDeveloper l n y) refl ∙ sym (alike l refl);
+          entry = ap (λ (m : Ledger). m .developers n) same;
+        };
         round = rw same r;
       }
     where
       alike : (m : Ledger) → m .phase ≡ l .phase → answer m c ≡ numberAlone k
       alike m e = answer-refused m c (λ g. z (sym (h m e) ∙ g)) ∙ ap numberAlone (h m e)
 
-  module _ (k : ℕ) (m : Move) (e : eqb k n ≡ false) where
-    same-move : (y x : Developer) (o : Move) → moveNumber (withDeveloper l n y) k x o ≡ moveNumber l k x o
-    unfolding moveNumber
-    same-move y x (Offer ps qs) = refl
-    same-move y x (Lodge ps qs) = refl
-    same-move y x Cancel = refl
-
-    same-number : (y : Developer) → number (withDeveloper l n y) (By k m) ≡ number l (By k m)
-    unfolding number
-    same-number y = same-move y _ m ∙ ap (λ (x : Developer). moveNumber l k x m) (put-beside n k y (l .developers) e)
-
-    same-accepted : (y : Developer) → accepted (withDeveloper l n y) (By k m) ≡ withDeveloper (accepted l (By k m)) n y
-    unfolding accepted
-    same-accepted y =
-        ap (λ (x : Developer). withDevelopers l (put k (moved x m) (put n y (l .developers)))) (put-beside n k y (l .developers) e)
-        ∙ ap (withDevelopers l) (put-apart n k (moved (l .developers k) m) y (l .developers) e)
-
-    move-aside : Aside n l (By k m)
-    unfolding step answer granted accepted
-    move-aside = record {
-      next = λ y.
-          ap (λ (v : ℕ). cond (eqb v 0) (accepted (withDeveloper l n y) (By k m)) (withDeveloper l n y)) (same-number y)
-          ∙ go y (eqb (number l (By k m)) 0);
-      answered = λ y. ap (λ (v : ℕ). cond (eqb v 0) (numberAlone 0) (numberAlone v)) (same-number y);
-      entry = by-step (λ q. q .developers n ≡ l .developers n) l (By k m) refl (λ g. entry-stays);
-      round = by-step (λ q. inRound (q .phase) ≡ true) l (By k m) r (λ g. round-stays);
-    }
-      where
-        go : (y : Developer) (b : Bool) → cond b (accepted (withDeveloper l n y) (By k m)) (withDeveloper l n y) ≡ withDeveloper (cond b (accepted l (By k m)) l) n y
-        go y true = same-accepted y
-        go y false = refl
-
-        entry-stays : accepted l (By k m) .developers n ≡ l .developers n
-        entry-stays = put-beside k n (moved (l .developers k) m) (l .developers) (apart k n e)
-
-        round-stays : inRound (accepted l (By k m) .phase) ≡ true
-        round-stays = r
+  move-aside : (k : ℕ) (m : Move) → eqb k n ≡ false → Aside n l (By k m)
+  unfolding accepted
+  move-aside k m e = record { beside = move-beside n l k m e; round = by-step (λ q. inRound (q .phase) ≡ true) l (By k m) r (λ g. r) }
 
   -- one that no phase but others accepts
   barred : (c : Call) (t : Phase → Bool) (next : Ledger → ℕ) → t Round ≡ false → ((m : Ledger) → number m c ≡ check (t (m .phase)) 2 (next m)) → Aside n l c

@@ -85,12 +85,12 @@ module _ (n : ℕ) (l : Ledger) (c : Call) (cs : List Call) (t : Through n (step
   other-first : own n c ≡ false → Aside n l c → Through n l (c ∷ cs)
   unfolding reduced heard stepAll others keep answersFrom answersToOthers
   other-first o a = record {
-    next = λ y. ap (λ (b : Bool). stepAll (withDeveloper l n y) (reduced b)) o ∙ ap (λ (m : Ledger). stepAll m (others n cs)) (a .next y) ∙ t .next y;
+    next = λ y. ap (λ (b : Bool). stepAll (withDeveloper l n y) (reduced b)) o ∙ ap (λ (m : Ledger). stepAll m (others n cs)) (a .beside .next y) ∙ t .next y;
     answered = λ y. ap (λ (b : Bool). answersFrom (withDeveloper l n y) (reduced b)) o
-        ∙ ap₂ (λ (x : Answered) (m : Ledger). x ∷ answersFrom m (others n cs)) (a .answered y) (a .next y)
+        ∙ ap₂ (λ (x : Answered) (m : Ledger). x ∷ answersFrom m (others n cs)) (a .beside .answered y) (a .beside .next y)
         ∙ ap (λ (xs : List Answered). answer l c ∷ xs) (t .answered y)
         ∙ ap heard (sym o);
-    entry = t .entry ∙ a .entry;
+    entry = t .entry ∙ a .beside .entry;
   }
 
 through :
