@@ -10,4 +10,6 @@ pub mod Readable
 pub mod Reading
 pub mod Figures
 pub mod ReadableLaws
+pub mod EqualAuctions
 pub mod Cancelled
+pub mod Arrived

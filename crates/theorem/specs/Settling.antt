@@ -23,6 +23,7 @@ use Rattle.theorem.specs.EveryList.{Run, reached, EveryList, every-list}
 use Rattle.theorem.specs.Previewed.{PreviewStated, preview-stated}
 use Rattle.theorem.specs.SupplyCurves.{CurveStated, curve-stated}
 use Rattle.theorem.specs.PriceForced.{ForcingStated, forcing-stated}
+use Rattle.theorem.specs.Arrived.{ArrivalStated, arrival-stated}
 use Rattle.stated.specs.Stated.{Stated}
 use Rattle.stated.specs.Determined.{determined, by-accepted}
 use Rattle.stated.specs.StatedLaws.{stated}
@@ -52,6 +53,8 @@ pub record Settling (M : Type 1) : Type 2 where
   pub preview : PreviewStated
   pub curve : CurveStated
   pub forcing : ForcingStated
+  -- ARRIVAL ORDER IN A ROUND (document 02, 12): developers' own calls in whichever order they arrive, each developer's in its own, give the same
+  pub arrival : ArrivalStated
 
 module _ {cs : List Call} {rs : List Answered} (κs : Lfts 1) (x : ArgsD signature κs) (r : Settled) (y : AtExit (endedOf 1 kinds.ps kinds.r) κs) where
   as-stated : Run cs rs (x .0) → settle.Post κs x r y → Stated (ledger cs) (x .1 .0) (now (x .1 .1 .0)) (now (y .1 .1 .0)) r
@@ -68,4 +71,5 @@ settling = record {
   preview = preview-stated;
   curve = curve-stated;
   forcing = forcing-stated;
+  arrival = arrival-stated;
 }

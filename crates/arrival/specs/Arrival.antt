@@ -1,0 +1,91 @@
+-- Arrival order in a round (document 02, 12): lists that hold, for each developer, the same calls in the same order, and what is the same then.
+use Prim.Native.Nat.{ℕ}
+use mathlib.Core.Path.{_≡_}
+use mathlib.Core.Bool.{Bool, true, false}
+use mathlib.Core.List.{List, [], _∷_, _++_, map}
+use lib.Dec.{eqb}
+use lib.ListN.{length}
+use Rattle.numbers.specs.Lists.{all}
+use Rattle.rules.specs.Ledger.{Call, SetUp, Register, Open, By, Close, Ledger, start}
+use Rattle.rules.specs.Rounds.{step, stepAll, Answered, answer}
+use Rattle.cancelling.specs.TakenBack.{own}
+use Rattle.exchanges.specs.Exchanges.{SameOfEach}
+use Rattle.format.specs.Lines.{lines}
+use Rattle.replies.specs.Orders.{Order, Malformed, Asks, Settle, orderIn}
+use Rattle.replies.specs.Replies.{replyTo, ledgerAfter, replies}
+
+-- each with what it is answered, one behind the other
+unfoldable pub told : {S A B : Type 0} → (S → A → S) → (S → A → B) → S → List A → List (A × B)
+told next says s [] = []
+told next says s (x ∷ xs) = (x, says s x) ∷ told next says (next s x) xs
+
+-- ---- calls
+
+-- an offer, a cancellation or a lodged list: a call of a developer's own
+unfoldable pub isMove : Call → Bool
+isMove (SetUp s) = false
+isMove (Register n w x) = false
+isMove (Open c) = false
+isMove (By n m) = true
+isMove Close = false
+
+-- two lists of developers' own calls, accepted or refused, that hold the same ones of each developer in the same order
+pub record Reordered (ds es : List Call) : Type 0 where
+  pub moves : all isMove ds ≡ true
+  pub moves′ : all isMove es ≡ true
+  pub each : SameOfEach own ds es
+
+abbrev pub toldFrom : Ledger → List Call → List (Call × Answered)
+toldFrom l cs = told step answer l cs
+
+-- all of the calls are accepted, from the ledger l on
+abbrev pub allAccepted : Ledger → List Call → Bool
+allAccepted l cs = all (λ t. eqb (t .1 .number) 0) (toldFrom l cs)
+
+-- from the ledger l on, both lists lead to one ledger; each developer's calls get the same answers; and all of the one are accepted exactly
+-- when all of the other are
+pub record Alike (l : Ledger) (ds es : List Call) : Type 0 where
+  pub ledgers : stepAll l ds ≡ stepAll l es
+  pub answered : SameOfEach (λ n t. own n (t .0)) (toldFrom l ds) (toldFrom l es)
+  pub accepted : allAccepted l ds ≡ allAccepted l es
+
+-- ---- lines of a record
+
+unfoldable pub orderIsMove : Order → Bool
+orderIsMove Malformed = false
+orderIsMove (Asks c) = isMove c
+orderIsMove (Settle limit) = false
+
+unfoldable pub orderOwn : ℕ → Order → Bool
+orderOwn n Malformed = false
+orderOwn n (Asks c) = own n c
+orderOwn n (Settle limit) = false
+
+-- a line that asks a call of developer n's own
+abbrev pub lineOwn : ℕ → List ℕ → Bool
+lineOwn n line = orderOwn n (orderIn line)
+
+-- two lists of lines, each asking a developer's own call, that hold the same lines of each developer in the same order
+pub record ReorderedLines (ds es : List (List ℕ)) : Type 0 where
+  pub moves : all (λ line. orderIsMove (orderIn line)) ds ≡ true
+  pub moves′ : all (λ line. orderIsMove (orderIn line)) es ≡ true
+  pub each : SameOfEach lineOwn ds es
+
+-- each line with its reply
+abbrev pub repliedFrom : Ledger → List (List ℕ) → List (List ℕ × List ℕ)
+repliedFrom l ls = told (λ m line. ledgerAfter m (orderIn line)) (λ m line. replyTo m (orderIn line)) l ls
+
+abbrev pub replied : List ℕ → List (List ℕ × List ℕ)
+replied bytes = repliedFrom start (lines bytes)
+
+-- the replies to two records, line by line: the same, but that in the midst they stand exchanged as the lines do; so they are as long
+pub record RepliedAlike (bytes bytes′ : List ℕ) (ds es : List (List ℕ)) : Type 0 where
+  pub before : List (List ℕ × List ℕ)
+  pub midst : List (List ℕ × List ℕ)
+  pub midst′ : List (List ℕ × List ℕ)
+  pub behind : List (List ℕ × List ℕ)
+  pub parts : replied bytes ≡ before ++ (midst ++ behind)
+  pub parts′ : replied bytes′ ≡ before ++ (midst′ ++ behind)
+  pub asked : (map (λ t. t .0) midst ≡ ds) × (map (λ t. t .0) midst′ ≡ es)
+  pub each : SameOfEach (λ n t. lineOwn n (t .0)) midst midst′
+  pub long : length (replies bytes) ≡ length (replies bytes′)

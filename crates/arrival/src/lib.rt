@@ -1,0 +1,1 @@
+// Arrival order in a round. Specifications only: see specs/.
