@@ -3,12 +3,13 @@
  * WRONG in the environment names it: demand (one kWh more), remainder (that of the quotient, which
  * is CE less the right one), digit (the last digit of the replies), behind (the byte behind the
  * replies), mark (that of the second price is never short), sufficient (participation always is, by
- * its mark), paid (existing plants are always paid P), order (the first two awards change places), step
- * (the last digit of an offer's frame), width (an opening's price cut to its field), kind (a lodging
- * written as an offer), agent (a registration for the developer's own number), own (one for it in
- * frame 02), move (the rivals' first move: keep and withdraw change places), kept (the outcome when
- * both rivals keep), rivals (the second begins) or beyond (the byte behind the move); without it the
- * engine is right.
+ * its mark), paid (existing plants are always paid P), order (the first two awards change places),
+ * arrival (the last digit of each closing, where the first offer is a higher developer's than the
+ * second), step (the last digit of an offer's frame), width (an opening's price cut to its field), kind
+ * (a lodging written as an offer), agent (a registration for the developer's own number), own (one for
+ * it in frame 02), move (the rivals' first move: keep and withdraw change places), kept (the outcome
+ * when both rivals keep), rivals (the second begins) or beyond (the byte behind the move); without it
+ * the engine is right.
  */
 #include "reference_engine.h"
 #include <stdlib.h>
@@ -70,12 +71,29 @@ static void settle_wrong(uint8_t *reply, uint64_t length) {
     }
 }
 
-/* The faults of all settlings' replies. */
-static void settlings_wrong(uint8_t *replies, uint64_t written) {
+/* Whether the first line of an offer names a higher developer than the second; digits are in the
+ * order of their characters. */
+static int higher_first(const uint8_t *record, size_t length) {
+    const uint8_t *first = NULL;
+    for (size_t place = 0; place + 4 <= length; place++) {
+        const uint8_t *line = record + place;
+        if ((place > 0 && line[-1] != '\n') || memcmp(line, "04", 2) != 0)
+            continue;
+        if (first != NULL)
+            return memcmp(first + 2, line + 2, 2) > 0;
+        first = line;
+    }
+    return 0;
+}
+
+/* The faults of all closings' replies, if they are wrong, and of all settlings'. */
+static void replies_wrong(uint8_t *replies, uint64_t written, int closings) {
     uint64_t start = 0;
     for (uint64_t end = 0; end < written; end++) {
         if (replies[end] != '\n')
             continue;
+        if (closings && memcmp(replies + start, "0500", 4) == 0)
+            replies[end - 1] ^= 1;
         if (end - start > AWARDS && memcmp(replies + start, "0600", 4) == 0)
             settle_wrong(replies + start, end - start);
         start = end + 1;
@@ -89,7 +107,7 @@ uint64_t replay(const uint8_t *record, size_t record_length, uint8_t *replies,
         return written;
     if (fault("digit"))
         replies[written - 2] ^= 1;
-    settlings_wrong(replies, written);
+    replies_wrong(replies, written, fault("arrival") && higher_first(record, record_length));
     if (fault("behind") && written < replies_length)
         replies[written] ^= 1;
     return written;

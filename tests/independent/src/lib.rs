@@ -20,6 +20,7 @@ pub mod replay;
 pub mod report;
 pub mod sample;
 pub mod settling;
+pub mod shuffling;
 #[cfg(test)]
 mod tests;
 pub mod trace;

@@ -1,7 +1,8 @@
 //! What a program that compares replies prints: one line a group of records with what their
 //! replies were, and the first difference; how often rounds closed where the closing rule
 //! decides; how often demand had a remainder; what lodged lists and cancellations did; who
-//! participated; how searches went; what closings did to the supply curve; and what it ends with.
+//! participated; how searches went; what closings did to the supply curve; what was moved to another
+//! order; and what it ends with.
 
 mod cancellations;
 mod closings;
@@ -10,6 +11,7 @@ mod cut;
 mod features;
 mod games;
 mod lodgings;
+mod orders;
 mod participation;
 mod remainders;
 mod searches;
@@ -17,6 +19,7 @@ mod searches;
 use crate::parts::in_parts;
 use crate::replay::lines;
 use crate::settling::Settlement;
+use crate::shuffling::Order;
 pub use cancellations::{Cancellations, CANCELLATIONS};
 pub use closings::Closings;
 pub use curves::{Redrawn, CURVES, LONGEST_CURVE};
@@ -24,6 +27,8 @@ use cut::Cut;
 pub use features::Features;
 pub use games::{Asked, GAMES, REFUSED};
 pub use lodgings::{Lodgings, LODGINGS};
+use orders::Orders;
+pub use orders::PASSAGES;
 pub use participation::{Participation, PARTICIPATION};
 pub use remainders::Remainders;
 use searches::SEARCHES;
@@ -70,6 +75,7 @@ pub struct Group {
     cancellations: Features<Cancellations>,
     participation: Features<Participation>,
     cut: Cut,
+    orders: Orders,
     searches: Features<Settlement>,
     curves: Features<Redrawn>,
     /// Words of traces by their names.
@@ -91,6 +97,7 @@ impl Group {
             cancellations: Features::new(CANCELLATIONS),
             participation: Features::new(PARTICIPATION),
             cut: Cut::default(),
+            orders: Orders::new(),
             searches: Features::new(SEARCHES),
             curves: Features::new(CURVES),
             words: BTreeMap::new(),
@@ -126,6 +133,7 @@ impl Group {
         self.cancellations.join(&other.cancellations);
         self.participation.join(&other.participation);
         self.cut.join(&other.cut);
+        self.orders.join(&other.orders);
         self.searches.join(&other.searches);
         self.curves.join(&other.curves);
         add(&mut self.words, other.words);
@@ -159,6 +167,11 @@ impl Group {
     /// offers, and without so many that were refused.
     pub fn count_cut(&mut self, replies: &[u8], cancelled: usize, refused: usize) {
         self.cut.count(replies, cancelled, refused);
+    }
+
+    /// Counts a record with these replies by its other order.
+    pub fn count_order(&mut self, order: &Order, replies: &[u8]) {
+        self.orders.count(order, replies);
     }
 
     /// Counts the settlement of a record.
@@ -213,6 +226,7 @@ impl Group {
         self.cancellations.print("cancellations by record");
         self.participation.print("participation by record");
         self.cut.print();
+        self.orders.print();
         if !self.words.is_empty() {
             println!("  words: {}", listed_counts(&self.words));
         }

@@ -18,6 +18,7 @@ mod sample;
 mod searching;
 mod settling;
 mod shares;
+mod shuffling;
 mod trace;
 mod writing;
 

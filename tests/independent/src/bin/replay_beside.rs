@@ -12,14 +12,16 @@
 
 #[path = "../engine.rs"]
 mod engine;
+#[path = "../replaying.rs"]
+mod replaying;
 
 use independent::cutting::{cancelled, refused, without};
-use independent::lent::{difference, lend};
 use independent::random::Random;
 use independent::records::{edges, fixed, records_of, Records};
-use independent::replay::{fields, lines, read_call, replay, write_replies, Call};
+use independent::replay::{fields, lines, read_call, replay, Call};
 use independent::report::{few, inputs, verdict, Group};
 use independent::sample;
+use replaying::{compare_lent, engines_replies};
 use std::collections::BTreeSet;
 use std::process::ExitCode;
 
@@ -118,24 +120,6 @@ fn lengths_around(replies: usize) -> Vec<usize> {
     let short = replies.checked_sub(1);
     let longer = [replies + 1, replies + 100];
     [replies].into_iter().chain(short).chain(longer).collect()
-}
-
-/// Compares a call with a buffer of so many bytes with replies, which have a name.
-fn compare_lent(group: &mut Group, record: &[u8], expected: (&str, &[u8]), length: usize) {
-    let engine = lend(length, |buffer| engine::replay(record, buffer));
-    let as_expected = lend(length, |buffer| write_replies(expected.1, buffer));
-    if let Some(why) = difference(length, &engine, &as_expected) {
-        let engine = engines_replies(record, 2 * expected.1.len() + (1 << 16));
-        group.differ(&why, record, [("engine", &engine), expected]);
-    }
-}
-
-/// What the engine writes into a buffer of so many bytes.
-fn engines_replies(record: &[u8], length: usize) -> Vec<u8> {
-    let mut replies = vec![0; length];
-    let written = engine::replay(record, &mut replies);
-    replies.truncate(usize::try_from(written).unwrap_or(0));
-    replies
 }
 
 /// The paper's sample, with buffers of every length up to its reply's.

@@ -9,6 +9,7 @@ use independent::records::{edges, fixed, records_of, Records};
 use independent::replay::{lines, PROGRAM_BYTES};
 use independent::report::{verdict, Group};
 use independent::sample;
+use independent::shuffling::Order;
 use independent::trace::traced_with_settlement;
 use std::process::{Command, ExitCode, Output};
 
@@ -30,7 +31,7 @@ fn main() -> ExitCode {
 }
 
 /// Groups of records, and the bytes of standard input that arrive at once.
-const GROUPS: [(&str, Records, usize); 8] = [
+const GROUPS: [(&str, Records, usize); 9] = [
     ("sample and examples", sample::records, AT_ONCE),
     ("fixed records", fixed::records, AT_ONCE),
     ("edges of lines", edges::lines, AT_ONCE),
@@ -39,8 +40,16 @@ const GROUPS: [(&str, Records, usize); 8] = [
     ("largest books", edges::largest_books, AT_ONCE),
     // The seeds whose shares the tests of the independent implementation look at.
     ("generated", || records_of(0..20_000), AT_ONCE),
+    // No reply says the supply curve, which document 02's request 12 takes into the equality.
+    ("generated, in another order", in_another_order, AT_ONCE),
     ("sizes of records, in pieces", edges::record_sizes, 5_000),
 ];
+
+fn in_another_order() -> Vec<Vec<u8>> {
+    let records = records_of(0..2_000);
+    let put = records.iter().map(|record| Order::of(record).put(record));
+    put.collect()
+}
 
 fn compare(group: &mut Group, record: &[u8], output: &Output) {
     let (expected, settlement) = traced_with_settlement(record);
