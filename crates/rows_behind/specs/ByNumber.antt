@@ -6,9 +6,10 @@ use native.Mathlib.Omega.{arith}
 use native.Mathlib.Nat.{add-zero}
 use lib.ListN.{getD}
 use Rattle.choices.specs.Numbered.{count}
+use Rattle.placing.specs.Numbers.{numbersFrom, in-numbers}
 use Rattle.table.specs.Rows.{rowsIn}
-use Rattle.table.specs.Places.{LaidOut, numbersFrom}
-use Rattle.table.specs.PlaceLaws.{rows-numbered, in-numbers}
+use Rattle.table.specs.Places.{LaidOut}
+use Rattle.table.specs.PlaceLaws.{rows-numbered}
 use Rattle.rows_behind.specs.Behind.{Orders}
 
 pub number-is : (k n i : ℕ) → i < n → getD (numbersFrom k n) i 0 ≡ k + i

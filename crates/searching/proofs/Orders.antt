@@ -12,8 +12,9 @@ use Rattle.choices.specs.Falling.{falling-any, map-falling, each-any, length-an
 use Rattle.choices.specs.CoveringCount.{choices-any}
 use Rattle.choices.specs.Numbered.{count, numbered}
 use Rattle.choices.specs.Through.{Strided, rowOf, Among, among-any}
+use Rattle.placing.specs.Numbers.{numbersFrom}
 use Rattle.table.specs.Rows.{rowsIn}
-use Rattle.table.specs.Places.{rowIn, numbersFrom}
+use Rattle.table.specs.Places.{rowIn}
 use Rattle.table.specs.PlaceLaws.{rows-numbered}
 use Rattle.ordering.specs.Ranks.{rankIn, searchOrder}
 use Rattle.rows_behind.specs.Behind.{Orders}

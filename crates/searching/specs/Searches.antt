@@ -7,8 +7,9 @@ use Rattle.numbers.specs.Lists.{total}
 use Rattle.choices.specs.Choices.{choices, covering, bestOf}
 use Rattle.choices.specs.Search.{kept}
 use Rattle.choices.specs.Numbered.{count}
+use Rattle.placing.specs.Numbers.{numbersFrom}
 use Rattle.table.specs.Rows.{rowsIn}
-use Rattle.table.specs.Places.{LaidOut, numbersFrom}
+use Rattle.table.specs.Places.{LaidOut}
 use Rattle.rows_behind.specs.Behind.{EachBehind}
 use Rattle.tally.specs.declared.Found.{Found}
 

@@ -9,8 +9,9 @@ use lib.ListN.{length, take, drop, getD, set, length-set}
 use lib.Seq.{take-all, take-suc-set, getD-take, getD-drop}
 use Rattle.choices.specs.Choices.{choices}
 use Rattle.choices.specs.Numbered.{count, count-row, count-some, choice-at}
+use Rattle.placing.specs.Numbers.{numbersFrom}
 use Rattle.table.specs.Rows.{rowsIn}
-use Rattle.table.specs.Places.{startOf, rowIn, numbersFrom}
+use Rattle.table.specs.Places.{startOf, rowIn}
 use Rattle.table.specs.PlaceLaws.{rows-numbered, row-ends, row-length}
 use Rattle.searching.specs.Searches.{Searchable}
 use Rattle.rows_behind.specs.Behind.{Orders}

@@ -10,8 +10,9 @@ use borrow.Author.Tests.{le-leb, lt-leb}
 use Rattle.numbers.specs.Cases.{le-or-lt, clash}
 use Rattle.choices.specs.Choices.{choices, covering}
 use Rattle.choices.specs.Numbered.{count}
+use Rattle.placing.specs.Numbers.{numbersFrom}
 use Rattle.table.specs.Rows.{rowsIn, Lays}
-use Rattle.table.specs.Places.{Laid, LaidOut, numbersFrom}
+use Rattle.table.specs.Places.{Laid, LaidOut}
 use Rattle.table.specs.declared.Table.{Table}
 use Rattle.counting.specs.Counted.{Tells, CountedTo}
 use Rattle.rows_behind.specs.Behind.{Orders, EachBehind}

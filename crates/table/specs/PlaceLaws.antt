@@ -11,8 +11,9 @@ use lib.Seq.{drop-cons, getD-take, getD-drop}
 use Rattle.numbers.specs.Cases.{le-or-lt}
 use Rattle.numbers.specs.ListLaws.{map-intro, last-at}
 use Rattle.choices.specs.Search.{lowOf, highOf}
+use Rattle.placing.specs.Numbers.{numbersFrom, in-numbers, numbers-in}
 use Rattle.table.specs.Rows.{rowsIn, EndsRise}
-use Rattle.table.specs.Places.{part, RowLaid, LaidOut, startOf, rowIn, numbersFrom}
+use Rattle.table.specs.Places.{part, RowLaid, LaidOut, startOf, rowIn}
 
 -- ---- parts of the levels
 
@@ -52,16 +53,6 @@ rows-from levels ends k zero e = rw (drop-of-length-le ends {i = k} (omega arith
 rows-from levels ends k (suc n) e =
     rows-cons levels ends k (startOf ends k) (omega arith)
     ∙ rw (add-one k) (ap (λ rs. rowIn levels ends k ∷ rs) (rows-from levels ends (suc k) n (omega arith)))
-
-pub in-numbers : (j k n : ℕ) → List·Memᴰ j (numbersFrom k n) → j < k + n
-unfolding numbersFrom
-in-numbers j k zero m = absurd (List·Memᴰ·not-nil m)
-in-numbers j k (suc n) m = ⊎-elim (λ e. omega arith) (λ h. omega (arith, in-numbers j (suc k) n h)) (List·Memᴰ·cases-cons m)
-
-numbers-in : (j k n : ℕ) → k ≤ j → j < k + n → List·Memᴰ j (numbersFrom k n)
-unfolding numbersFrom
-numbers-in j k zero h g = absurd (omega arith)
-numbers-in j k (suc n) h g = ⊎-elim (λ e. List·Memᴰ·tail (numbers-in j (suc k) n e (omega arith))) (λ e. List·Memᴰ·head (omega arith)) (le-or-lt (suc k) j)
 
 module _ {levels ends : List ℕ} (t : LaidOut levels ends) where
   pub rows-numbered : rowsIn levels 0 ends ≡ map (rowIn levels ends) (numbersFrom 0 32)

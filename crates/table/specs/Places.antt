@@ -1,7 +1,7 @@
 -- Tables that are laid out, and their rows by number.
-use Prim.Native.Nat.{ℕ, zero, suc, _-_, _≤_}
+use Prim.Native.Nat.{ℕ, _-_, _≤_}
 use mathlib.Core.Path.{_≡_}
-use mathlib.Core.List.{List, [], _∷_}
+use mathlib.Core.List.{List, _∷_}
 use lib.ListN.{length, take, drop, getD}
 use Rattle.numbers.specs.ListLaws.{Each}
 use Rattle.choices.specs.Pairwise.{StrictlyRising}
@@ -34,8 +34,3 @@ startOf ends k = getD (0 ∷ ends) k 0
 
 abbrev pub rowIn : List ℕ → List ℕ → ℕ → List ℕ
 rowIn levels ends k = part levels (startOf ends k) (getD ends k 0)
-
--- n numbers, from k on
-unfoldable pub numbersFrom : ℕ → ℕ → List ℕ
-numbersFrom k zero = []
-numbersFrom k (suc n) = k ∷ numbersFrom (suc k) n

@@ -1,7 +1,8 @@
 -- `select` answers as `selectedOf`: past the first test the table is laid out, past the second the choices are few enough to search.
 use borrow.Author.Tests.{not-true, not-false}
 use borrow.Author.Needs.{needs}
-use Rattle.table.specs.Places.{Laid, Long, numbersFrom}
+use Rattle.placing.specs.Numbers.{numbersFrom}
+use Rattle.table.specs.Places.{Laid, Long}
 use Rattle.searching.specs.Searches.{Searchable}
 use Rattle.selection.proofs.Selecting.{Counted, not-laid, too-many, numbers-order, searchable, chosen}
 use Rattle.selection.proofs.select.Statement.{statement}
