@@ -102,6 +102,42 @@ uint64_t who_can_force(const uint8_t *record, size_t record_length, uint64_t fir
                        uint8_t *move, size_t move_length);
 
 /*
+ * The sealed auction for plants with long building times: one year's demand is given to offers in
+ * turn, those of the oldest group first, of equal ages the lower price first, of equal prices
+ * too the one earlier in the list. Each gets the lesser of its quantity and what is left, or
+ * nothing if that is below its minimum, and the next is tried.
+ *
+ *   ceiling     ceiling price, 1 to 1,000,000
+ *   demand      demand of the year, 0 to 10^11
+ *   prices      the offers' prices, 1 to 1,000,000, at most the ceiling
+ *   quantities  their quantities, 1 to 10^9
+ *   minimums    the least that each takes, 1 to its quantity
+ *   ages        the ages of their groups in years, 0 to 20
+ *   awards      the lent buffer, awards_length numbers; it must not overlap the lists
+ *
+ * The four lists have one length, 0 to 16, and are only read. Returns what is left, with the
+ * award of each offer in list order from the start of the buffer; the numbers behind them stay.
+ * The awards and what is left sum to the demand. There are three refusals, tested in this order,
+ * and each leaves every number of the buffer as it was:
+ *
+ *   REFERENCE_ENGINE_REFUSAL(18), which is 2^64 - 18: more than 16 offers, lists of different
+ *   lengths, or a number out of its bounds.
+ *
+ *   REFERENCE_ENGINE_REFUSAL(19), which is 2^64 - 19: an offered price above the ceiling.
+ *
+ *   REFERENCE_ENGINE_REFUSAL(11), which is 2^64 - 11: the buffer is shorter than the list.
+ *
+ * Any numbers may be passed, in any number, and a length of 0 goes with any pointer, NULL too. The
+ * call keeps no state and touches no other memory of the host, so any number of threads may make
+ * it at once, each with its own buffer.
+ */
+uint64_t sealed_auction(uint64_t ceiling, uint64_t demand, const uint64_t *prices,
+                        size_t prices_length, const uint64_t *quantities,
+                        size_t quantities_length, const uint64_t *minimums,
+                        size_t minimums_length, const uint64_t *ages, size_t ages_length,
+                        uint64_t *awards, size_t awards_length);
+
+/*
  * Writing the record of an auction, a call at a time: each call below writes one frame, the line
  * of docs/FORMAT.md with its 0A, from the start of the lent buffer. Frames written one behind the
  * other are a record: lend the rest of the record's buffer to each call.

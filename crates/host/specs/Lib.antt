@@ -1,3 +1,4 @@
 pub mod Host
 pub mod Lodging
 pub mod Forcing
+pub mod Sealing

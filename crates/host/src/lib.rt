@@ -11,7 +11,9 @@ ghost use Rattle.record_replay.specs.Replayed.{hosted, over};
 ghost use Rattle.record_forcing.specs.Chosen.{chosenIn};
 ghost use Rattle.writing.specs.Writes.{registration, registrationFor};
 ghost use Rattle.host.specs.Host.{answerOf, hostNumber, hostRemainder};
+ghost use Rattle.sealed.specs.Sealed.{bookOf, lentAwards};
 ghost use Rattle.host.specs.Forcing.{hostForcing};
+ghost use Rattle.host.specs.Sealing.{hostSealed};
 ghost use Rattle.host.specs.Lodging.{answer, HostWrites};
 use demand::Demanded;
 use frame_writing::Written;
@@ -75,6 +77,32 @@ pub extern "C" fn who_can_force(
 {
     let told = record_forcing::who_can_force(src, first, second, prices, chosen);
     host_number(told.number, told.outcome as u64)
+}
+
+// The sealed auction for long builds (document 02, 13): what is left, and the award of each offer from the buffer's start.
+#[no_mangle]
+pub extern "C" fn sealed_auction(
+    ceiling: u64,
+    demand: u64,
+    prices: &[u64],
+    quantities: &[u64],
+    minimums: &[u64],
+    ages: &[u64],
+    awards: &mut [u64],
+) -> u64
+    ensures { λ r. ⌜ r ≡ hostSealed ceiling demand (bookOf (now (prices .entry)) (now (quantities .entry)) (now (minimums .entry)) (now (ages .entry))) (length (now (awards .entry))) ⌝ }
+    ensures { λ _. ⌜ now (awards .exit) ≡ lentAwards ceiling demand (bookOf (now (prices .entry)) (now (quantities .entry)) (now (minimums .entry)) (now (ages .entry))) (now (awards .entry)) ⌝ }
+{
+    let lent = sealed_auction::sealed_auction(
+        ceiling,
+        demand,
+        prices,
+        quantities,
+        minimums,
+        ages,
+        awards,
+    );
+    host_number(lent.number, lent.left)
 }
 
 // ---- frames written (document 02, 2)

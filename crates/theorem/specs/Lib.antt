@@ -5,6 +5,7 @@ pub mod PriceForced
 pub mod ReadBack
 pub mod Runs
 pub mod Untouched
+pub mod SealedStated
 pub mod Settling
 pub mod Readable
 pub mod Reading

@@ -24,6 +24,7 @@ use Rattle.theorem.specs.Previewed.{PreviewStated, preview-stated}
 use Rattle.theorem.specs.SupplyCurves.{CurveStated, curve-stated}
 use Rattle.theorem.specs.PriceForced.{ForcingStated, forcing-stated}
 use Rattle.theorem.specs.Arrived.{ArrivalStated, arrival-stated}
+use Rattle.theorem.specs.SealedStated.{SealedStated, sealed-stated}
 use Rattle.stated.specs.Stated.{Stated}
 use Rattle.stated.specs.Determined.{determined, by-accepted}
 use Rattle.stated.specs.StatedLaws.{stated}
@@ -55,6 +56,8 @@ pub record Settling (M : Type 1) : Type 2 where
   pub forcing : ForcingStated
   -- ARRIVAL ORDER IN A ROUND (document 02, 12): developers' own calls in whichever order they arrive, each developer's in its own, give the same
   pub arrival : ArrivalStated
+  -- THE SEALED AUCTION FOR LONG BUILDS (document 02, 13), beside the calls: refusals, awards and what is left
+  pub sealed : SealedStated M
 
 module _ {cs : List Call} {rs : List Answered} (κs : Lfts 1) (x : ArgsD signature κs) (r : Settled) (y : AtExit (endedOf 1 kinds.ps kinds.r) κs) where
   as-stated : Run cs rs (x .0) → settle.Post κs x r y → Stated (ledger cs) (x .1 .0) (now (x .1 .1 .0)) (now (y .1 .1 .0)) r
@@ -72,4 +75,5 @@ settling = record {
   curve = curve-stated;
   forcing = forcing-stated;
   arrival = arrival-stated;
+  sealed = sealed-stated;
 }

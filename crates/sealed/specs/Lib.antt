@@ -1,0 +1,9 @@
+pub mod Sealed
+pub mod InWords
+pub mod Served
+pub mod SealedSample
+pub mod Sorting
+pub mod ServedLaws
+pub mod Taken
+pub mod Precedence
+pub mod SealedLaws

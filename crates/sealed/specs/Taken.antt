@@ -1,0 +1,76 @@
+-- Offers taken one after the other: each with its award, and what is left behind them all.
+use Prim.Native.Nat.{ℕ, _+_, _-_, _≤_, _<_, min}
+use mathlib.Core.Path.{_≡_, refl, ap₂, _∙_}
+use mathlib.Core.Logic.{_⊎_, inl, inr, ⊎-elim}
+use mathlib.Core.List.{List, [], _∷_, map}
+use native.Mathlib.Omega.{arith}
+use borrow.Author.Tests.{lt-ltb, le-ltb, eq-eqb, ne-eqb}
+use Rattle.numbers.specs.Cases.{le-or-lt}
+use Rattle.numbers.specs.Lists.{total}
+use Rattle.numbers.specs.ListLaws.{map-same}
+use Rattle.choices.specs.Pairwise.{Distinct}
+use Rattle.sealed.specs.Sealed.{Offer, awarded, leftBehind, leftBefore}
+
+unfoldable pub taken : ℕ → List Offer → List (Offer × ℕ)
+taken left [] = []
+taken left (o ∷ os) = (o, awarded left o) ∷ taken (left - awarded left o) os
+
+unfoldable pub remaining : ℕ → List Offer → ℕ
+remaining left [] = left
+remaining left (o ∷ os) = remaining (left - awarded left o) os
+
+-- ---- one award
+
+module _ (left : ℕ) (o : Offer) where
+  abbrev cut : ℕ
+  cut = min (o .quantity) left
+
+  -- nothing, or all that it can get
+  awarded-cases : ((awarded left o ≡ 0) × (cut < o .minimum)) ⊎ ((awarded left o ≡ cut) × (o .minimum ≤ cut))
+  unfolding awarded
+  awarded-cases =
+      ⊎-elim
+      (λ h. inr (rw (le-ltb cut (o .minimum) h), h))
+      (λ h. inl (rw (lt-ltb cut (o .minimum) h), h))
+      (le-or-lt (o .minimum) cut)
+
+  awarded-le : awarded left o ≤ left
+  awarded-le = ⊎-elim (λ h. omega (arith, h .0)) (λ h. omega (arith, h .0)) awarded-cases
+
+  pub awarded-range : (awarded left o ≡ 0) ⊎ ((o .minimum ≤ awarded left o) × (awarded left o ≤ o .quantity))
+  awarded-range = ⊎-elim (λ h. inl (h .0)) (λ h. inr (omega (arith, h .0, h .1), omega (arith, h .0))) awarded-cases
+
+  module _ (some : 1 ≤ o .minimum) (within : o .minimum ≤ o .quantity) where
+    pub awarded-nothing : (awarded left o ≡ 0 → left < o .minimum) × (left < o .minimum → awarded left o ≡ 0)
+    awarded-nothing = (
+      (λ e. ⊎-elim (λ h. omega (arith, h .1)) (λ h. absurd (omega (arith, h .0, h .1))) awarded-cases),
+      (λ l. ⊎-elim (λ h. h .0) (λ h. absurd (omega (arith, h .1))) awarded-cases),
+    )
+
+-- ---- all of them
+
+pub taken-sum : (left : ℕ) (os : List Offer) → total (map (λ t. t .1) (taken left os)) + remaining left os ≡ left
+unfolding total taken remaining
+taken-sum left [] = omega arith
+taken-sum left (o ∷ os) = omega (arith, taken-sum (left - awarded left o) os, awarded-le left o)
+
+module _ (f : ℕ → Offer) where
+  pub behind-is : (left : ℕ) (ks : List ℕ) → leftBehind f left ks ≡ remaining left (map f ks)
+  unfolding leftBehind remaining
+  behind-is left [] = refl
+  behind-is left (k ∷ ks) = behind-is (left - awarded left (f k)) ks
+
+  -- place by place, where no place has two turns
+  pub taken-is : (left : ℕ) (ks : List ℕ) → Distinct ks → map (λ k. (f k, awarded (leftBefore f left k ks) (f k))) ks ≡ taken left (map f ks)
+  unfolding leftBefore taken
+  taken-is left [] d = refl
+  taken-is left (k ∷ ks) d =
+      ap₂
+      _∷_
+      (rw (eq-eqb k k refl))
+      (map-same
+      (λ j. (f j, awarded (leftBefore f left j (k ∷ ks)) (f j)))
+      (λ j. (f j, awarded (leftBefore f (left - awarded left (f k)) j ks) (f j)))
+      ks
+      (λ j m. rw (ne-eqb k j (d .0 j m)))
+      ∙ taken-is (left - awarded left (f k)) ks (d .1))

@@ -1,0 +1,1 @@
+// The sealed auction for long builds. Specifications only: see specs/.

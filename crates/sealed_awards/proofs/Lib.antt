@@ -1,0 +1,2 @@
+mod Sharing
+mod Putting

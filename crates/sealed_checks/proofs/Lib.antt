@@ -1,0 +1,2 @@
+mod EveryPlace
+mod Ceiling
