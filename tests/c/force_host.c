@@ -2,7 +2,9 @@
  * A C host of who_can_force. Records, price lists and buffers have exact lengths (memory.h).
  * Prints what fails; the exit status is 0 only if nothing does.
  */
+#define HOST "force_host"
 #include "memory.h"
+#include "checks.h"
 #include <string.h>
 
 #include "reference_engine.h"
@@ -104,17 +106,6 @@ static const struct check checks[] = {
     {"price beyond 32 bits", BETWEEN, 2, 3, {1, {BITS(32) + 18000}}, NOT_AS_DESCRIBED, 0, 0},
 };
 
-static unsigned made, failed;
-
-static void expect(int passes, const char *memory, const char *name, size_t length)
-{
-    made++;
-    if (passes)
-        return;
-    failed++;
-    printf("force_host: %s: %s, buffer of %zu bytes\n", memory, name, length);
-}
-
 /* The buffer's refusal is tested last. */
 static uint64_t expected(const struct check *check, size_t length)
 {
@@ -169,10 +160,5 @@ int main(void)
             for (size_t length = 0; length <= 3; length++)
                 force_into(&memories[m], &checks[i], length);
     force_null();
-    if (failed > 0) {
-        printf("force_host: %u of %u checks failed\n", failed, made);
-        return 1;
-    }
-    printf("force_host: %u checks ok\n", made);
-    return 0;
+    return ended();
 }

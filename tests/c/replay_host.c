@@ -2,7 +2,9 @@
  * A C host of demand and replay. Records and buffers have exact lengths (memory.h).
  * Prints what fails; the exit status is 0 only if nothing does.
  */
+#define HOST "replay_host"
 #include "memory.h"
+#include "checks.h"
 #include <string.h>
 
 #include "reference_engine.h"
@@ -88,17 +90,6 @@ static const struct check checks[] = {
     {"kind 0A", "0A02", "FF0C\n"},
 };
 
-static unsigned made, failed;
-
-static void expect(int passes, const char *memory, const char *name, size_t length)
-{
-    made++;
-    if (passes)
-        return;
-    failed++;
-    printf("replay_host: %s: %s, buffer of %zu bytes\n", memory, name, length);
-}
-
 /* Replays the record into a buffer of so many bytes. */
 static void replay_into(const struct memory *memory, const struct check *check, size_t length)
 {
@@ -149,10 +140,5 @@ int main(void)
     expect(demand(20000, 1000, 900, 1200, 29999) == 951, "demand", "accepted", 0);
     expect(demand(3, 1000, 900, 1200, 3) == REFERENCE_ENGINE_REFUSAL(1), "demand", "refused", 0);
     expect(demand_remainder(20000, 1000, 900, 1200, 29999) == 19900, "remainder", "accepted", 0);
-    if (failed > 0) {
-        printf("replay_host: %u of %u checks failed\n", failed, made);
-        return 1;
-    }
-    printf("replay_host: %u checks ok\n", made);
-    return 0;
+    return ended();
 }

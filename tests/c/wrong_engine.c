@@ -8,8 +8,10 @@
  * second), step (the last digit of an offer's frame), width (an opening's price cut to its field), kind
  * (a lodging written as an offer), agent (a registration for the developer's own number), own (one for
  * it in frame 02), move (the rivals' first move: keep and withdraw change places), kept (the outcome
- * when both rivals keep), rivals (the second begins) or beyond (the byte behind the move); without it
- * the engine is right.
+ * when both rivals keep), rivals (the second begins), beyond (the byte behind the move, and the number
+ * behind the awards of a sealed auction), ties (of sealed offers alike the later one first), cut (one
+ * may be awarded less than its minimum), listed (the first two awards change places) or ceiling (19
+ * tested before 18); without it the engine is right.
  */
 #include "reference_engine.h"
 #include <stdlib.h>
@@ -33,6 +35,11 @@ uint64_t right_write_lodging(uint64_t developer, const uint64_t *prices, size_t 
 uint64_t right_who_can_force(const uint8_t *record, size_t record_length, uint64_t first,
                              uint64_t second, const uint64_t *prices, size_t prices_length,
                              uint8_t *move, size_t move_length);
+uint64_t right_sealed_auction(uint64_t ceiling, uint64_t demand, const uint64_t *prices,
+                              size_t prices_length, const uint64_t *quantities,
+                              size_t quantities_length, const uint64_t *minimums,
+                              size_t minimums_length, const uint64_t *ages, size_t ages_length,
+                              uint64_t *awards, size_t awards_length);
 
 static int fault(const char *name) {
     const char *wrong = getenv("WRONG");
@@ -176,4 +183,62 @@ uint64_t who_can_force(const uint8_t *record, size_t record_length, uint64_t fir
     if (fault("kept"))
         return all_keep(record, record_length, first, second, prices, prices_length);
     return outcome;
+}
+
+/* The most sealed offers. */
+enum { OFFERS = 16 };
+
+static void reverse(uint64_t *to, const uint64_t *from, size_t count) {
+    for (size_t place = 0; place < count; place++)
+        to[place] = from[count - 1 - place];
+}
+
+/* The sound auction with its list the other way round, which only those alike feel. */
+static uint64_t ties_wrong(uint64_t ceiling, uint64_t demand, const uint64_t *prices,
+                           const uint64_t *quantities, const uint64_t *minimums,
+                           const uint64_t *ages, uint64_t *awards, size_t count) {
+    uint64_t lists[5][OFFERS];
+    reverse(lists[0], prices, count);
+    reverse(lists[1], quantities, count);
+    reverse(lists[2], minimums, count);
+    reverse(lists[3], ages, count);
+    uint64_t left = right_sealed_auction(ceiling, demand, lists[0], count, lists[1], count, lists[2],
+                                         count, lists[3], count, lists[4], count);
+    reverse(awards, lists[4], count);
+    return left;
+}
+
+/* Whether a price is above the ceiling. */
+static int above(uint64_t ceiling, const uint64_t *prices, size_t count) {
+    while (count > 0 && prices[count - 1] <= ceiling)
+        count--;
+    return count > 0;
+}
+
+uint64_t sealed_auction(uint64_t ceiling, uint64_t demand, const uint64_t *prices,
+                        size_t prices_length, const uint64_t *quantities, size_t quantities_length,
+                        const uint64_t *minimums, size_t minimums_length, const uint64_t *ages,
+                        size_t ages_length, uint64_t *awards, size_t awards_length) {
+    static const uint64_t ones[OFFERS] = {1, 1, 1, 1, 1, 1, 1, 1, 1, 1, 1, 1, 1, 1, 1, 1};
+    if (fault("ceiling") && above(ceiling, prices, prices_length))
+        return REFERENCE_ENGINE_REFUSAL(19);
+    uint64_t left = right_sealed_auction(ceiling, demand, prices, prices_length, quantities,
+                                         quantities_length, minimums, minimums_length, ages,
+                                         ages_length, awards, awards_length);
+    size_t count = prices_length;
+    if (left >= REFERENCE_ENGINE_REFUSAL(19))
+        return left;
+    if (fault("ties"))
+        return ties_wrong(ceiling, demand, prices, quantities, minimums, ages, awards, count);
+    if (fault("cut"))
+        return right_sealed_auction(ceiling, demand, prices, count, quantities, count, ones, count,
+                                    ages, count, awards, count);
+    if (fault("listed") && count > 1) {
+        uint64_t first = awards[0];
+        awards[0] = awards[1];
+        awards[1] = first;
+    }
+    if (fault("beyond") && awards_length > count)
+        awards[count] ^= 1;
+    return left;
 }

@@ -3,6 +3,7 @@
 #![allow(dead_code, reason = "a program makes the calls that it tests")]
 
 use independent::replay::Fields;
+use independent::sealed::Sealed;
 
 mod host {
     #[link(name = "host", kind = "static")]
@@ -78,6 +79,20 @@ mod host {
             prices_length: usize,
             first_move: *mut u8,
             first_move_length: usize,
+        ) -> u64;
+        pub fn sealed_auction(
+            ceiling: u64,
+            demand: u64,
+            prices: *const u64,
+            prices_length: usize,
+            quantities: *const u64,
+            quantities_length: usize,
+            minimums: *const u64,
+            minimums_length: usize,
+            ages: *const u64,
+            ages_length: usize,
+            awards: *mut u64,
+            awards_length: usize,
         ) -> u64;
     }
 }
@@ -189,6 +204,29 @@ pub fn who_can_force(
             prices.len(),
             first_move.as_mut_ptr(),
             first_move.len(),
+        )
+    }
+}
+
+/// What is left, with the awards from the start of `awards`, or 2^64 less 18, 19 or 11 for those
+/// refusals.
+pub fn sealed_auction(auction: &Sealed, awards: &mut [u64]) -> u64 {
+    let [prices, quantities, minimums, ages] = &auction.lists;
+    // SAFETY: the call reads the lists and writes the awards; an exclusive borrow keeps them apart.
+    unsafe {
+        host::sealed_auction(
+            auction.ceiling,
+            auction.demand,
+            prices.as_ptr(),
+            prices.len(),
+            quantities.as_ptr(),
+            quantities.len(),
+            minimums.as_ptr(),
+            minimums.len(),
+            ages.as_ptr(),
+            ages.len(),
+            awards.as_mut_ptr(),
+            awards.len(),
         )
     }
 }

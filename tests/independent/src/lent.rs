@@ -1,31 +1,46 @@
 //! Lent buffers in memory of which every byte is compared.
 
-/// Bytes on either side of the lent buffer, which no call may touch.
+/// Places on either side of the lent buffer, which no call may touch.
 pub const MARGIN: usize = 64;
 
-/// A call with a buffer of so many bytes: its number, and the memory that the buffer is in.
-pub fn lend(length: usize, call: impl FnOnce(&mut [u8]) -> u64) -> (u64, Vec<u8>) {
-    let mut memory = pattern(MARGIN + length + MARGIN);
+/// What lent buffers hold.
+pub trait Held: Copy + PartialEq {
+    /// What stands at a place before a call.
+    fn untouched(place: usize) -> Self;
+}
+
+impl Held for u8 {
+    /// No two neighbours are alike.
+    fn untouched(place: usize) -> u8 {
+        (place * 37 % 251) as u8
+    }
+}
+
+impl Held for u64 {
+    fn untouched(place: usize) -> u64 {
+        u64::from_ne_bytes(std::array::from_fn(|byte| u8::untouched(8 * place + byte)))
+    }
+}
+
+/// A call with a buffer of so many places: its number, and the memory that the buffer is in.
+pub fn lend<T: Held>(length: usize, call: impl FnOnce(&mut [T]) -> u64) -> (u64, Vec<T>) {
+    let places = 0..MARGIN + length + MARGIN;
+    let mut memory: Vec<T> = places.map(T::untouched).collect();
     let number = call(&mut memory[MARGIN..MARGIN + length]);
     (number, memory)
 }
 
-/// Bytes of which no two neighbours are alike.
-fn pattern(length: usize) -> Vec<u8> {
-    (0..length).map(|place| (place * 37 % 251) as u8).collect()
-}
-
-/// How two calls with a buffer of so many bytes differ; nothing if they do not.
-pub fn difference(
+/// How two calls with a buffer of so many places differ; nothing if they do not.
+pub fn difference<T: Held>(
     length: usize,
-    engine: &(u64, Vec<u8>),
-    expected: &(u64, Vec<u8>),
+    engine: &(u64, Vec<T>),
+    expected: &(u64, Vec<T>),
 ) -> Option<String> {
-    let byte = std::iter::zip(&engine.1, &expected.1).position(|(got, wanted)| got != wanted);
+    let place = std::iter::zip(&engine.1, &expected.1).position(|(got, wanted)| got != wanted);
     (engine != expected).then(|| {
         format!(
-            "buffer of {length} bytes: engine gives {:#X}, expected {:#X}; first byte that \
-             differs, counted from {MARGIN} before the buffer: {byte:?}",
+            "buffer of length {length}: engine gives {:#X}, expected {:#X}; first place that \
+             differs, counted from {MARGIN} before the buffer: {place:?}",
             engine.0, expected.0
         )
     })

@@ -19,6 +19,7 @@ pub mod records;
 pub mod replay;
 pub mod report;
 pub mod sample;
+pub mod sealed;
 pub mod settling;
 pub mod shuffling;
 #[cfg(test)]
@@ -70,6 +71,10 @@ pub const NO_EXISTING_PLANT: u8 = 15;
 pub const NO_STANDING_OFFER: u8 = 16;
 /// Refusal 17: a pair of rivals or a price list not as described.
 pub const NO_SUCH_GAME: u8 = 17;
+/// Refusal 18: more than 16 sealed offers, or a field of the sealed auction out of bounds.
+pub const SEALED_OUT_OF_BOUNDS: u8 = 18;
+/// Refusal 19: a sealed offer's price above the ceiling.
+pub const ABOVE_THE_CEILING: u8 = 19;
 
 /// The one number of 64 bits that a C host gets: for a refusal, 2^64 less its number.
 pub fn host_number(answer: Answer) -> u64 {

@@ -6,6 +6,7 @@
 
 mod cancellations;
 mod closings;
+mod compared;
 mod curves;
 mod cut;
 mod features;
@@ -14,6 +15,7 @@ mod lodgings;
 mod orders;
 mod participation;
 mod remainders;
+mod sealed;
 mod searches;
 
 use crate::parts::in_parts;
@@ -22,15 +24,17 @@ use crate::settling::Settlement;
 use crate::shuffling::Order;
 pub use cancellations::{Cancellations, CANCELLATIONS};
 pub use closings::Closings;
+pub use compared::{Compared, Kind};
 pub use curves::{Redrawn, CURVES, LONGEST_CURVE};
 use cut::Cut;
 pub use features::Features;
-pub use games::{Asked, GAMES, REFUSED};
+pub use games::{Asked, QUESTIONS};
 pub use lodgings::{Lodgings, LODGINGS};
 use orders::Orders;
 pub use orders::PASSAGES;
 pub use participation::{Participation, PARTICIPATION};
 pub use remainders::Remainders;
+pub use sealed::{Opened, SEALED};
 use searches::SEARCHES;
 use std::collections::BTreeMap;
 use std::fmt::Write;

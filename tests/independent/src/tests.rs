@@ -15,6 +15,7 @@ mod participation;
 mod properties;
 mod rounds;
 mod sample;
+mod sealed;
 mod searching;
 mod settling;
 mod shares;

@@ -1,7 +1,7 @@
 //! Times the engine through its C interface beside the independent implementation.
 //! Two lines a record: with a buffer of exactly the replies' length and with an ample one, as
-//! most hosts lend it. One line a game, which has a buffer of one byte. Each has the best of several
-//! runs of either, and their ratio.
+//! most hosts lend it. One line a game, which has a buffer of one byte, and one a sealed auction, with
+//! room for its awards. Each has the best of several runs of either, and their ratio.
 
 #[path = "../engine.rs"]
 mod engine;
@@ -11,11 +11,12 @@ use independent::games::stated;
 use independent::records::{easy_book, hard_book, largest_book, long_record, LARGEST_BOOKS};
 use independent::replay::{replay, replay_into};
 use independent::sample;
+use independent::sealed::{sealed_auction, Offer, Sealed};
 use std::hint::black_box;
 use std::time::{Duration, Instant};
 
 /// A call with a lent buffer: the engine's or the independent implementation's.
-type Call<'a> = &'a dyn Fn(&mut [u8]) -> u64;
+type Call<'a, T = u8> = &'a dyn Fn(&mut [T]) -> u64;
 
 const RUNS: usize = 25;
 
@@ -33,6 +34,7 @@ fn main() {
     compare("65,536 choices, lows nearly cover", &easy_book(), 1);
     compare("65,536 choices, largest projects last", &hard_book(), 1);
     compare_game("game of 10 prices, 100 times", 100);
+    compare_sealed("sealed auction of 16 offers, 10,000 times", 10_000);
 }
 
 /// Times so many replays of the record into either buffer.
@@ -65,15 +67,36 @@ fn compare_game(name: &str, times: usize) {
     print_best(name, "1 byte", calls, &mut [0], times);
 }
 
+/// Times so many sealed auctions of 16 offers that stand in the list from the last turn to the first.
+fn compare_sealed(name: &str, times: usize) {
+    let offers: [Offer; 16] = std::array::from_fn(|place| Offer {
+        price: 1_000 - place as u64,
+        quantity: 100,
+        minimum: 50,
+        age: place as u64 / 4,
+    });
+    let auction = Sealed::new(1_000, 1_230, &offers);
+    let calls: [Call<u64>; 2] = [
+        &|lent| engine::sealed_auction(black_box(&auction), lent),
+        &|lent| sealed_auction(black_box(&auction), lent),
+    ];
+    let [engine, independent] = calls.map(|call| {
+        let mut awards = [0; 16];
+        (call(&mut awards), awards)
+    });
+    assert_eq!(engine, independent, "{name}: the answers differ");
+    print_best(name, "16", calls, &mut [0; 16], times);
+}
+
 /// Prints the line of the engine's call and the independent implementation's.
-fn print_best(name: &str, buffer: &str, calls: [Call; 2], lent: &mut [u8], times: usize) {
+fn print_best<T>(name: &str, buffer: &str, calls: [Call<T>; 2], lent: &mut [T], times: usize) {
     let [engine, independent] = best(calls, lent, times);
     let ratio = engine.as_secs_f64() / independent.as_secs_f64();
     println!("{name} | {buffer} | {engine:.2?} | {independent:.2?} | {ratio:.3}");
 }
 
 /// The best time of each. They take turns, so that other work on the machine meets both.
-fn best(calls: [Call; 2], lent: &mut [u8], times: usize) -> [Duration; 2] {
+fn best<T>(calls: [Call<T>; 2], lent: &mut [T], times: usize) -> [Duration; 2] {
     let mut best = [Duration::MAX; 2];
     for _ in 0..RUNS {
         for (best, call) in best.iter_mut().zip(calls) {
@@ -83,7 +106,7 @@ fn best(calls: [Call; 2], lent: &mut [u8], times: usize) -> [Duration; 2] {
     best
 }
 
-fn time(call: Call, lent: &mut [u8], times: usize) -> Duration {
+fn time<T>(call: Call<T>, lent: &mut [T], times: usize) -> Duration {
     let start = Instant::now();
     for _ in 0..times {
         black_box(call(black_box(lent)));

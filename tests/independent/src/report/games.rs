@@ -1,5 +1,6 @@
 //! What games and refused questions show (document 02, request 11).
 
+use super::compared::Kind;
 use super::features::Feature;
 use crate::auction::{Auction, Developer, Phase, EXISTING, NEW};
 use crate::forcing::{Forced, Game, Move, MOST_PRICES};
@@ -15,8 +16,11 @@ pub struct Asked {
     game: Result<(Game, Forced), u8>,
 }
 
+pub const QUESTIONS: &[Kind<Asked>] =
+    &[("games", |_| true, GAMES), ("refusals", |_| true, REFUSED)];
+
 /// What an answered question shows.
-pub const GAMES: &[Feature<Asked>] = &[
+const GAMES: &[Feature<Asked>] = &[
     ("answered", Asked::answered),
     ("1 price", |asked| asked.has_prices(1)),
     ("2", |asked| asked.has_prices(2)),
@@ -106,7 +110,7 @@ pub const GAMES: &[Feature<Asked>] = &[
 ];
 
 /// What a refused question shows; the causes of 17 each alone.
-pub const REFUSED: &[Feature<Asked>] = &[
+const REFUSED: &[Feature<Asked>] = &[
     ("refused", |asked| !asked.answered()),
     ("2 fresh", |asked| {
         asked.out_of_phase(|phase| *phase == Phase::Fresh)
