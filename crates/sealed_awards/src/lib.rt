@@ -17,7 +17,7 @@ pub fn share(
     demand: u64,
     quantities: &[u64],
     minimums: &[u64],
-    turns: [usize; 16],
+    turns: [usize; 32],
     count: usize,
 ) -> Shared
     requires { ⌜ (count ≤ 16) × (length (now quantities) ≡ count) × (length (now minimums) ≡ count) × Each (λ k. k < count) (take count turns) ⌝ }

@@ -15,7 +15,7 @@ returns c = cleared-refused _ _ _ _ (c .before .sealed-number .ensures) (c .if1 
 turns-requires : tie.Need-turns-requires
 turns-requires c κs =
     let a = accepted _ _ _ (sym (c .before .sealed-number .ensures) ∙ c .if1 .left) in
-    (a .few, a .ages, a .prices-low, a .ages-low)
+    record { few = a .few; long = a .ages; prices = a .prices-low; ages = a .ages-low }
 
 share-requires : tie.Need-share-requires
 share-requires c κs =

@@ -24,7 +24,7 @@ abbrev turn : tie.After-award Inv-loop μ-loop → tie.In-loop Inv-loop μ-loop
 turn c = c .before .before .before
 
 many : (c : tie.Start Inv-loop μ-loop) → length (take (c .args .count) (c .args .t4)) ≡ c .args .count
-many c = let e : length (c .args .t4) ≡ 16 = search needs in length-take-le _ _ (omega (arith, c .pre .0))
+many c = let e : length (c .args .t4) ≡ 32 = search needs in length-take-le _ _ (omega (arith, c .pre .0))
 
 -- the place whose turn it is
 same :
