@@ -6,7 +6,7 @@ use lib.ListN.{length}
 use Rattle.rules.specs.Ledger.{Ledger}
 use Rattle.record_forcing.specs.Chosen.{toldNumber, toldOutcome, Tells}
 use Rattle.record_forcing.specs.declared.Told.{Told}
-use Rattle.host.specs.Host.{answerOf, hostNumber}
+use Rattle.host_numbers.specs.HostNumbers.{answerOf, hostNumber}
 
 -- of the auction with this ledger, for a buffer of so many bytes
 unfoldable pub hostForcing : Ledger → ℕ → ℕ → List ℕ → ℕ → ℕ

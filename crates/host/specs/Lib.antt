@@ -1,4 +1,3 @@
-pub mod Host
 pub mod Lodging
 pub mod Forcing
 pub mod Sealing

@@ -9,7 +9,7 @@ use Rattle.replies.specs.Orders.{Order}
 use Rattle.replies.specs.WrittenOrders.{writableOrder, frameOfOrder}
 use Rattle.frame_writing.specs.declared.Written.{Written}
 use Rattle.writing.specs.Writes.{Writes}
-use Rattle.host.specs.Host.{answerOf, hostNumber}
+use Rattle.host_numbers.specs.HostNumbers.{answerOf, hostNumber}
 
 -- the number for an order and a buffer
 unfoldable pub hostBytes : Order → List ℕ → ℕ

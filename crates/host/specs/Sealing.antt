@@ -6,7 +6,7 @@ use lib.ListN.{length}
 use Rattle.sealed.specs.Sealed.{Book, lentNumber, lentLeft}
 use Rattle.sealed_auction.specs.Cleared.{Lends}
 use Rattle.sealed_auction.specs.declared.Lent.{Lent}
-use Rattle.host.specs.Host.{hostNumber, answerOf}
+use Rattle.host_numbers.specs.HostNumbers.{hostNumber, answerOf}
 
 unfoldable pub hostSealed : ℕ → ℕ → Book → ℕ → ℕ
 hostSealed ceiling demand b room = hostNumber (answerOf (lentNumber ceiling demand b room) (lentLeft ceiling demand b room))

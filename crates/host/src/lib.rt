@@ -10,36 +10,19 @@ ghost use Rattle.record_calls.specs.Calls.{callsIn};
 ghost use Rattle.record_replay.specs.Replayed.{hosted, over};
 ghost use Rattle.record_forcing.specs.Chosen.{chosenIn};
 ghost use Rattle.writing.specs.Writes.{registration, registrationFor};
-ghost use Rattle.host.specs.Host.{answerOf, hostNumber, hostRemainder};
+ghost use Rattle.host_numbers.specs.HostNumbers.{hostNumber, hostRemainder};
 ghost use Rattle.sealed.specs.Sealed.{bookOf, lentAwards};
 ghost use Rattle.host.specs.Forcing.{hostForcing};
 ghost use Rattle.host.specs.Sealing.{hostSealed};
 ghost use Rattle.host.specs.Lodging.{answer, HostWrites};
-use demand::Demanded;
 use frame_writing::Written;
-
-// What C gets for refusal 1.
-const REFUSAL_1: u64 = 0xffff_ffff_ffff_ffff;
-
-// What C gets of an answer: the value, or 2^64 less the refusal's number.
-fn host_number(number: u8, value: u64) -> u64
-    ensures { λ r. ⌜ r ≡ hostNumber (answerOf number value) ⌝ }
-{
-    if number == 0 {
-        return value;
-    }
-    REFUSAL_1 - (number as u64 - 1)
-}
 
 // Dem(p), or 2^64 - 1 where the settings or p are beyond their bounds.
 #[no_mangle]
 pub extern "C" fn demand(ce: u64, d: u64, m1: u64, m2: u64, p: u64) -> u64
     ensures { λ r. ⌜ r ≡ hostNumber (demandAnswer ce d m1 m2 p) ⌝ }
 {
-    match demand::demand(ce, d, m1, m2, p) {
-        Demanded::Quantity(q, _) => q,
-        Demanded::OutOfBounds => REFUSAL_1,
-    }
+    host_numbers::demand_number(ce, d, m1, m2, p)
 }
 
 // The remainder of Dem(p) (document 02, 4), or 2^64 - 1 likewise.
@@ -47,10 +30,7 @@ pub extern "C" fn demand(ce: u64, d: u64, m1: u64, m2: u64, p: u64) -> u64
 pub extern "C" fn demand_remainder(ce: u64, d: u64, m1: u64, m2: u64, p: u64) -> u64
     ensures { λ r. ⌜ r ≡ hostRemainder (demandAnswer ce d m1 m2 p) ⌝ }
 {
-    match demand::demand(ce, d, m1, m2, p) {
-        Demanded::Quantity(_, r) => r as u64,
-        Demanded::OutOfBounds => REFUSAL_1,
-    }
+    host_numbers::remainder_number(ce, d, m1, m2, p)
 }
 
 // Replays a record: the bytes written, or 2^64 - 11 where the replies do not fit.
@@ -76,7 +56,7 @@ pub extern "C" fn who_can_force(
     ensures { λ _. ⌜ now (chosen .exit) ≡ chosenIn (ledger (callsIn (now (src .entry)))) first second (now (prices .entry)) (now (chosen .entry)) ⌝ }
 {
     let told = record_forcing::who_can_force(src, first, second, prices, chosen);
-    host_number(told.number, told.outcome as u64)
+    host_numbers::host_number(told.number, told.outcome as u64)
 }
 
 // The sealed auction for long builds (document 02, 13): what is left, and the award of each offer from the buffer's start.
@@ -102,7 +82,7 @@ pub extern "C" fn sealed_auction(
         ages,
         awards,
     );
-    host_number(lent.number, lent.left)
+    host_numbers::host_number(lent.number, lent.left)
 }
 
 // ---- frames written (document 02, 2)
@@ -111,7 +91,7 @@ pub extern "C" fn sealed_auction(
 fn host_bytes(written: Written) -> u64
     ensures { λ r. ⌜ r ≡ hostNumber (answer written) ⌝ }
 {
-    host_number(written.number, written.bytes as u64)
+    host_numbers::host_number(written.number, written.bytes as u64)
 }
 
 // 01 set-up.

@@ -2,9 +2,9 @@
 use native.Mathlib.Omega.{arith}
 use borrow.Author.Needs.{needs}
 use borrow.Author.Tests.{eq-eqb, ne-eqb}
-use Rattle.host.specs.Host.{hostNumber}
-use Rattle.host.proofs.host_number.Statement.{statement}
-use Rattle.host.proofs.host_number.Tie as tie
+use Rattle.host_numbers.specs.HostNumbers.{hostNumber}
+use Rattle.host_numbers.proofs.host_number.Statement.{statement}
+use Rattle.host_numbers.proofs.host_number.Tie as tie
 
 returns : tie.Need-returns
 unfolding hostNumber

@@ -1,10 +1,10 @@
--- `demand_remainder` hands on the remainder, or 2^64 - 1 for refusal 1: each case of the enum, by its number and remainder.
+-- `remainder_number` hands on the remainder, or 2^64 - 1 for refusal 1: each case of the enum, by its number and remainder.
 use mathlib.Core.Path.{sym, ap, _∙_}
 use Rattle.demand.specs.Answers.{answerOf}
-use Rattle.host.specs.Host.{hostRemainder}
+use Rattle.host_numbers.specs.HostNumbers.{hostRemainder}
 use borrow.Author.Needs.{needs}
-use Rattle.host.proofs.demand_remainder.Statement.{statement}
-use Rattle.host.proofs.demand_remainder.Tie as tie
+use Rattle.host_numbers.proofs.remainder_number.Statement.{statement}
+use Rattle.host_numbers.proofs.remainder_number.Tie as tie
 
 demand-requires : tie.Need-demand-requires
 demand-requires c κs = search needs
@@ -26,5 +26,5 @@ returns-2 : tie.Need-returns-2
 unfolding hostRemainder
 returns-2 c = ap (λ x. hostRemainder (answerOf x)) (sym (c .enum-told .given .1)) ∙ ap hostRemainder (c .before .before .demand .ensures)
 
-pub demand-remainder-spec : {M : Type 1} → statement M
-demand-remainder-spec = tie.close (tie.spec demand-requires enum-known-r cast-result enum-told returns returns-2)
+pub remainder-number-spec : {M : Type 1} → statement M
+remainder-number-spec = tie.close (tie.spec demand-requires enum-known-r cast-result enum-told returns returns-2)

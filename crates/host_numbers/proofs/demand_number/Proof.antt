@@ -1,10 +1,10 @@
--- `demand` hands on the quantity, or 2^64 - 1 for refusal 1: each case of the enum, by its number and value.
+-- `demand_number` hands on the quantity, or 2^64 - 1 for refusal 1: each case of the enum, by its number and value.
 use mathlib.Core.Path.{sym, ap, _∙_}
 use Rattle.demand.specs.Answers.{answerOf}
-use Rattle.host.specs.Host.{hostNumber}
+use Rattle.host_numbers.specs.HostNumbers.{hostNumber}
 use borrow.Author.Needs.{needs}
-use Rattle.host.proofs.demand.Statement.{statement}
-use Rattle.host.proofs.demand.Tie as tie
+use Rattle.host_numbers.proofs.demand_number.Statement.{statement}
+use Rattle.host_numbers.proofs.demand_number.Tie as tie
 
 demand-requires : tie.Need-demand-requires
 demand-requires c κs = search needs
@@ -23,5 +23,5 @@ returns-2 : tie.Need-returns-2
 unfolding hostNumber
 returns-2 c = ap (λ x. hostNumber (answerOf x)) (sym (c .enum-told .given .1)) ∙ ap hostNumber (c .before .before .demand .ensures)
 
-pub demand-spec : {M : Type 1} → statement M
-demand-spec = tie.close (tie.spec demand-requires enum-known-q enum-told returns returns-2)
+pub demand-number-spec : {M : Type 1} → statement M
+demand-number-spec = tie.close (tie.spec demand-requires enum-known-q enum-told returns returns-2)
