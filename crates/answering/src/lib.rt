@@ -1,5 +1,4 @@
 // The next auction and the reply to a frame: a closing, a settling, a malformed line, and any frame by its kind.
-ghost use mathlib.Core.Path.{_≡_};
 ghost use lib.ListN.{getD};
 ghost use Rattle.replies.specs.Orders.{Malformed, Asks, Settle, ordered};
 ghost use Rattle.rules.specs.Ledger.{Close};

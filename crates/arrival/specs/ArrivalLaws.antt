@@ -1,20 +1,20 @@
 -- Calls of different developers in whichever order they arrive (document 02, 12): one ledger, and the same answer to each call.
 use Prim.Native.Nat.{ℕ}
 use mathlib.Core.Path.{_≡_, refl, sym, ap, _∙_}
-use mathlib.Core.Bool.{Bool, true, false, false≢true}
+use mathlib.Core.Bool.{true, false, false≢true}
 use mathlib.Core.List.{List, [], _∷_}
 use native.Mathlib.Decide.{ℕ-discrete as decEq}
 use lib.Dec.{eqb}
 use borrow.Author.Tests.{eqb-true, eq-eqb}
 use Rattle.rules.specs.Ledger.{Move, Call, SetUp, Register, Open, By, Close, Developer, Ledger, withDeveloper}
 use Rattle.rules.specs.Refusals.{number}
-use Rattle.rules.specs.Rounds.{moved, accepted, step, stepAll, Answered, answer}
+use Rattle.rules.specs.Rounds.{moved, accepted, step, stepAll, answer}
 use Rattle.reachable.specs.Steps.{step-refused, step-accepted, by-step}
 use Rattle.cancelling.specs.TakenBack.{own}
 use Rattle.cancelling.specs.Entries.{apart, same-number, move-beside}
 use Rattle.exchanges.specs.Exchanges.{Exchanged}
 use Rattle.exchanges.specs.ExchangeLaws.{exchanged, exchanged-same, exchanged-all}
-use Rattle.arrival.specs.Arrival.{isMove, Reordered, toldFrom, allAccepted, Alike}
+use Rattle.arrival.specs.Arrival.{isMove, Reordered, Alike}
 use Rattle.arrival.specs.Told.{ending, Free, exchanged-ending, exchanged-told}
 
 -- ---- two neighbours

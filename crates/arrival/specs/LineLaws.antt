@@ -1,20 +1,19 @@
 -- Lines of a record that ask calls of different developers, in whichever order (document 02, 12): the replies go along with the lines.
 use Prim.Native.Nat.{ℕ, _+_}
-use mathlib.Core.Path.{_≡_, refl, sym, ap, ap₂, _∙_}
-use mathlib.Core.Bool.{Bool, true, false, cond, false≢true}
+use mathlib.Core.Path.{_≡_, refl, sym, ap, _∙_}
+use mathlib.Core.Bool.{Bool, true, cond, false≢true}
 use mathlib.Core.List.{List, [], _∷_, _++_, map, flatten, append-assoc}
 use native.Mathlib.Omega.{arith}
 use lib.Dec.{eqb}
 use lib.ListN.{length, length-append}
 use Rattle.format.specs.Lines.{lines}
-use Rattle.rules.specs.Ledger.{Call, Ledger, start}
-use Rattle.rules.specs.Rounds.{step, Answered, answer}
-use Rattle.cancelling.specs.TakenBack.{own}
+use Rattle.rules.specs.Ledger.{Ledger, start}
+use Rattle.rules.specs.Rounds.{Answered}
 use Rattle.replies.specs.Orders.{Order, Malformed, Asks, Settle, orderIn}
 use Rattle.replies.specs.Replies.{callKind, closingText, answerLine, replyTo, ledgerAfter, repliesFrom, replies}
 use Rattle.exchanges.specs.Exchanges.{Exchanged, unchanged, neighbours, behind, further}
 use Rattle.exchanges.specs.ExchangeLaws.{exchanged, exchanged-same}
-use Rattle.arrival.specs.Arrival.{told, isMove, orderIsMove, orderOwn, lineOwn, ReorderedLines, repliedFrom, replied, RepliedAlike}
+use Rattle.arrival.specs.Arrival.{told, orderIsMove, orderOwn, lineOwn, ReorderedLines, repliedFrom, replied, RepliedAlike}
 use Rattle.arrival.specs.Told.{ending, told-append, Free, exchanged-ending, exchanged-told}
 use Rattle.arrival.specs.ArrivalLaws.{own-once, someones, calls-free}
 

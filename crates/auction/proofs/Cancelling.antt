@@ -1,13 +1,11 @@
 -- Taking back an offer (document 02, 7): its number by what the auction holds, and the withdrawals held alone.
 use Prim.Native.Nat.{ℕ, _-_, _≤_}
 use mathlib.Core.Path.{_≡_, refl, sym, ap, _∙_}
-use mathlib.Core.Logic.{⊎-elim}
 use mathlib.Core.Bool.{Bool, not}
 use mathlib.Core.List.{[]}
-use native.Mathlib.Omega.{arith}
 use lib.Dec.{eqb}
-use lib.ListN.{length, getD}
-use Rattle.rules.specs.Ledger.{none, Developer, Cancel, By, Ledger}
+use lib.ListN.{getD}
+use Rattle.rules.specs.Ledger.{none, Cancel, By, Ledger}
 use Rattle.rules.specs.Refusals.{check, moveNumber, number}
 use Rattle.rules.specs.CheckLaws.{of-kind-facts}
 use Rattle.rules.specs.Rounds.{moved, numberAlone}
@@ -19,13 +17,13 @@ use Rattle.history.specs.declared.History.{History}
 use Rattle.moves.specs.Numbers.{noHistory, cancelNumberBy}
 use Rattle.moves.specs.NumbersLaws.{first-checks, developer-passed}
 use Rattle.auction.specs.declared.Auction.{Auction}
-use Rattle.auction.specs.Holds.{heldCourse, auctionOf}
+use Rattle.auction.specs.Holds.{auctionOf}
 use Rattle.auction.specs.Called.{Called}
 use Rattle.auction.specs.Parts.{withHistory}
 use Rattle.auction.proofs.Calls.{Refused}
 use Rattle.auction.proofs.Phases.{round-is}
 use Rattle.auction.proofs.DeveloperHeld.{history-at, none-is, kind-is, none-lodged}
-use Rattle.auction.proofs.Moving.{Moves, move-refused, move-taken}
+use Rattle.auction.proofs.Moving.{move-refused, move-taken}
 
 module _ (n : ℕ) (a : Auction) where
   -- the number by what the auction holds

@@ -11,7 +11,7 @@ use Rattle.rules.specs.Ledger.{Close, Round, Between, Closed, Ledger, withDevel
 use Rattle.curve.specs.Demand.{InBounds, InRange}
 use Rattle.rules.specs.Clearing.{ofEach, demandAt, remainderAt}
 use Rattle.rules.specs.Refusals.{isFresh, inRound, floor, number}
-use Rattle.rules.specs.Rounds.{applied, supplyAfter, clears, phaseAfter, accepted, excess, Answered, granted}
+use Rattle.rules.specs.Rounds.{applied, supplyAfter, clears, phaseAfter, accepted, excess, granted}
 use Rattle.sound.specs.Sound.{started, Sound}
 use Rattle.reachable.specs.Held.{in-round}
 use Rattle.rules.specs.CheckLaws.{in-settings}

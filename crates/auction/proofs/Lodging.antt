@@ -26,7 +26,7 @@ use Rattle.auction.specs.Holds.{heldCourse, auctionOf}
 use Rattle.auction.specs.Called.{Called}
 use Rattle.auction.specs.Parts.{withHistory}
 use Rattle.auction.proofs.Calls.{Refused}
-use Rattle.auction.proofs.Moving.{Moves, move-refused, move-taken}
+use Rattle.auction.proofs.Moving.{move-refused, move-taken}
 use Rattle.auction.proofs.Phases.{ready-is}
 use Rattle.auction.proofs.DeveloperHeld.{steps-is, kind-is}
 

@@ -7,12 +7,11 @@ use mathlib.Core.List.{List, [], map}
 use native.Mathlib.Omega.{arith}
 use lib.Dec.{eqb}
 use lib.ListN.{length, getD, set}
-use borrow.Author.Tests.{eq-eqb, ne-eqb}
 use Rattle.numbers.specs.Cases.{and-true}
 use Rattle.numbers.specs.Lists.{oneTo}
 use Rattle.rules.specs.Ledger.{Declaration, Named, Call, Developer, Ledger, nobody, put, newcomer}
 use Rattle.rules.specs.Clearing.{ofEach}
-use Rattle.rules.specs.Refusals.{isNumber, numbersOk, isKind, levelsOk, declarationOk, check, number}
+use Rattle.rules.specs.Refusals.{isNumber, numbersOk, declarationOk, check, number}
 use Rattle.rules.specs.CheckLaws.{is-number}
 use Rattle.rules.specs.Rounds.{accepted, step, Answered, numberAlone, granted, answer}
 use Rattle.sound.specs.Sound.{started, Sound}
@@ -24,7 +23,6 @@ use Rattle.reachable.specs.Checks.{RegisterPassed, register-passed, Numbers, nu
 use Rattle.kept_curve.specs.Held.{heldCurve}
 use Rattle.levels.specs.declared.Levels.{Levels}
 use Rattle.levels.specs.Held.{heldLevels, Copied, Highest}
-use Rattle.supply.specs.ByProject.{joins}
 use Rattle.supply.specs.ByProjectLaws.{joins-of}
 use Rattle.auction.specs.declared.Auction.{Auction}
 use Rattle.auction.specs.Holds.{heldCourse, auctionOf, Holding}

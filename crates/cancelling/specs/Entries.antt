@@ -9,7 +9,7 @@ use borrow.Author.Tests.{eqb-true, eq-eqb}
 use Rattle.numbers.specs.Cases.{not-true, clash}
 use Rattle.rules.specs.Ledger.{Move, Offer, Lodge, Cancel, agentFor, Call, SetUp, Register, Open, By, Close, Developer, Phase, Round, Ledger, put, withDevelopers, withDeveloper}
 use Rattle.rules.specs.Refusals.{isFresh, isReady, mayOpen, inRound, settingsOk, isNumber, numbersOk, declarationOk, closingOk, startCovered, check, moveNumber, number}
-use Rattle.rules.specs.Rounds.{moved, accepted, step, Answered, numberAlone, granted, answer}
+use Rattle.rules.specs.Rounds.{moved, accepted, step, numberAlone, granted, answer}
 use Rattle.reachable.specs.Steps.{step-refused, answer-refused, by-step}
 use Rattle.reachable.specs.Held.{in-round}
 use Rattle.cancelling.specs.TakenBack.{own}

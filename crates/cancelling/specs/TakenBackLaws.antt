@@ -6,15 +6,14 @@ use mathlib.Core.Bool.{Bool, true, false, cond, not}
 use mathlib.Core.List.{List, [], _∷_, _++_}
 use lib.Dec.{eqb}
 use borrow.Author.Tests.{eq-eqb}
-use Rattle.numbers.specs.Cases.{not-true, clash}
+use Rattle.numbers.specs.Cases.{clash}
 use Rattle.numbers.specs.Lists.{keep}
-use Rattle.rules.specs.Ledger.{Step, Move, Offer, Cancel, agentFor, Call, SetUp, Register, Open, By, Close, Standing, none, made, Developer, Ledger, put, withDevelopers, withDeveloper, withOffer, newcomer}
-use Rattle.rules.specs.Refusals.{inRound, isNone, moveNumber, number}
+use Rattle.rules.specs.Ledger.{Move, Offer, Cancel, agentFor, Call, SetUp, Register, Open, By, Close, Standing, none, made, Developer, Ledger, withDevelopers, withDeveloper, withOffer, newcomer}
+use Rattle.rules.specs.Refusals.{inRound, isNone, number}
 use Rattle.rules.specs.Rounds.{steps, applied, moved, accepted, step, stepAll, ledger, Answered, answer, answersFrom}
 use Rattle.reachable.specs.Checks.{offer-passed, cancel-passed}
 use Rattle.reachable.specs.Steps.{step-refused, step-accepted, by-step, step-all-append, ledger-append}
-use Rattle.reachable.specs.Held.{by-put}
-use Rattle.cancelling.specs.TakenBack.{own, others, answersToOthers, OwnRefused, passage, TakenBack, taken, neverMade, AsIfNeverMade}
+use Rattle.cancelling.specs.TakenBack.{own, others, answersToOthers, OwnRefused, passage, TakenBack, AsIfNeverMade}
 use Rattle.cancelling.specs.Entries.{apart, put-at, put-beside, put-back, Aside, aside}
 
 -- ---- no closing between

@@ -69,7 +69,3 @@ puts-more name o xs a i p h g =
 pub puts-laid : {t o xs : List ℕ} {m b : ℕ} → Puts t m o xs 0 b → xs ≡ laid t o
 unfolding laid
 puts-laid {t} {o} {xs} {m} {b} p = p .holds ∙ ap (λ (k : ℕ). t ++ drop k o) (p .next ∙ zero-add (length t))
-
-pub laid-puts : (t o xs : List ℕ) (m b : ℕ) → xs ≡ laid t o → b ≡ length t → length t ≤ m → b ≤ length o → Puts t m o xs 0 b
-unfolding laid
-laid-puts t o xs m b e d h g = record { holds = e ∙ ap (λ (k : ℕ). t ++ drop k o) (sym d); next = d ∙ sym (zero-add (length t)); short = h; inside = g }

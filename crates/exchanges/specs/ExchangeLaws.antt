@@ -1,5 +1,5 @@
 -- Lists that hold the same of each, in the same order, are made from one another by exchanging neighbours that are not the same one's.
-use mathlib.Core.Path.{_≡_, refl, sym, ap, ap₂, subst, _∙_}
+use mathlib.Core.Path.{_≡_, refl, sym, ap, subst, _∙_}
 use mathlib.Core.Bool.{Bool, true, false, cond, _&&_, true≢false}
 use mathlib.Core.List.{List, [], _∷_}
 use Rattle.numbers.specs.Cases.{and-true, clash}

@@ -10,7 +10,7 @@ use lib.Seq.{getD-take}
 use Rattle.numbers.specs.Cases.{le-or-lt, not-true}
 use Rattle.numbers.specs.Lists.{total}
 use Rattle.format.specs.HexLaws.{power-pos}
-use Rattle.format.specs.Fields.{RawCall, listed, fixed, each, count, repeats, layout}
+use Rattle.format.specs.Fields.{RawCall, listed, fixed, count, repeats, layout}
 use Rattle.format.specs.FieldLaws.{total-layout, length-layout, layout-at}
 use Rattle.format.specs.Written.{widthsOf, lineOf, frameOf, fit, writable}
 use Rattle.format.specs.WrittenLaws.{Writable, is-writable, writable-test, fitting, length-line, length-frame}

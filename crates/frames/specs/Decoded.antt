@@ -34,8 +34,5 @@ module _ (f : Frame) where
 
   -- what the frame of a line says of the line
   module _ (l : List ℕ) (e : callIn f ≡ read l) where
-    pub read-none : f .kind ≡ 0 → read l ≡ none
-    read-none z = sym e ∙ call-none z
-
     pub read-some : (f .kind ≡ 0 → ⊥) → (read l ≡ some (heldFrame f)) × Formed (heldFrame f)
     read-some h = let r : read l ≡ some (heldFrame f) = sym e ∙ call-some h in (r, formed l (heldFrame f) r)

@@ -2,7 +2,7 @@
 use Prim.Native.Nat.{ℕ, zero, suc, _+_, _*_, max, _≤_, zero-le, suc-le-suc}
 use mathlib.Core.Path.{_≡_, refl, sym, ap, _∙_, subst}
 use mathlib.Core.Logic.{_⊎_, inl, inr, ⊎-elim, _↔_}
-use mathlib.Core.Bool.{Bool, true, false, cond, false≢true}
+use mathlib.Core.Bool.{Bool, true, false, cond, _&&_, false≢true}
 use mathlib.Core.List.{List, [], _∷_, _++_, map, List·Memᴰ, List·Memᴰ·head, List·Memᴰ·tail, List·Memᴰ·not-nil, List·Memᴰ·cases-cons}
 use native.Mathlib.Omega.{arith}
 use native.Mathlib.Nat.{suc-mul}
@@ -92,6 +92,11 @@ module _ {A : Type 0} where
   unfolding all
   all-true t [] e x m = absurd (List·Memᴰ·not-nil m)
   all-true t (y ∷ ys) e x m = let b = and-true (t y) (all t ys) e in ⊎-elim (λ d. ap t d ∙ b .0) (λ k. all-true t ys (b .1) x k) (List·Memᴰ·cases-cons m)
+
+  pub all-map : {B : Type 0} (t : B → Bool) (f : A → B) (xs : List A) → all t (map f xs) ≡ all (λ x. t (f x)) xs
+  unfolding all
+  all-map t f [] = refl
+  all-map t f (x ∷ xs) = ap (λ (b : Bool). t (f x) && b) (all-map t f xs)
 
   -- ---- map
 

@@ -4,18 +4,18 @@ use Prim.Native.Nat.{ℕ}
 use mathlib.Core.Path.{_≡_, refl, sym, ap, subst, _∙_}
 use mathlib.Core.Logic.{inr, ⊎-elim}
 use mathlib.Core.Bool.{true, false}
-use mathlib.Core.List.{List, []}
+use mathlib.Core.List.{List}
 use native.Mathlib.Omega.{arith}
-use Rattle.rules.specs.Ledger.{Declaration, Step, Move, Offer, Lodge, Cancel, By, Standing, none, made, Developer, Phase, Ready, Round, Ledger, put, withDeveloper, withOffer, withLodged}
+use Rattle.rules.specs.Ledger.{Declaration, Move, Offer, Lodge, Cancel, By, Standing, none, made, Developer, Phase, Ready, Ledger, put, withDeveloper, withOffer, withLodged}
 use Rattle.rules.specs.Clearing.{highest, high}
-use Rattle.rules.specs.Refusals.{isFresh, inRound, isOfKind, floor, lowering, moveNumber}
+use Rattle.rules.specs.Refusals.{isFresh, inRound, isOfKind, floor, moveNumber}
 use Rattle.rules.specs.Rounds.{steps, lastLevel, moved, accepted}
-use Rattle.sound.specs.Sound.{started, appliedTo, SoundDeveloper, SoundOffer, SoundLodged, Stands, Registered, Sound}
+use Rattle.sound.specs.Sound.{started, appliedTo, SoundOffer, SoundLodged, Stands, Registered, Sound}
 use Rattle.sound.specs.StepLaws.{steps-prices, steps-levels, steps-length}
 use Rattle.reachable.specs.Checks.{OfferPassed, offer-passed, LodgePassed, lodge-passed, CancelPassed, cancel-passed, of-kind-facts, prices-facts}
 use Rattle.reachable.specs.Supplies.{covered-same}
 use Rattle.numbers.specs.Cases.{clash}
-use Rattle.reachable.specs.Held.{is-ready, in-round, Kept, by-put, developer-with, lodged-with, offer-with, kept-with, sound-with}
+use Rattle.reachable.specs.Held.{is-ready, in-round, Kept, by-put, developer-with, lodged-with, kept-with, sound-with}
 
 -- ---- any move: y in the place of developer n's entry
 

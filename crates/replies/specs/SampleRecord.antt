@@ -23,7 +23,7 @@ use Rattle.format.specs.Fields.{known, fixed, each, count, layout, fieldsAt, te
 use Rattle.format.specs.Lines.{onFirst, lines}
 use Rattle.format.specs.Written.{widthsOf, lineOf, frameOf}
 use Rattle.format.specs.Example.{codes}
-use Rattle.replies.specs.Orders.{Order, Asks, Settle, firsts, seconds, orderOf, ordered, orderIn}
+use Rattle.replies.specs.Orders.{Asks, Settle, firsts, seconds, orderOf, ordered, orderIn}
 use Rattle.replies.specs.WrittenOrders.{paired, rawOf, frameOfOrder}
 use Rattle.replies.specs.Replies.{closingText, settlingText, answerLine, replyTo, ledgerAfter, repliesFrom, replies}
 

@@ -8,7 +8,6 @@ use lib.ListN.{length, take, getD, length-append, length-drop}
 use lib.Seq.{take-suc, length-take-le}
 use borrow.Rule.Slice.PartMut.{putMid, midOf}
 use Rattle.format.specs.Hex.{digits}
-use Rattle.format.specs.HexLaws.{length-digits}
 use Rattle.numbers.specs.Tails.{laid, grow, length-laid, tail-is}
 use Rattle.replies.specs.Replies.{recordDigits}
 use Rattle.replies.specs.Lengths.{bytes-append, bytes-length}

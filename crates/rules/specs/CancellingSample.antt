@@ -1,6 +1,5 @@
 -- An auction with cancellations (document 02, 7), computed: each refusal in its order, an offer made again, one of no steps cancelled, one missing
 -- after its cancellation, and one that a closing has applied.
-use Prim.Native.Nat.{ℕ}
 use mathlib.Core.Path.{_≡_, refl}
 use mathlib.Core.List.{List, [], _∷_, map}
 use Rattle.numbers.specs.Lists.{oneTo, keep, total, greatest, lastOr, any, all}

@@ -1,8 +1,8 @@
 -- Sealed auctions, computed (document 02, 13): a book with a tie, an offer that gets nothing with a later one that gets something, one that gets
 -- what is left; and each refusal, 18 before 19 before 11.
-use Prim.Native.Nat.{ℕ, suc}
+use Prim.Native.Nat.{ℕ}
 use mathlib.Core.Path.{_≡_, refl}
-use mathlib.Core.List.{List, [], _∷_, map}
+use mathlib.Core.List.{[], _∷_, map}
 use lib.ListN.{replicate}
 use Rattle.numbers.specs.Lists.{all}
 use Rattle.numbers.specs.Tails.{laid}

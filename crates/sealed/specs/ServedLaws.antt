@@ -1,8 +1,8 @@
 -- The turns hold each place once, and the awards entered in turn are the awards in list order, with zeros behind them.
-use Prim.Native.Nat.{ℕ, zero, suc, _+_, _-_, _≤_, _<_}
+use Prim.Native.Nat.{ℕ, _+_, _-_, _≤_, _<_}
 use mathlib.Core.Path.{_≡_, refl, sym, ap, _∙_}
 use mathlib.Core.Logic.{⊎-elim}
-use mathlib.Core.List.{List, [], _∷_, map, List·Memᴰ, List·Memᴰ·head, List·Memᴰ·tail, List·Memᴰ·not-nil, List·Memᴰ·cases-cons}
+use mathlib.Core.List.{List, [], _∷_, List·Memᴰ, List·Memᴰ·head, List·Memᴰ·tail, List·Memᴰ·not-nil, List·Memᴰ·cases-cons}
 use native.Mathlib.Omega.{arith}
 use native.Mathlib.Nat.{zero-add}
 use lib.ListN.{length, getD, set, replicate, length-append, length-map, length-set, length-replicate, getD-replicate, List·getD-append}
@@ -11,35 +11,12 @@ use borrow.Author.Tests.{eq-eqb, ne-eqb}
 use Rattle.numbers.specs.Cases.{le-or-lt}
 use Rattle.numbers.specs.Lists.{padded}
 use Rattle.numbers.specs.ListLaws.{Each}
-use Rattle.choices.specs.Falling.{AnyOrder, falling-any, each-any, length-any}
-use Rattle.choices.specs.Pairwise.{Pairwise, Distinct, StrictlyRising, pairwise-weaken}
-use Rattle.placing.specs.Numbers.{numbersFrom, in-numbers, numbers-in}
+use Rattle.choices.specs.Falling.{AnyOrder, falling-any, each-any}
+use Rattle.choices.specs.Pairwise.{Pairwise, Distinct, pairwise-weaken}
+use Rattle.placing.specs.Numbers.{in-numbers, numbers-in, numbers-long, numbers-rise, map-numbers-nth}
 use Rattle.sealed.specs.Sealed.{Offer, Book, size, offerAt, places, precedence, turns, awarded, leftBefore, leftAtTurn, awardAt, awards}
 use Rattle.sealed.specs.Served.{served}
 use Rattle.sealed.specs.Sorting.{Ahead, falling-order}
-
--- ---- the places
-
-numbers-long : (k n : ℕ) → length (numbersFrom k n) ≡ n
-unfolding numbersFrom
-numbers-long k zero = refl
-numbers-long k (suc n) = ap suc (numbers-long (suc k) n)
-
-numbers-from : (j k n : ℕ) → List·Memᴰ j (numbersFrom k n) → k ≤ j
-unfolding numbersFrom
-numbers-from j k zero m = absurd (List·Memᴰ·not-nil m)
-numbers-from j k (suc n) m = ⊎-elim (λ e. omega arith) (λ h. omega (arith, numbers-from j (suc k) n h)) (List·Memᴰ·cases-cons m)
-
-numbers-rise : (k n : ℕ) → StrictlyRising (numbersFrom k n)
-unfolding numbersFrom
-numbers-rise k zero = tt
-numbers-rise k (suc n) = ((λ j m. numbers-from j (suc k) n m), numbers-rise (suc k) n)
-
-map-numbers-nth : (g : ℕ → ℕ) (k n i : ℕ) → i < n → getD (map g (numbersFrom k n)) i 0 ≡ g (k + i)
-unfolding numbersFrom
-map-numbers-nth g k zero i h = absurd (omega arith)
-map-numbers-nth g k (suc n) zero h = ap g (omega arith)
-map-numbers-nth g k (suc n) (suc i) h = map-numbers-nth g (suc k) n i (omega arith) ∙ ap g (omega arith)
 
 -- ---- the turns
 
@@ -63,9 +40,6 @@ module _ (b : Book) where
   pub turns-any : {E : List ℕ → List ℕ → Type 0} → AnyOrder E → E (places b) (turns b)
   unfolding turns
   turns-any o = falling-any o rank (places b)
-
-  pub turns-long : length (turns b) ≡ size b
-  turns-long = sym (turns-any length-any) ∙ numbers-long 0 (size b)
 
   pub turns-within : Each (λ k. k < size b) (turns b)
   turns-within = turns-any (each-any (λ k. k < size b)) (λ k m. omega (arith, in-numbers k 0 (size b) m))

@@ -8,7 +8,6 @@ use lib.ListN.{length, take, replicate}
 use lib.Seq.{take-at}
 use native.Mathlib.Omega.{arith}
 use borrow.Author.Tests.{eqb-true, eq-eqb, ne-eqb, le-leb, lt-leb}
-use Rattle.numbers.specs.Lists.{padded}
 use Rattle.numbers.specs.ListLaws.{Each}
 use Rattle.numbers.specs.Tails.{laid}
 use Rattle.rules.specs.Refusals.{check}
@@ -18,7 +17,6 @@ use Rattle.sealed.specs.ServedLaws.{turns-within, awards-long, served-awards}
 use Rattle.sealed_turns.specs.Turned.{Turned}
 use Rattle.sealed_awards.specs.Shares.{Shares}
 use Rattle.sealed_auction.specs.declared.Sealed.{Sealed}
-use Rattle.sealed_auction.specs.declared.Lent.{Lent}
 use Rattle.sealed_auction.specs.Cleared.{sealedOf, Lends}
 
 module _ (ceiling demand : ℕ) (b : Book) where

@@ -1,5 +1,5 @@
 -- What holds of a book that is not refused, and that a refusal's number is a byte.
-use Prim.Native.Nat.{ℕ, _≤_, _<_}
+use Prim.Native.Nat.{ℕ, _≤_}
 use mathlib.Core.Path.{_≡_, refl, subst}
 use mathlib.Core.Bool.{Bool, true, false, _&&_}
 use mathlib.Core.List.{List·Memᴰ}
@@ -72,13 +72,3 @@ accepted ceiling demand b = go (isPrice ceiling && leb demand 100000000000) (boo
     go true true e f h = accepted-book demand b f
     go true false e f h = absurd (omega arith)
     go false t e f h = absurd (omega arith)
-
-pub number-small : (ceiling demand : ℕ) (b : Book) → sealedNumber ceiling demand b < 256
-unfolding sealedNumber
-number-small ceiling demand b =
-    go (isPrice ceiling && leb demand 100000000000 && bookOk b) (all (λ o. leb (o .price) ceiling) (offers b))
-  where
-    go : (s t : Bool) → check s 18 (check t 19 0) < 256
-    go true true = omega arith
-    go true false = omega arith
-    go false t = omega arith

@@ -5,16 +5,15 @@ use mathlib.Core.Logic.{⊎-elim}
 use mathlib.Core.Bool.{Bool, true, false, cond, not, _&&_}
 use mathlib.Core.List.{List, [], _∷_}
 use native.Mathlib.Omega.{arith}
-use native.Mathlib.Nat.{le-refl}
 use lib.Dec.{eqb, eqb·suc-zero}
 use lib.ListN.{length, getD, set}
 use Rattle.numbers.specs.Cases.{not-true, le-or-lt, clash}
 use Rattle.numbers.specs.ListLaws.{any-true}
 use Rattle.rules.specs.Ledger.{Step, Developer, Ledger, nobody}
-use Rattle.rules.specs.Clearing.{highest, developersOf, ofEach, covered, closingPrice}
+use Rattle.rules.specs.Clearing.{developersOf, ofEach, covered}
 use Rattle.rules.specs.Projects.{in-developers-of}
-use Rattle.rules.specs.Second.{noSteps, lodgedApplied, takenOut, remaining, short, secondPrice}
-use Rattle.sound.specs.Sound.{Sound, started}
+use Rattle.rules.specs.Second.{noSteps, lodgedApplied, takenOut, remaining, short}
+use Rattle.sound.specs.Sound.{Sound}
 use Rattle.clearing.specs.Second.{remaining-part, second-price, second-is-first, remaining-is}
 use Rattle.history.specs.declared.History.{History}
 use Rattle.auction.specs.Holds.{heldCourse, auctionOf}
@@ -22,7 +21,6 @@ use Rattle.courses.specs.Places.{Filling, filling-next, filling-all, numbered-a
 use Rattle.auction.specs.declared.Auction.{Auction}
 use Rattle.price.specs.Prices.{HoldsPart, CoveredAt, ClosingPrice}
 use Rattle.second_price.specs.Taken.{takenBy, NoneTaken, leftOf, Remain, SecondPrice}
-use Rattle.second_price.specs.declared.Second.{Second}
 
 -- ---- one developer
 

@@ -7,7 +7,7 @@ use mathlib.Core.List.{List, [], _∷_, map, List·Memᴰ}
 use native.Mathlib.Omega.{arith}
 use lib.Dec.{eqb}
 use Rattle.numbers.specs.Lists.{oneTo, keep, total, greatest, all}
-use Rattle.numbers.specs.ListLaws.{in-one-to, map-same}
+use Rattle.numbers.specs.ListLaws.{in-one-to, map-same, all-map}
 use Rattle.rules.specs.Ledger.{Developer, Ledger, nobody}
 use Rattle.rules.specs.Clearing.{ofEach, developersOf, greatestOf, supply as supplyBy}
 use Rattle.rules.specs.Projects.{in-developers-of}
@@ -47,11 +47,6 @@ pub supply-of :
     (f : Developer → ℕ) (l : Ledger) →
     supplyOf (ofEach (λ x. x .declared .project) l) (ofEach f l) ≡ supplyBy f l
 supply-of f l = supply-of-part f l l (λ n. inr refl)
-
-all-map : {A B : Type 0} (t : B → Bool) (f : A → B) (xs : List A) → all t (map f xs) ≡ all (λ x. t (f x)) xs
-unfolding all
-all-map t f [] = refl
-all-map t f (x ∷ xs) = ap (λ (b : Bool). t (f x) && b) (all-map t f xs)
 
 pub joins-of :
     (l : Ledger) (k kind : ℕ) →

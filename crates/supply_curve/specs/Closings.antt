@@ -2,23 +2,23 @@
 -- which the curve stays.
 use Prim.Native.Nat.{ℕ, suc, _+_, _*_, _≤_, _<_, zero-le}
 use mathlib.Core.Path.{_≡_, refl, sym, ap, ap₂, subst, fun-ext, _∙_}
-use mathlib.Core.Logic.{inl, inr, ⊎-elim, _↔_}
+use mathlib.Core.Logic.{⊎-elim, _↔_}
 use mathlib.Core.Bool.{Bool, true, false, cond}
-use mathlib.Core.List.{List, [], _∷_, _++_, map, flatten, List·Memᴰ, List·Memᴰ·head, List·Memᴰ·tail, List·Memᴰ·not-nil, List·Memᴰ·append-cases, Memᴰ·append-left, Memᴰ·append-right, map-append}
+use mathlib.Core.List.{List, [], _∷_, _++_, map, flatten, List·Memᴰ, List·Memᴰ·head, List·Memᴰ·tail, List·Memᴰ·not-nil, List·Memᴰ·append-cases, Memᴰ·append-left, map-append}
 use native.Mathlib.Omega.{arith}
-use native.Mathlib.Nat.{suc-mul, le-refl}
+use native.Mathlib.Nat.{suc-mul}
 use lib.Dec.{leb, ltb, eqb}
 use lib.ListN.{length, length-map, length-append}
-use borrow.Author.Tests.{leb-true, le-leb, lt-leb, ltb-true, lt-ltb, le-ltb, eqb-true, eq-eqb, ne-eqb, eqb-false}
+use borrow.Author.Tests.{leb-true, le-leb, lt-leb, ltb-true, lt-ltb, le-ltb, eq-eqb, ne-eqb}
 use Rattle.numbers.specs.Cases.{le-or-lt}
 use Rattle.numbers.specs.Lists.{oneTo, keep, total, greatest}
 use Rattle.numbers.specs.ListLaws.{Each, in-keep, in-map, map-same, length-one-to, greatest-in, greatest-upper, total-map-bound}
-use Rattle.numbers.specs.Falling.{distinctFalling, Falls, distinct-in, distinct-falls, distinct-length, falls-same, keep-falls, keep-all, front-next}
-use Rattle.rules.specs.Ledger.{highestDeclared, Step, Declaration, Developer, Phase, Round, Ledger, nobody, withDevelopers}
+use Rattle.numbers.specs.Falling.{distinctFalling, Falls, distinct-in, distinct-length, falls-same, keep-falls, keep-all, front-next}
+use Rattle.rules.specs.Ledger.{highestDeclared, Step, Declaration, Phase, Round, Ledger, withDevelopers}
 use Rattle.rules.specs.Clearing.{highest, quantityAfter, high, low, developersOf, greatestOf, supply}
 use Rattle.rules.specs.Refusals.{floor}
 use Rattle.rules.specs.Rounds.{withdrawsAll, reached, added, applied}
-use Rattle.sound.specs.Sound.{appliedTo, started, Descends, SoundLodged, RoundPrices, Registered, Sound}
+use Rattle.sound.specs.Sound.{appliedTo, started, Descends, SoundLodged, RoundPrices, Sound}
 use Rattle.clearing.specs.Course.{courses}
 use Rattle.clearing.specs.HighLow.{low-le-highest}
 use Rattle.clearing.specs.Supply.{greatest-of-bound}
@@ -96,9 +96,6 @@ module _ (l : Ledger) (p : ℕ) where
   next-above : Each (λ x. x < p → x ≤ nextBelow l p) (withdrawalPrices l)
   unfolding nextBelow
   next-above x m h = greatest-upper (keep (λ q. ltb q p) (withdrawalPrices l)) (in-keep (λ q. ltb q p) x (withdrawalPrices l) .1 (m, lt-ltb x p h))
-
-  pub next-falls : 0 < nextBelow l p → nextBelow l p < p
-  next-falls h = next-in h .1
 
   -- one point more
   pub points-next : 0 < nextBelow l p → pointsFrom l (nextBelow l p) ≡ pointsFrom l p ++ (pointAt l (nextBelow l p) ∷ [])

@@ -1,7 +1,7 @@
 -- An auction's supply curve (document 02, 9), computed after each of two rounds: a withdrawal that changes no total, a lodged step, and a missing
 -- offer that withdraws where that step did, at the first round's C.
 use mathlib.Core.Path.{_≡_, refl}
-use mathlib.Core.List.{List, [], _∷_, _++_, map, flatten}
+use mathlib.Core.List.{List, [], _∷_, _++_, flatten}
 use Rattle.numbers.specs.Lists.{oneTo, keep, total, greatest, lastOr, any, all}
 use Rattle.numbers.specs.Falling.{placedOnce, distinctFalling}
 use Rattle.curve.specs.Demand.{dem, inBounds}
@@ -9,7 +9,7 @@ use Rattle.rules.specs.Ledger.{Offer, Lodge, Own, Call, SetUp, Register, Open, 
 use Rattle.rules.specs.Clearing.{quantityAfter, high, low, developersOf, greatestOf, supply, covered}
 use Rattle.rules.specs.Refusals.{settingsOk, numbersOk, rising, levelsOk, mayJoin, declarationOk, openingPrice, closingOk, startCovered, isOfKind, falling, pricesOk, lowering, moveNumber, number}
 use Rattle.rules.specs.Rounds.{steps, withdrawsAll, reaches, reached, unreached, added, lastLevel, applied, supplyAfter, thousandths, clears, phaseAfter, moved, accepted, step, stepAll, ledger}
-use Rattle.supply_curve.specs.Curve.{withdrawalPrices, Point, pointAt, supplyCurve}
+use Rattle.supply_curve.specs.Curve.{withdrawalPrices, pointAt, supplyCurve}
 
 -- an existing plant that lodges a step at the first round's C; developers 2 and 3 share a project, 3 is the smaller one
 abbrev firstRound : List Call

@@ -1,17 +1,15 @@
 -- Where the rows of a table that is laid out start and end, and that they are its rows by number.
 use Prim.Native.Nat.{ℕ, zero, suc, _+_, _-_, _≤_, _<_, zero-le}
 use mathlib.Core.Path.{_≡_, sym, ap, _∙_}
-use mathlib.Core.Logic.{⊎-elim}
-use mathlib.Core.List.{List, [], _∷_, map, List·Memᴰ, List·Memᴰ·head, List·Memᴰ·tail, List·Memᴰ·not-nil, List·Memᴰ·cases-cons}
+use mathlib.Core.List.{List, [], _∷_, map}
 use native.Mathlib.Omega.{arith}
 use native.Mathlib.Nat.{add-zero}
 use native.Mathlib.Numerals.{add-one}
 use lib.ListN.{length, drop, getD, length-take, length-drop, drop-of-length-le}
 use lib.Seq.{drop-cons, getD-take, getD-drop}
-use Rattle.numbers.specs.Cases.{le-or-lt}
 use Rattle.numbers.specs.ListLaws.{map-intro, last-at}
 use Rattle.choices.specs.Search.{lowOf, highOf}
-use Rattle.placing.specs.Numbers.{numbersFrom, in-numbers, numbers-in}
+use Rattle.placing.specs.Numbers.{numbersFrom, numbers-in}
 use Rattle.table.specs.Rows.{rowsIn, EndsRise}
 use Rattle.table.specs.Places.{part, RowLaid, LaidOut, startOf, rowIn}
 

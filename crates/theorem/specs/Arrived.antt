@@ -3,7 +3,6 @@
 -- supply curve included; each of these calls gets the answer that it gets in the other order, so all are accepted in one order exactly if
 -- they are in the other; every call before and behind, closings among them, is answered the same; and settling what they reach gives equal
 -- results and buffers. That a round is open is not asked: a refused call may arrive in any order too.
-use Prim.Native.Nat.{ℕ}
 use mathlib.Core.Path.{_≡_, refl, sym, ap, ap₂, _∙_}
 use mathlib.Core.List.{List, [], _∷_, _++_, map}
 use Rattle.rules.specs.Ledger.{Call, Ledger}

@@ -2,7 +2,7 @@
 -- preview's answer is that of the closing made next, and it says "closed" exactly where that closing is accepted and the auction is closed
 -- after it. A preview takes the auction by value and returns none, so it is no call of a list. It is tied in through the method's own
 -- contract, which the method meets (`preview-meets` in EveryList).
-use Prim.Native.Nat.{ℕ, _+_, _<_}
+use Prim.Native.Nat.{_+_, _<_}
 use mathlib.Core.Path.{_≡_, sym, ap, _∙_}
 use mathlib.Core.Logic.{_⊎_, _↔_}
 use mathlib.Core.Bool.{true}

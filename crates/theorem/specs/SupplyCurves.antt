@@ -3,7 +3,7 @@
 -- reading takes the auction by value and returns none, so it is no call of a list. It is tied in through the method's own contract, which the
 -- method meets (`supply-point-meets` in EveryList).
 use Prim.Native.Nat.{ℕ, _≤_}
-use mathlib.Core.Path.{_≡_, ap, _∙_}
+use mathlib.Core.Path.{_≡_, ap}
 use mathlib.Core.Logic.{_↔_}
 use mathlib.Core.List.{List, map, List·Memᴰ}
 use lib.ListN.{length, getD}

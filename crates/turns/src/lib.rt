@@ -1,5 +1,4 @@
 // A turn of a replay: the next auction and the reply; one for each kind of frame whose call answers with a number alone.
-ghost use mathlib.Core.Path.{_≡_};
 ghost use lib.ListN.{getD};
 ghost use Rattle.replies.specs.Orders.{Asks, setUpOf, registrationOf, registrationForOf, moveOf};
 ghost use Rattle.rules.specs.Ledger.{Offer, Lodge, Cancel, Open, By};

@@ -1,5 +1,5 @@
 -- The prices, then the levels.
-use mathlib.Core.Path.{_≡_, sym, _∙_}
+use mathlib.Core.Path.{sym, _∙_}
 use borrow.Author.Needs.{needs}
 use borrow.Author.Tests.{not-true, not-false}
 use Rattle.moves.proofs.steps_number.Statement.{statement}

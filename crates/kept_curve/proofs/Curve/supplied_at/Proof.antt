@@ -1,7 +1,6 @@
 -- From the first word on while its price is above p.
 use Prim.Native.Nat.{_-_}
 use native.Mathlib.Omega.{arith}
-use borrow.Author.Needs.{needs}
 use Rattle.kept_curve.proofs.Keeping.{Looking, looking-first, looking-end, looking-all, looking-stop, looking-next}
 use Rattle.kept_curve.proofs.Curve.supplied_at.Statement.{statement}
 use Rattle.kept_curve.proofs.Curve.supplied_at.Tie as tie
