@@ -1,0 +1,1 @@
+// Seats in the auction hall. Specifications only: see specs/.
