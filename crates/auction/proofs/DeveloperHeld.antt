@@ -35,7 +35,7 @@ module _ (n : ℕ) (a : Auction) where
     unfolding auctionOf
     quantity-at = ap (λ (x : Auction). getD (x .quantities) (n - 1) 0) h ∙ each-at (λ x. x .quantity) l n 0 low high
 
-    declared-at : (d : Levels) → getD (a .declared) (n - 1) d ≡ heldLevels (l .developers n .declared .levels)
+    pub declared-at : (d : Levels) → getD (a .declared) (n - 1) d ≡ heldLevels (l .developers n .declared .levels)
     unfolding auctionOf
     declared-at d = ap (λ (x : Auction). getD (x .declared) (n - 1) d) h ∙ each-at (λ x. heldLevels (x .declared .levels)) l n d low high
 

@@ -23,7 +23,7 @@ pub struct Settled {
     pub records: usize,
 }
 
-fn refused(number: u8) -> Settled
+pub fn refused(number: u8) -> Settled
     ensures { λ r. ⌜ r ≡ refusedWith number ⌝ }
 {
     Settled {

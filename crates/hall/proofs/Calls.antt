@@ -1,0 +1,32 @@
+-- A call through a seat, by the test of its right: barred, or the auction's own.
+use mathlib.Core.Path.{_≡_, refl, sym, _∙_}
+use mathlib.Core.Bool.{Bool, true, false, not, false≢true}
+use borrow.Author.Tests.{not-true, not-false}
+use Rattle.rules.specs.Ledger.{Call}
+use Rattle.rules.specs.Rounds.{Answered, numberAlone}
+use Rattle.seats.specs.Seats.{Seat, isOfferOrCancellation, mayMake, mayLook, latestExcess}
+use Rattle.seats.specs.SeatLaws.{conducted}
+use Rattle.auction.specs.Called.{Called}
+use Rattle.hall.specs.Through.{CalledThrough}
+use Rattle.hall.specs.declared.Hall.{Hall}
+
+-- where the test of a right failed there is no right, and where it held no lack of it
+module _ {A : Type 0} {right : Bool} (b : Bool) (e : b ≡ right) where
+  pub no-right : not b ≡ true → right ≡ true → A
+  no-right t w = absurd (false≢true (sym (not-true b t) ∙ e ∙ w))
+
+  pub has-right : not b ≡ false → right ≡ false → A
+  has-right t w = absurd (false≢true (sym w ∙ sym e ∙ not-false b t))
+
+-- one test serves all calls but offers and cancellations
+pub conducts : (s : Seat) (c : Call) {b : Bool} → b ≡ mayLook s → isOfferOrCancellation c ≡ false → b ≡ mayMake s c
+conducts s c e f = e ∙ sym (conducted s c f)
+
+module _ (s : Seat) (c : Call) (h : Hall) (b : Bool) (e : b ≡ mayMake s c) where
+  pub barred-call : not b ≡ true → CalledThrough s c h h (numberAlone 20)
+  barred-call t = record { barred = λ _. (refl, refl); made = no-right b e t; excess = no-right b e t }
+
+  pub made-call :
+      (k : Hall) (r : Answered) → not b ≡ false → Called c (h .auction) (k .auction) r → k .excess ≡ latestExcess c r (h .excess) →
+      CalledThrough s c h k r
+  made-call k r t called latest = record { barred = has-right b e t; made = λ _. called; excess = λ _. latest }

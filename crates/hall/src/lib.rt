@@ -1,0 +1,264 @@
+// The auction hall (document 02, 14): the auction with the excess of its latest closing, and every call through a seat. A call that the seat has
+// no right to make is refused by 20 before every other check and leaves the hall as it is; otherwise it is the auction's own call
+// (specs/Through.antt).
+ghost use mathlib.Core.Path.{_≡_};
+ghost use Rattle.rules.specs.Ledger.{Open, By, Offer, Lodge, Cancel};
+ghost use Rattle.seats.specs.Seats.{freshHall};
+ghost use Rattle.seat_rights.specs.Rights.{seatOf};
+ghost use Rattle.auction.specs.Called.{setsUp, registers, registersFor};
+ghost use Rattle.hall.specs.Through.{hallOf, AnswersThrough, ClosesThrough, barredAnswer, answeredWith, SettlesThrough, PreviewsThrough, ReadsCurveThrough, ForcesThrough, ReadsThrough};
+use auction::Answer;
+use auction::Auction;
+use forcing::Forced;
+use readings::Preview;
+use seat_readings::Reading;
+use seat_rights::Seat;
+use settling::Settled;
+
+pub struct Hall {
+    pub auction: Auction,
+    pub excess: i64,
+}
+
+// The answer of a call: 0 or a refusal's number, and the next hall.
+pub struct HallAnswer {
+    pub number: u8,
+    pub hall: Hall,
+}
+
+// The same with the excess of a closing, and the remainder of Dem(C).
+pub struct HallClosing {
+    pub number: u8,
+    pub excess: i64,
+    pub remainder: u32,
+    pub hall: Hall,
+}
+
+// 0 or a refusal's number, the number of points of the supply curve, and the one at a place, zero past the end.
+pub struct CurvePoint {
+    pub number: u8,
+    pub entries: usize,
+    pub price: u32,
+    pub before: u64,
+    pub after: u64,
+}
+
+impl Hall {
+    // A call that the seat has no right to make.
+    pub const NO_RIGHT: u8 = 20;
+
+    // A fresh auction, no round closed yet.
+    pub fn new() -> Hall
+        ensures { λ r. ⌜ r ≡ hallOf freshHall ⌝ }
+    {
+        Hall {
+            auction: Auction::new(),
+            excess: 0,
+        }
+    }
+
+    fn barred(self) -> HallAnswer
+        ensures { λ r. ⌜ r ≡ barredAnswer self ⌝ }
+    {
+        HallAnswer {
+            number: Hall::NO_RIGHT,
+            hall: self,
+        }
+    }
+
+    // What the auction answered.
+    fn answered(self, answer: Answer) -> HallAnswer
+        ensures { λ r. ⌜ r ≡ answeredWith self answer ⌝ }
+    {
+        let auction = answer.auction;
+        let hall = Hall {
+            auction: auction,
+            excess: self.excess,
+        };
+        HallAnswer {
+            number: answer.number,
+            hall: hall,
+        }
+    }
+
+    pub fn set_up(self, seat: Seat, ce: u64, d: u64, m1: u64, m2: u64, a: u64) -> HallAnswer
+        ensures { λ r. ⌜ AnswersThrough (seatOf seat) (setsUp ce d m1 m2 a) self r ⌝ }
+    {
+        if !seat_rights::conducts(seat) {
+            return self.barred();
+        }
+        let auction = self.auction;
+        self.answered(auction.set_up(ce, d, m1, m2, a))
+    }
+
+    pub fn register(
+        self,
+        seat: Seat,
+        project: u8,
+        developer: u8,
+        kind: u8,
+        study: u32,
+        day: u32,
+        levels: &[u32],
+    ) -> HallAnswer
+        ensures { λ r. ⌜ AnswersThrough (seatOf seat) (registers project developer kind study day (now (levels .entry))) self r ⌝ }
+    {
+        if !seat_rights::conducts(seat) {
+            return self.barred();
+        }
+        let auction = self.auction;
+        self.answered(auction.register(project, developer, kind, study, day, levels))
+    }
+
+    pub fn register_for(
+        self,
+        seat: Seat,
+        project: u8,
+        developer: u8,
+        kind: u8,
+        agent: u8,
+        study: u32,
+        day: u32,
+        levels: &[u32],
+    ) -> HallAnswer
+        ensures { λ r. ⌜ AnswersThrough (seatOf seat) (registersFor project developer kind agent study day (now (levels .entry))) self r ⌝ }
+    {
+        if !seat_rights::conducts(seat) {
+            return self.barred();
+        }
+        let auction = self.auction;
+        self.answered(auction.register_for(project, developer, kind, agent, study, day, levels))
+    }
+
+    pub fn lodge(self, seat: Seat, developer: u8, prices: &[u32], levels: &[u32]) -> HallAnswer
+        ensures { λ r. ⌜ AnswersThrough (seatOf seat) (By developer (Lodge (now (prices .entry)) (now (levels .entry)))) self r ⌝ }
+    {
+        if !seat_rights::conducts(seat) {
+            return self.barred();
+        }
+        let auction = self.auction;
+        self.answered(auction.lodge(developer, prices, levels))
+    }
+
+    pub fn open(self, seat: Seat, c: u32) -> HallAnswer
+        ensures { λ r. ⌜ AnswersThrough (seatOf seat) (Open c) self r ⌝ }
+    {
+        if !seat_rights::conducts(seat) {
+            return self.barred();
+        }
+        let auction = self.auction;
+        self.answered(auction.open(c))
+    }
+
+    pub fn offer(self, seat: Seat, developer: u8, prices: &[u32], levels: &[u32]) -> HallAnswer
+        ensures { λ r. ⌜ AnswersThrough (seatOf seat) (By developer (Offer (now (prices .entry)) (now (levels .entry)))) self r ⌝ }
+    {
+        if !seat_rights::offers_for(seat, developer) {
+            return self.barred();
+        }
+        let auction = self.auction;
+        self.answered(auction.offer(developer, prices, levels))
+    }
+
+    pub fn cancel(self, seat: Seat, developer: u8) -> HallAnswer
+        ensures { λ r. ⌜ AnswersThrough (seatOf seat) (By developer Cancel) self r ⌝ }
+    {
+        if !seat_rights::offers_for(seat, developer) {
+            return self.barred();
+        }
+        let auction = self.auction;
+        self.answered(auction.cancel(developer))
+    }
+
+    pub fn close(self, seat: Seat) -> HallClosing
+        ensures { λ r. ⌜ ClosesThrough (seatOf seat) self r ⌝ }
+    {
+        if !seat_rights::conducts(seat) {
+            return HallClosing {
+                number: Hall::NO_RIGHT,
+                excess: 0,
+                remainder: 0,
+                hall: self,
+            };
+        }
+        let auction = self.auction;
+        let closing = auction.close();
+        let after = closing.auction;
+        let mut next = self;
+        next.auction = after;
+        if closing.number == 0 {
+            next.excess = closing.excess;
+        }
+        HallClosing {
+            number: closing.number,
+            excess: closing.excess,
+            remainder: closing.remainder,
+            hall: next,
+        }
+    }
+
+    pub fn settle(self, seat: Seat, limit: u32, awards: &mut [u8]) -> Settled
+        ensures { λ r. ⌜ SettlesThrough (seatOf seat) self limit (now (awards .entry)) (now (awards .exit)) r ⌝ }
+    {
+        if !seat_rights::settles(seat) {
+            return settling::refused(Hall::NO_RIGHT);
+        }
+        settling::settle(self.auction, limit, awards)
+    }
+
+    pub fn preview_closing(self, seat: Seat) -> Preview
+        ensures { λ r. ⌜ PreviewsThrough (seatOf seat) self r ⌝ }
+    {
+        if !seat_rights::conducts(seat) {
+            return Preview {
+                number: Hall::NO_RIGHT,
+                excess: 0,
+                remainder: 0,
+                closed: false,
+            };
+        }
+        readings::preview_closing(self.auction)
+    }
+
+    pub fn supply_point(self, seat: Seat, place: usize) -> CurvePoint
+        ensures { λ r. ⌜ ReadsCurveThrough (seatOf seat) self place r ⌝ }
+    {
+        if !seat_rights::conducts(seat) {
+            return CurvePoint {
+                number: Hall::NO_RIGHT,
+                entries: 0,
+                price: 0,
+                before: 0,
+                after: 0,
+            };
+        }
+        let point = readings::supply_point(self.auction, place);
+        CurvePoint {
+            number: 0,
+            entries: point.entries,
+            price: point.price,
+            before: point.before,
+            after: point.after,
+        }
+    }
+
+    pub fn who_can_force(self, seat: Seat, first: u64, second: u64, prices: &[u64]) -> Forced
+        ensures { λ r. ⌜ ForcesThrough (seatOf seat) self first second (now (prices .entry)) r ⌝ }
+    {
+        if !seat_rights::conducts(seat) {
+            return Forced {
+                number: Hall::NO_RIGHT,
+                outcome: 0,
+                withdraws: false,
+            };
+        }
+        forcing::who_can_force(self.auction, first, second, prices)
+    }
+
+    // What the seat reads: every seat may.
+    pub fn reading(self, seat: Seat) -> Reading
+        ensures { λ r. ⌜ ReadsThrough (seatOf seat) self r ⌝ }
+    {
+        seat_readings::read_from(self.auction, self.excess, seat)
+    }
+}
