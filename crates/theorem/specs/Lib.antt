@@ -6,6 +6,9 @@ pub mod ReadBack
 pub mod Runs
 pub mod Untouched
 pub mod SealedStated
+pub mod HallRuns
+pub mod SeatsStated
+pub mod HallRunsExist
 pub mod Settling
 pub mod Readable
 pub mod Reading

@@ -74,7 +74,7 @@ module _ (cs : List Call) (c : Call) where
       subst (λ (r : Answered). Made c before r after) (sym (alone g)) (f s)
 
 -- numbers lent to a call, from any place
-abbrev lent : List ℕ → RefT (List ℕ)
+abbrev pub lent : List ℕ → RefT (List ℕ)
 lent xs = record { ptr = (0, 0); name = 0; now = xs }
 
 pub made : (cs : List Call) (c : Call) → Made c (auctionOf (ledger cs)) (answer (ledger cs) c) (auctionOf (ledger (cs ++ (c ∷ []))))

@@ -1,7 +1,7 @@
 -- THE STATEMENT ON SETTLING (demand 3), about every list of set-up, registration, lodging, opening, offer, cancellation and closing calls from a
 -- fresh auction, refused ones included, each call getting the auction that the last one returned (`Run`, in EveryList). Whatever the limit and the
--- lent buffer, settling the auction that the list reaches is as `Stated` says of the ledger of the list. The engine's calls are tied in
--- through their contracts, which each of them meets.
+-- lent buffer, settling the auction that the list reaches is as `Stated` says of the ledger of the list; and so for lists that hold calls through
+-- seats (`seats`). The engine's calls are tied in through their contracts, which each of them meets.
 use Prim.Native.Nat.{ℕ}
 use mathlib.Core.Path.{_≡_}
 use mathlib.Core.List.{List}
@@ -25,6 +25,7 @@ use Rattle.theorem.specs.SupplyCurves.{CurveStated, curve-stated}
 use Rattle.theorem.specs.PriceForced.{ForcingStated, forcing-stated}
 use Rattle.theorem.specs.Arrived.{ArrivalStated, arrival-stated}
 use Rattle.theorem.specs.SealedStated.{SealedStated, sealed-stated}
+use Rattle.theorem.specs.SeatsStated.{SeatsStated, seats-stated}
 use Rattle.stated.specs.Stated.{Stated}
 use Rattle.stated.specs.Determined.{determined, by-accepted}
 use Rattle.stated.specs.StatedLaws.{stated}
@@ -58,6 +59,8 @@ pub record Settling (M : Type 1) : Type 2 where
   pub arrival : ArrivalStated
   -- THE SEALED AUCTION FOR LONG BUILDS (document 02, 13), beside the calls: refusals, awards and what is left
   pub sealed : SealedStated M
+  -- SEATS IN THE AUCTION HALL (document 02, 14): calls through seats, what a developer can learn, and settling through a seat
+  pub seats : SeatsStated M
 
 module _ {cs : List Call} {rs : List Answered} (κs : Lfts 1) (x : ArgsD signature κs) (r : Settled) (y : AtExit (endedOf 1 kinds.ps kinds.r) κs) where
   as-stated : Run cs rs (x .0) → settle.Post κs x r y → Stated (ledger cs) (x .1 .0) (now (x .1 .1 .0)) (now (y .1 .1 .0)) r
@@ -76,4 +79,5 @@ settling = record {
   forcing = forcing-stated;
   arrival = arrival-stated;
   sealed = sealed-stated;
+  seats = seats-stated;
 }

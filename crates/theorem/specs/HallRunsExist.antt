@@ -1,0 +1,134 @@
+-- Runs through seats exist, so that what is stated of every one (SeatsStated) is said of something: for every list of calls through seats, refused
+-- ones included, there is a run.
+use mathlib.Core.Path.{_≡_, refl, sym, ap, subst, _∙_}
+use mathlib.Core.Bool.{Bool, true, false, cond}
+use mathlib.Core.List.{List, [], _∷_, _++_, append-assoc, append-nil}
+use lib.Dec.{eqb}
+use Rattle.numbers.specs.Cases.{clash}
+use Rattle.rules.specs.Ledger.{Offer, Lodge, Cancel, Own, Named, Call, SetUp, Register, Open, By, Close, Ledger}
+use Rattle.rules.specs.Refusals.{number}
+use Rattle.rules.specs.Rounds.{step, ledger, Answered, numberAlone, granted, answer}
+use Rattle.reachable.specs.Steps.{ledger-snoc}
+use Rattle.seats.specs.Seats as seats
+use Rattle.seats.specs.Seats.{mayMake, HallLedger, Seated, hallAnswer, afterCall, hallStep, hallFrom, hallLedger, hallAnswersFrom, hallAnswers, permitted, throughSeats}
+use Rattle.seats.specs.SeatLaws.{hall-ledger-snoc, hall-answers-snoc, hall-is}
+use Rattle.auction.specs.Holds.{auctionOf}
+use Rattle.auction.specs.Called.{Called}
+use Rattle.seat_rights.specs.Rights.{seatOf}
+use Rattle.seat_rights.specs.declared.Seat.{Seat}
+use Rattle.seat_rights.specs.declared.Seat.the-variants.{Auctioneer, Auditor, Developer}
+use Rattle.hall.specs.Through.{hallOf, CalledThrough}
+use Rattle.hall.specs.declared.Hall.{Hall}
+use Rattle.theorem.specs.Runs.{called, lent}
+use Rattle.theorem.specs.HallRuns.{MadeThrough, sets-up, registers-one, registers-for, opens, offers, lodges, cancels, closes, HallRun, fresh, followed}
+
+-- the case of the enum for each seat
+seatIn : seats.Seat → Seat
+seatIn seats.Auctioneer = Auctioneer
+seatIn seats.Auditor = Auditor
+seatIn (seats.At n) = Developer n
+
+seat-in : (s : seats.Seat) → seatOf (seatIn s) ≡ s
+unfolding seatIn
+seat-in seats.Auctioneer = refl
+seat-in seats.Auditor = refl
+seat-in (seats.At n) = refl
+
+-- ---- a call through a seat, whatever its arguments
+
+module _ (ms : List Seated) (s : seats.Seat) (c : Call) where
+  abbrev x : HallLedger
+  x = hallLedger ms
+
+  abbrev m : Seated
+  m = record { seat = s; call = c }
+
+  abbrev before : Hall
+  before = hallOf x
+
+  abbrev after : Hall
+  after = hallOf (hallStep x m)
+
+  abbrev given : Answered
+  given = hallAnswer x m
+
+  own-call : Called c (auctionOf (x .ledger)) (auctionOf (step (x .ledger) c)) (answer (x .ledger) c)
+  own-call =
+      let cs = permitted (throughSeats ms) in
+      subst (λ (l : Ledger). Called c (auctionOf l) (auctionOf (step l c)) (answer l c)) (sym (hall-is ms))
+      (subst (λ (l : Ledger). Called c (auctionOf (ledger cs)) (auctionOf l) (answer (ledger cs) c)) (ledger-snoc cs c) (called cs c))
+
+  called-through : CalledThrough s c before after given
+  unfolding hallStep hallAnswer
+  called-through = go (mayMake s c) refl
+    where
+      go : (b : Bool) → mayMake s c ≡ b → CalledThrough s c before (hallOf (cond b (afterCall x c) x)) (cond b (answer (x .ledger) c) (numberAlone 20))
+      go true e = record { barred = λ f. absurd (clash e f); made = λ f. own-call; excess = λ f. refl }
+      go false e = record { barred = λ f. (refl, refl); made = λ f. absurd (clash f e); excess = λ f. absurd (clash f e) }
+
+  alone : granted (x .ledger) c ≡ numberAlone 0 → given ≡ numberAlone (given .number)
+  unfolding hallAnswer answer
+  alone g = go (mayMake s c) (eqb (number (x .ledger) c) 0)
+    where
+      go :
+          (a b : Bool) → let r = cond a (cond b (granted (x .ledger) c) (numberAlone (number (x .ledger) c))) (numberAlone 20) in
+          r ≡ numberAlone (r .number)
+      go true true = g ∙ ap (λ (r : Answered). numberAlone (r .number)) (sym g)
+      go true false = refl
+      go false b = refl
+
+  by-number :
+      (t : Seat) → granted (x .ledger) c ≡ numberAlone 0 →
+      (CalledThrough s c before after (numberAlone (given .number)) → MadeThrough t c before (numberAlone (given .number)) after) →
+      MadeThrough t c before given after
+  by-number t g f =
+      let w : CalledThrough s c before after (numberAlone (given .number)) = subst (λ (r : Answered). CalledThrough s c before after r) (alone g) called-through in
+      subst (λ (r : Answered). MadeThrough t c before r after) (sym (alone g)) (f w)
+
+made-through :
+    (ms : List Seated) (t : Seat) (c : Call) → let m : Seated = record { seat = seatOf t; call = c } in
+    MadeThrough t c (hallOf (hallLedger ms)) (hallAnswer (hallLedger ms) m) (hallOf (hallStep (hallLedger ms) m))
+unfolding granted
+made-through ms t (SetUp s) = by-number ms (seatOf t) _ t refl (λ p. sets-up t (s .ce) (s .d) (s .m1) (s .m2) (s .a) (record { number = _; hall = _ }) p)
+made-through ms t (Register n Own x) = by-number ms (seatOf t) _ t refl (λ p. registers-one
+    ([], tt)
+    (hallOf (hallLedger ms), (t, (x .project, (n, (x .kind, (x .study, (x .day, (lent (x .levels), tt))))))))
+    (record { number = _; hall = _ }) p)
+made-through ms t (Register n (Named g) x) = by-number ms (seatOf t) _ t refl (λ p. registers-for
+    ([], tt)
+    (hallOf (hallLedger ms), (t, (x .project, (n, (x .kind, (g, (x .study, (x .day, (lent (x .levels), tt)))))))))
+    (record { number = _; hall = _ }) p)
+made-through ms t (Open c) = by-number ms (seatOf t) _ t refl (λ p. opens t c (record { number = _; hall = _ }) p)
+made-through ms t (By n (Offer ps qs)) = by-number ms (seatOf t) _ t refl (λ p. offers
+    ([], ([], tt))
+    (hallOf (hallLedger ms), (t, (n, (lent ps, (lent qs, tt)))))
+    (record { number = _; hall = _ }) p)
+made-through ms t (By n (Lodge ps qs)) = by-number ms (seatOf t) _ t refl (λ p. lodges
+    ([], ([], tt))
+    (hallOf (hallLedger ms), (t, (n, (lent ps, (lent qs, tt)))))
+    (record { number = _; hall = _ }) p)
+made-through ms t (By n Cancel) = by-number ms (seatOf t) _ t refl (λ p. cancels t n (record { number = _; hall = _ }) p)
+made-through ms t Close =
+    let r = hallAnswer (hallLedger ms) (record { seat = seatOf t; call = Close }) in
+    closes t (record { number = r .number; excess = r .excess; remainder = r .remainder; hall = _ }) (called-through ms (seatOf t) Close)
+
+-- ---- every run
+
+-- answered by the definitions, up to the hall that holds the hall's ledger
+abbrev LedgersRun : List Seated → Type 0
+LedgersRun ms = HallRun ms (hallAnswers ms) (hallOf (hallLedger ms))
+
+longer : (ms : List Seated) (m : Seated) → LedgersRun ms → LedgersRun (ms ++ (m ∷ []))
+longer ms m w =
+    rw (hall-answers-snoc ms m, hall-ledger-snoc ms m)
+    (subst (λ (s : seats.Seat). let n : Seated = record { seat = s; call = m .call } in
+    HallRun (ms ++ (n ∷ [])) (hallAnswers ms ++ (hallAnswer (hallLedger ms) n ∷ [])) (hallOf (hallStep (hallLedger ms) n)))
+    (seat-in (m .seat)) (followed w (made-through ms (seatIn (m .seat)) (m .call))))
+
+pub hall-runs : (ms : List Seated) → HallRun ms (hallAnswers ms) (hallOf (hallLedger ms))
+unfolding hallFrom hallLedger hallAnswers hallAnswersFrom
+hall-runs ms = onwards [] ms (fresh refl)
+  where
+    onwards : (ns ms : List Seated) → LedgersRun ns → LedgersRun (ns ++ ms)
+    onwards ns [] w = subst LedgersRun (sym (append-nil ns)) w
+    onwards ns (m ∷ ms) w = subst LedgersRun (append-assoc ns (m ∷ []) ms) (onwards (ns ++ (m ∷ [])) ms (longer ns m w))

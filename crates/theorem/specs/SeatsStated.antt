@@ -1,0 +1,173 @@
+-- SEATS IN THE AUCTION HALL (document 02, 14), for every run of calls through seats from a fresh hall, refused ones included: hall, answers and
+-- readings are by the definitions; a developer learns from its view alone; and settling through a seat keeps the whole statement on settling, for
+-- lists that hold calls on the auction and calls through seats. The calls are tied in through their own contracts, which each of them meets.
+use Prim.Native.Nat.{ℕ}
+use mathlib.Core.Path.{_≡_, sym, ap, ap₂, _∙_}
+use mathlib.Core.Bool.{true, false}
+use mathlib.Core.List.{List}
+use contract.Lifetimes.{Lfts}
+use denote.Ref.{now}
+use denote.Triple.Clauses.{AtExit}
+use borrow.Fn.World.{ArgsD}
+use borrow.Fn.Kinds.{endedOf}
+use Rattle.rules.specs.Ledger.{Call, Ledger}
+use Rattle.rules.specs.Rounds.{ledger, Answered, numberAlone, answers}
+use Rattle.seats.specs.Seats.{mayMake, maySettle, HallLedger, Seated, hallLedger, hallAnswers, reading, Entry, permitted, entryAnswers, throughSeats}
+use Rattle.seats.specs.SeatLaws.{hall-is}
+use Rattle.seats.specs.Views.{view, ownAnswers, ByViewAlone, StillBetween, OthersUnseen, ClockAlone}
+use Rattle.seats.specs.ViewLaws.{by-view-alone, still-between, others-unseen, clock-alone}
+use Rattle.seats.specs.ToldLaws.{same-answers}
+use Rattle.auction.specs.Holds.{auctionOf}
+use Rattle.auction.specs.declared.Auction.{Auction}
+use Rattle.settling.specs.Settles.{refusedWith}
+use Rattle.settling.specs.declared.Settled.{Settled}
+use Rattle.stated.specs.Stated.{Stated}
+use Rattle.stated.specs.StatedLaws.{stated}
+use Rattle.seat_rights.specs.Rights.{seatOf}
+use Rattle.seat_rights.specs.declared.Seat.{Seat}
+use Rattle.seat_rights.specs.declared.Seat.the-variants.{Developer}
+use Rattle.seat_readings.specs.Shown.{shownReading}
+use Rattle.seat_readings.specs.declared.Reading.{Reading}
+use Rattle.hall.specs.Through.{hallOf}
+use Rattle.hall.specs.declared.Hall.{Hall}
+use Rattle.hall.proofs.Hall.settle.{signature}
+use Rattle.hall.proofs.Hall.settle.Kinds as kinds
+use Rattle.hall.proofs.Hall.settle.Reads as settle
+use Rattle.hall.proofs.Hall.reading.Reads as reads-at
+use Rattle.hall.proofs.Hall.new.Statement as new-states
+use Rattle.hall.proofs.Hall.set_up.Statement as set-up-states
+use Rattle.hall.proofs.Hall.register.Statement as register-states
+use Rattle.hall.proofs.Hall.register_for.Statement as register-for-states
+use Rattle.hall.proofs.Hall.open.Statement as open-states
+use Rattle.hall.proofs.Hall.offer.Statement as offer-states
+use Rattle.hall.proofs.Hall.lodge.Statement as lodge-states
+use Rattle.hall.proofs.Hall.cancel.Statement as cancel-states
+use Rattle.hall.proofs.Hall.close.Statement as close-states
+use Rattle.hall.proofs.Hall.settle.Statement as settle-states
+use Rattle.hall.proofs.Hall.preview_closing.Statement as preview-states
+use Rattle.hall.proofs.Hall.supply_point.Statement as supply-point-states
+use Rattle.hall.proofs.Hall.who_can_force.Statement as who-can-force-states
+use Rattle.hall.proofs.Hall.reading.Statement as reading-states
+use Rattle.hall.proofs.Hall.new.Met as new-met
+use Rattle.hall.proofs.Hall.set_up.Met as set-up-met
+use Rattle.hall.proofs.Hall.register.Met as register-met
+use Rattle.hall.proofs.Hall.register_for.Met as register-for-met
+use Rattle.hall.proofs.Hall.open.Met as open-met
+use Rattle.hall.proofs.Hall.offer.Met as offer-met
+use Rattle.hall.proofs.Hall.lodge.Met as lodge-met
+use Rattle.hall.proofs.Hall.cancel.Met as cancel-met
+use Rattle.hall.proofs.Hall.close.Met as close-met
+use Rattle.hall.proofs.Hall.settle.Met as settle-met
+use Rattle.hall.proofs.Hall.preview_closing.Met as preview-met
+use Rattle.hall.proofs.Hall.supply_point.Met as supply-point-met
+use Rattle.hall.proofs.Hall.who_can_force.Met as who-can-force-met
+use Rattle.hall.proofs.Hall.reading.Met as reading-met
+use Rattle.theorem.specs.EveryList.{Run, reached}
+use Rattle.theorem.specs.HallRuns.{MadeThrough, by-hall-contract, HallRun, hall-reached, SeatedRun, permitted-run, entries-answered, seated}
+
+-- r is what the seat s reads in the hall h, as the method's own contract has it
+abbrev pub ReadsAt : Hall → Seat → Reading → Type 0
+ReadsAt h s r = reads-at.Post tt (h, (s, tt)) r (h, (s, tt))
+
+-- each call through a seat, in every model
+pub record HallMeets (M : Type 1) : Type 2 where
+  pub new-meets : new-states.statement M
+  pub set-up-meets : set-up-states.statement M
+  pub register-meets : register-states.statement M
+  pub register-for-meets : register-for-states.statement M
+  pub open-meets : open-states.statement M
+  pub offer-meets : offer-states.statement M
+  pub lodge-meets : lodge-states.statement M
+  pub cancel-meets : cancel-states.statement M
+  pub close-meets : close-states.statement M
+  pub settle-meets : settle-states.statement M
+  pub preview-meets : preview-states.statement M
+  pub supply-point-meets : supply-point-states.statement M
+  pub who-can-force-meets : who-can-force-states.statement M
+  pub reading-meets : reading-states.statement M
+
+pub record SeatsStated (M : Type 1) : Type 2 where
+  pub meets : HallMeets M
+  -- a run through seats: the hall holds its ledger, the answers are the definitions', and so is what each seat reads; a call without the right is
+  -- refused by 20, whatever the hall, which stays
+  pub held : {ms : List Seated} {rs : List Answered} {h : Hall} → HallRun ms rs h → h ≡ hallOf (hallLedger ms)
+  pub answered : {ms : List Seated} {rs : List Answered} {h : Hall} → HallRun ms rs h → rs ≡ hallAnswers ms
+  pub read :
+      {ms : List Seated} {rs : List Answered} {h : Hall} (s : Seat) (r : Reading) → HallRun ms rs h → ReadsAt h s r →
+      r ≡ shownReading (reading (hallLedger ms) (seatOf s))
+  pub barred : {s : Seat} {c : Call} {h k : Hall} {r : Answered} → MadeThrough s c h r k → mayMake (seatOf s) c ≡ false → (k ≡ h) × (r ≡ numberAlone 20)
+  -- WHAT A DEVELOPER CAN LEARN: two runs that give developer n equal views tell it the same at every point of them; and so do the engine's own
+  -- readings behind them and its answers to n's calls. As each part of a run from its start is a run, that is so at every point
+  pub by-view : ByViewAlone
+  pub learns :
+      (n : ℕ) {ms ms′ : List Seated} {rs rs′ : List Answered} {h h′ : Hall} (r r′ : Reading) → view n ms ≡ view n ms′ →
+      HallRun ms rs h → HallRun ms′ rs′ h′ → ReadsAt h (Developer n) r → ReadsAt h′ (Developer n) r′ →
+      (r ≡ r′) × (ownAnswers n ms rs ≡ ownAnswers n ms′ rs′)
+  -- what shows it nothing leaves what it reads; others' offers, cancellations, lodged lists and registrations show it nothing; and the published
+  -- values change by accepted set-ups, openings and closings, by each of them, and by nothing else
+  pub still : StillBetween
+  pub unseen : OthersUnseen
+  pub clock : ClockAlone
+  -- SETTLING THROUGH A SEAT: lists that hold calls on the auction and calls through seats reach the auction that the list without what 20 refused
+  -- reaches, so that all that is stated of such lists holds of it; each call is answered as there, or by 20; settling through a seat that may is as
+  -- stated of that list, and through another is refused by 20 and leaves the buffer
+  pub list : {es : List Entry} {rs : List Answered} {a : Auction} → SeatedRun es rs a → Run (permitted es) (answers (permitted es)) a
+  pub list-answered : {es : List Entry} {rs : List Answered} {a : Auction} → SeatedRun es rs a → rs ≡ entryAnswers es
+  pub list-of-run : {ms : List Seated} {rs : List Answered} {h : Hall} → HallRun ms rs h → SeatedRun (throughSeats ms) rs (h .auction)
+  -- the arguments x: the hall, the seat, the limit, the buffer; y: the same at the call's end
+  pub settles :
+      {es : List Entry} {rs : List Answered} (κs : Lfts 1) (x : ArgsD signature κs) (r : Settled) (y : AtExit (endedOf 1 kinds.ps kinds.r) κs) →
+      SeatedRun es rs (x .0 .auction) → maySettle (seatOf (x .1 .0)) ≡ true → settle.Post κs x r y →
+      Stated (ledger (permitted es)) (x .1 .1 .0) (now (x .1 .1 .1 .0)) (now (y .1 .1 .1 .0)) r
+  pub settling-barred :
+      (κs : Lfts 1) (x : ArgsD signature κs) (r : Settled) (y : AtExit (endedOf 1 kinds.ps kinds.r) κs) →
+      maySettle (seatOf (x .1 .0)) ≡ false → settle.Post κs x r y → (r ≡ refusedWith 20) × (now (y .1 .1 .1 .0) ≡ now (x .1 .1 .1 .0))
+
+hall-meets : {M : Type 1} → HallMeets M
+hall-meets = record {
+  new-meets = new-met.met;
+  set-up-meets = set-up-met.met;
+  register-meets = register-met.met;
+  register-for-meets = register-for-met.met;
+  open-meets = open-met.met;
+  offer-meets = offer-met.met;
+  lodge-meets = lodge-met.met;
+  cancel-meets = cancel-met.met;
+  close-meets = close-met.met;
+  settle-meets = settle-met.met;
+  preview-meets = preview-met.met;
+  supply-point-meets = supply-point-met.met;
+  who-can-force-meets = who-can-force-met.met;
+  reading-meets = reading-met.met;
+}
+
+module _ {ms : List Seated} {rs : List Answered} {h : Hall} (s : Seat) (r : Reading) (w : HallRun ms rs h) (q : ReadsAt h s r) where
+  read-in : r ≡ shownReading (reading (hallLedger ms) (seatOf s))
+  read-in =
+      let e = hall-reached w .0 in
+      q .right (permitted (throughSeats ms)) (ap (λ (y : Hall). y .auction) e ∙ ap auctionOf (hall-is ms))
+      ∙ ap (λ (x : HallLedger). shownReading (reading x (seatOf s)))
+      (ap₂ (λ (l : Ledger) (y : Hall). record { ledger = l; excess = y .excess }) (sym (hall-is ms)) e)
+
+pub seats-stated : {M : Type 1} → SeatsStated M
+seats-stated = record {
+  meets = hall-meets;
+  held = λ w. hall-reached w .0;
+  answered = λ w. hall-reached w .1;
+  read = λ s r w q. read-in s r w q;
+  barred = λ m e. by-hall-contract m .barred e;
+  by-view = by-view-alone;
+  learns = λ n {ms} {ms′} r r′ e w w′ q q′.
+      let k = by-view-alone n ms ms′ e in (
+        read-in (Developer n) r w q ∙ ap shownReading (k .behind) ∙ sym (read-in (Developer n) r′ w′ q′),
+        ap (ownAnswers n ms) (hall-reached w .1) ∙ same-answers n ms ms′ (k .points) ∙ sym (ap (ownAnswers n ms′) (hall-reached w′ .1)),
+      );
+  still = still-between;
+  unseen = others-unseen;
+  clock = clock-alone;
+  list = permitted-run;
+  list-answered = entries-answered;
+  list-of-run = seated;
+  settles = λ {es} κs x r y w e s. stated (permitted es) (x .0 .auction) (x .1 .1 .0) (now (x .1 .1 .1 .0)) (now (y .1 .1 .1 .0)) r (reached (permitted-run w) .0) (s .made e);
+  settling-barred = λ κs x r y e s. s .barred e;
+}
