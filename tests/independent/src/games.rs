@@ -47,16 +47,24 @@ pub fn question(seed: u64) -> Question {
         _ => stopped_elsewhere(random, &record(seed)),
     };
     let auction = auction_after(&record);
-    let [first, second] = rivals(random, &auction);
-    let mut asked = Question {
-        prices: prices(random, &auction, [first, second]),
+    Question {
         record,
+        ..about(random, &auction)
+    }
+}
+
+/// A question about the auction, whatever record it is of.
+pub fn about(random: &mut Random, auction: &Auction) -> Question {
+    let [first, second] = rivals(random, auction);
+    let mut asked = Question {
+        prices: prices(random, auction, [first, second]),
+        record: Vec::new(),
         first: first.into(),
         second: second.into(),
         buffer: random.one_of(&[1, 1, 1, 1, 1, 1, 1, 2, 7, 64, 0]),
     };
     for _ in 0..random.one_of(&[0, 0, 0, 0, 0, 0, 1, 1, 1, 2]) {
-        spoiled::spoil(random, &auction, &mut asked);
+        spoiled::spoil(random, auction, &mut asked);
     }
     asked
 }

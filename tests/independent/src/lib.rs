@@ -11,6 +11,7 @@ mod demand;
 pub mod direct;
 pub mod forcing;
 pub mod games;
+pub mod hall;
 pub mod lent;
 pub mod parts;
 pub mod program;
@@ -75,6 +76,8 @@ pub const NO_SUCH_GAME: u8 = 17;
 pub const SEALED_OUT_OF_BOUNDS: u8 = 18;
 /// Refusal 19: a sealed offer's price above the ceiling.
 pub const ABOVE_THE_CEILING: u8 = 19;
+/// Refusal 20: a call that the seat has no right to make.
+pub const NO_RIGHT: u8 = 20;
 
 /// The one number of 64 bits that a C host gets: for a refusal, 2^64 less its number.
 pub fn host_number(answer: Answer) -> u64 {

@@ -14,8 +14,8 @@ pub mod fixed;
 mod late;
 mod lodgings;
 mod long;
-mod offers;
-mod refused;
+pub(crate) mod offers;
+pub(crate) mod refused;
 
 use crate::auction::{Auction, Phase};
 use crate::parts::in_parts;

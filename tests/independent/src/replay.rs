@@ -8,8 +8,8 @@ mod writing;
 use crate::auction::{Auction, Closing};
 use crate::settling::Settlement;
 use crate::{host_number, BUFFER_TOO_SHORT, MALFORMED_LINE};
+pub(crate) use frames::{call_of, narrow, row, Row, KIND_WIDTH, ROWS};
 pub use frames::{lines, next_line, read_call, Call, LONGEST_LINE};
-pub(crate) use frames::{row, Row, KIND_WIDTH, ROWS};
 use writing::digits;
 pub use writing::{
     causes, fields, frame, frame_length, kind_of, write_call, write_frame, Cause, Fields,

@@ -10,6 +10,7 @@ mod curve;
 mod fixed;
 mod forcing;
 mod frames;
+mod hall;
 mod lodging;
 mod participation;
 mod properties;

@@ -153,7 +153,7 @@ fn affordable_steps(
 }
 
 /// Other steps for a developer who takes its offer back: none, or some at any prices.
-pub(super) fn other_offer(random: &mut Random, round: &Round, developer: &Developer) -> Call {
+pub(crate) fn other_offer(random: &mut Random, round: &Round, developer: &Developer) -> Call {
     let prices = some_prices(random, round, &[0, 1, 1, 2, MOST_STEPS]);
     let (prices, levels) = some_steps(random, developer, prices).into_iter().unzip();
     Call::Offer {
@@ -172,7 +172,7 @@ fn some_prices(random: &mut Random, round: &Round, counts: &[usize]) -> Vec<u32>
 }
 
 /// Sound steps at some of the prices, falling to some of the levels below the quantity.
-pub(super) fn some_steps(
+pub(crate) fn some_steps(
     random: &mut Random,
     developer: &Developer,
     mut prices: Vec<u32>,

@@ -173,7 +173,7 @@ pub fn read_call(line: &[u8]) -> Option<Call> {
             numbers.extend(take_fields(&mut rest, row.item)?);
         }
     }
-    rest.is_empty().then(|| call(kind, &numbers))
+    rest.is_empty().then(|| call_of(kind, &numbers))
 }
 
 fn take_fields(rest: &mut &[u8], fields: &[Field]) -> Option<Vec<u64>> {
@@ -201,13 +201,13 @@ fn digit_value(digit: u8) -> Option<u8> {
 }
 
 /// A number in a type at least as wide as its field.
-fn narrow<T: TryFrom<u64>>(number: u64) -> T {
+pub(crate) fn narrow<T: TryFrom<u64>>(number: u64) -> T {
     let narrowed = T::try_from(number).ok();
     narrowed.expect("a number no wider than its field")
 }
 
 /// The call of a frame's numbers, which stand in the order of the table.
-fn call(kind: u8, numbers: &[u64]) -> Call {
+pub(crate) fn call_of(kind: u8, numbers: &[u64]) -> Call {
     match (kind, numbers) {
         (SET_UP, &[ce, d, m1, m2, a]) => Call::SetUp { ce, d, m1, m2, a },
         (REGISTRATION, [project, developer, kind, rest @ ..]) => {

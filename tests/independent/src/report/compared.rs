@@ -1,8 +1,10 @@
-//! Calls with lent buffers, compared under one name: what they show, and the first difference.
+//! Calls with lent buffers, or other things, compared under one name: what they show, and the first
+//! difference.
 
 use super::features::{Feature, Features};
-use super::inputs;
+use super::{add, inputs};
 use crate::parts::in_parts;
+use std::collections::BTreeMap;
 
 /// A title, the calls that are looked at under it, and the features counted among them.
 pub type Kind<T> = (&'static str, fn(&T) -> bool, &'static [Feature<T>]);
@@ -10,6 +12,10 @@ pub type Kind<T> = (&'static str, fn(&T) -> bool, &'static [Feature<T>]);
 pub struct Compared<T: 'static> {
     name: &'static str,
     calls: u64,
+    /// What they are called.
+    noun: &'static str,
+    /// Sums by their names, besides.
+    sums: BTreeMap<&'static str, u64>,
     kinds: &'static [Kind<T>],
     shown: Vec<Features<T>>,
     difference: Option<String>,
@@ -20,33 +26,48 @@ impl<T> Compared<T> {
         Compared {
             name,
             calls: 0,
+            noun: "calls",
+            sums: BTreeMap::new(),
             kinds,
             shown: kinds.iter().map(|(.., of)| Features::new(of)).collect(),
             difference: None,
         }
     }
 
-    /// The calls of so many seeds from 0 on, or of a hundredth of them where few are enough.
+    /// Things of another name instead of calls.
+    pub fn counting(self, noun: &'static str) -> Compared<T> {
+        Compared { noun, ..self }
+    }
+
+    /// The calls of so many seeds.
     pub fn generated(
         kinds: &'static [Kind<T>],
         seeds: u64,
         compare: impl Fn(&mut Compared<T>, u64) + Sync,
     ) -> Compared<T> {
+        Compared::new("generated", kinds).with(seeds, compare)
+    }
+
+    /// With the calls of so many seeds from 0 on, or of a hundredth of them where few are enough.
+    pub fn with(
+        mut self,
+        seeds: u64,
+        compare: impl Fn(&mut Compared<T>, u64) + Sync,
+    ) -> Compared<T> {
         let seeds: Vec<u64> = (0..inputs(seeds)).collect();
-        let new = || Compared::new("generated", kinds);
         let parts = in_parts(&seeds, |seeds| {
-            let mut part = new();
+            let mut part = Compared::new(self.name, self.kinds);
             seeds.iter().for_each(|seed| compare(&mut part, *seed));
             part
         });
-        let mut compared = new();
-        parts.into_iter().for_each(|part| compared.join(part));
-        compared
+        parts.into_iter().for_each(|part| self.join(part));
+        self
     }
 
     /// With the calls of another one behind its own.
     fn join(&mut self, other: Compared<T>) {
         self.calls += other.calls;
+        add(&mut self.sums, other.sums);
         for (own, others) in std::iter::zip(&mut self.shown, &other.shown) {
             own.join(others);
         }
@@ -62,6 +83,11 @@ impl<T> Compared<T> {
         }
     }
 
+    /// Adds to the sum of this name.
+    pub fn add(&mut self, name: &'static str, count: usize) {
+        *self.sums.entry(name).or_default() += count as u64;
+    }
+
     /// Keeps the first difference.
     pub fn differ(&mut self, text: impl FnOnce() -> String) {
         self.difference.get_or_insert_with(text);
@@ -70,7 +96,15 @@ impl<T> Compared<T> {
     /// Prints the lines of these calls; true if nothing differed.
     pub fn report(&self) -> bool {
         let verdict = self.difference.as_deref().unwrap_or("ok");
-        println!("{}: {} calls: {verdict}", self.name, self.calls);
+        let sums = self
+            .sums
+            .iter()
+            .map(|(name, sum)| format!(", {sum} {name}"));
+        let sums: String = sums.collect();
+        println!(
+            "{}: {} {}{sums}: {verdict}",
+            self.name, self.calls, self.noun
+        );
         for ((title, ..), shown) in std::iter::zip(self.kinds, &self.shown) {
             shown.print(title);
         }
