@@ -1,22 +1,14 @@
 -- A call through a seat, by the test of its right: barred, or the auction's own.
 use mathlib.Core.Path.{_≡_, refl, sym, _∙_}
-use mathlib.Core.Bool.{Bool, true, false, not, false≢true}
-use borrow.Author.Tests.{not-true, not-false}
+use mathlib.Core.Bool.{Bool, true, false, not}
 use Rattle.rules.specs.Ledger.{Call}
 use Rattle.rules.specs.Rounds.{Answered, numberAlone}
 use Rattle.seats.specs.Seats.{Seat, isOfferOrCancellation, mayMake, mayLook, latestExcess}
 use Rattle.seats.specs.SeatLaws.{conducted}
+use Rattle.seat_rights.specs.RightLaws.{no-right, has-right}
 use Rattle.auction.specs.Called.{Called}
 use Rattle.hall.specs.Through.{CalledThrough}
 use Rattle.hall.specs.declared.Hall.{Hall}
-
--- where the test of a right failed there is no right, and where it held no lack of it
-module _ {A : Type 0} {right : Bool} (b : Bool) (e : b ≡ right) where
-  pub no-right : not b ≡ true → right ≡ true → A
-  no-right t w = absurd (false≢true (sym (not-true b t) ∙ e ∙ w))
-
-  pub has-right : not b ≡ false → right ≡ false → A
-  has-right t w = absurd (false≢true (sym w ∙ sym e ∙ not-false b t))
 
 -- one test serves all calls but offers and cancellations
 pub conducts : (s : Seat) (c : Call) {b : Bool} → b ≡ mayLook s → isOfferOrCancellation c ≡ false → b ≡ mayMake s c

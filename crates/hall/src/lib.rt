@@ -1,19 +1,15 @@
-// The auction hall (document 02, 14): the auction with the excess of its latest closing, and every call through a seat. A call that the seat has
-// no right to make is refused by 20 before every other check and leaves the hall as it is; otherwise it is the auction's own call
-// (specs/Through.antt).
+// The auction hall (document 02, 14): the auction with the excess of its latest closing, and the calls that change it, each through a seat. A call
+// that the seat has no right to make is refused by 20 before every other check and leaves the hall as it is; otherwise it is the auction's own
+// call (specs/Through.antt).
 ghost use mathlib.Core.Path.{_≡_};
 ghost use Rattle.rules.specs.Ledger.{Open, By, Offer, Lodge, Cancel};
 ghost use Rattle.seats.specs.Seats.{freshHall};
 ghost use Rattle.seat_rights.specs.Rights.{seatOf};
 ghost use Rattle.auction.specs.Called.{setsUp, registers, registersFor};
-ghost use Rattle.hall.specs.Through.{hallOf, AnswersThrough, ClosesThrough, barredAnswer, answeredWith, SettlesThrough, PreviewsThrough, ReadsCurveThrough, ForcesThrough, ReadsThrough};
+ghost use Rattle.hall.specs.Through.{hallOf, AnswersThrough, ClosesThrough, barredAnswer, answeredWith};
 use auction::Answer;
 use auction::Auction;
-use forcing::Forced;
-use readings::Preview;
-use seat_readings::Reading;
 use seat_rights::Seat;
-use settling::Settled;
 
 pub struct Hall {
     pub auction: Auction,
@@ -32,15 +28,6 @@ pub struct HallClosing {
     pub excess: i64,
     pub remainder: u32,
     pub hall: Hall,
-}
-
-// 0 or a refusal's number, the number of points of the supply curve, and the one at a place, zero past the end.
-pub struct CurvePoint {
-    pub number: u8,
-    pub entries: usize,
-    pub price: u32,
-    pub before: u64,
-    pub after: u64,
 }
 
 impl Hall {
@@ -195,70 +182,5 @@ impl Hall {
             remainder: closing.remainder,
             hall: next,
         }
-    }
-
-    pub fn settle(self, seat: Seat, limit: u32, awards: &mut [u8]) -> Settled
-        ensures { λ r. ⌜ SettlesThrough (seatOf seat) self limit (now (awards .entry)) (now (awards .exit)) r ⌝ }
-    {
-        if !seat_rights::settles(seat) {
-            return settling::refused(Hall::NO_RIGHT);
-        }
-        settling::settle(self.auction, limit, awards)
-    }
-
-    pub fn preview_closing(self, seat: Seat) -> Preview
-        ensures { λ r. ⌜ PreviewsThrough (seatOf seat) self r ⌝ }
-    {
-        if !seat_rights::conducts(seat) {
-            return Preview {
-                number: Hall::NO_RIGHT,
-                excess: 0,
-                remainder: 0,
-                closed: false,
-            };
-        }
-        readings::preview_closing(self.auction)
-    }
-
-    pub fn supply_point(self, seat: Seat, place: usize) -> CurvePoint
-        ensures { λ r. ⌜ ReadsCurveThrough (seatOf seat) self place r ⌝ }
-    {
-        if !seat_rights::conducts(seat) {
-            return CurvePoint {
-                number: Hall::NO_RIGHT,
-                entries: 0,
-                price: 0,
-                before: 0,
-                after: 0,
-            };
-        }
-        let point = readings::supply_point(self.auction, place);
-        CurvePoint {
-            number: 0,
-            entries: point.entries,
-            price: point.price,
-            before: point.before,
-            after: point.after,
-        }
-    }
-
-    pub fn who_can_force(self, seat: Seat, first: u64, second: u64, prices: &[u64]) -> Forced
-        ensures { λ r. ⌜ ForcesThrough (seatOf seat) self first second (now (prices .entry)) r ⌝ }
-    {
-        if !seat_rights::conducts(seat) {
-            return Forced {
-                number: Hall::NO_RIGHT,
-                outcome: 0,
-                withdraws: false,
-            };
-        }
-        forcing::who_can_force(self.auction, first, second, prices)
-    }
-
-    // What the seat reads: every seat may.
-    pub fn reading(self, seat: Seat) -> Reading
-        ensures { λ r. ⌜ ReadsThrough (seatOf seat) self r ⌝ }
-    {
-        seat_readings::read_from(self.auction, self.excess, seat)
     }
 }

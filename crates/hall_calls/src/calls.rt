@@ -83,7 +83,7 @@ fn close(hall: Hall, seat: Seat) -> Hall {
 
 // Settles with this buffer for the awards.
 fn settle_in(hall: Hall, seat: Seat, limit: u32, awards: &mut [u8]) {
-    let settled = hall.settle(seat, limit, awards);
+    let settled = hall_readings::settle(hall, seat, limit, awards);
     write_settled(settled, awards);
 }
 
@@ -96,7 +96,7 @@ fn settle(hall: Hall, seat: Seat, limit: u32, lent: u32) -> Hall {
 }
 
 fn preview(hall: Hall, seat: Seat) -> Hall {
-    let preview = hall.preview_closing(seat);
+    let preview = hall_readings::preview_closing(hall, seat);
     write_number(preview.number as u64);
     write_signed(preview.excess);
     write_word(preview.remainder);
@@ -105,7 +105,7 @@ fn preview(hall: Hall, seat: Seat) -> Hall {
 }
 
 fn supply_point(hall: Hall, seat: Seat, place: usize) -> Hall {
-    let point = hall.supply_point(seat, place);
+    let point = hall_readings::supply_point(hall, seat, place);
     write_number(point.number as u64);
     write_number(point.entries as u64);
     write_word(point.price);
@@ -120,7 +120,7 @@ fn who_can_force(hall: Hall, seat: Seat, line: Line) -> Hall {
     let second = n[4];
     let count = count(n[5]);
     let prices = wide_part(&n, 6, count);
-    let forced = hall.who_can_force(seat, first, second, prices);
+    let forced = hall_readings::who_can_force(hall, seat, first, second, prices);
     write_number(forced.number as u64);
     write_word(forced.outcome);
     write_mark(forced.withdraws);
@@ -173,6 +173,6 @@ pub fn made(hall: Hall, line: Line) -> Hall {
     }
     let seat = seat_of(n[0], n[1]);
     let next = called(hall, seat, kind, line);
-    write_reading(next.reading(seat));
+    write_reading(hall_readings::read(next, seat));
     next
 }

@@ -30,10 +30,10 @@ use Rattle.seat_readings.specs.Shown.{shownReading}
 use Rattle.seat_readings.specs.declared.Reading.{Reading}
 use Rattle.hall.specs.Through.{hallOf}
 use Rattle.hall.specs.declared.Hall.{Hall}
-use Rattle.hall.proofs.Hall.settle.{signature}
-use Rattle.hall.proofs.Hall.settle.Kinds as kinds
-use Rattle.hall.proofs.Hall.settle.Reads as settle
-use Rattle.hall.proofs.Hall.reading.Reads as reads-at
+use Rattle.hall_readings.proofs.settle.{signature}
+use Rattle.hall_readings.proofs.settle.Kinds as kinds
+use Rattle.hall_readings.proofs.settle.Reads as settle
+use Rattle.hall_readings.proofs.read.Reads as reads-at
 use Rattle.hall.proofs.Hall.new.Statement as new-states
 use Rattle.hall.proofs.Hall.set_up.Statement as set-up-states
 use Rattle.hall.proofs.Hall.register.Statement as register-states
@@ -43,11 +43,11 @@ use Rattle.hall.proofs.Hall.offer.Statement as offer-states
 use Rattle.hall.proofs.Hall.lodge.Statement as lodge-states
 use Rattle.hall.proofs.Hall.cancel.Statement as cancel-states
 use Rattle.hall.proofs.Hall.close.Statement as close-states
-use Rattle.hall.proofs.Hall.settle.Statement as settle-states
-use Rattle.hall.proofs.Hall.preview_closing.Statement as preview-states
-use Rattle.hall.proofs.Hall.supply_point.Statement as supply-point-states
-use Rattle.hall.proofs.Hall.who_can_force.Statement as who-can-force-states
-use Rattle.hall.proofs.Hall.reading.Statement as reading-states
+use Rattle.hall_readings.proofs.settle.Statement as settle-states
+use Rattle.hall_readings.proofs.preview_closing.Statement as preview-states
+use Rattle.hall_readings.proofs.supply_point.Statement as supply-point-states
+use Rattle.hall_readings.proofs.who_can_force.Statement as who-can-force-states
+use Rattle.hall_readings.proofs.read.Statement as reading-states
 use Rattle.hall.proofs.Hall.new.Met as new-met
 use Rattle.hall.proofs.Hall.set_up.Met as set-up-met
 use Rattle.hall.proofs.Hall.register.Met as register-met
@@ -57,11 +57,11 @@ use Rattle.hall.proofs.Hall.offer.Met as offer-met
 use Rattle.hall.proofs.Hall.lodge.Met as lodge-met
 use Rattle.hall.proofs.Hall.cancel.Met as cancel-met
 use Rattle.hall.proofs.Hall.close.Met as close-met
-use Rattle.hall.proofs.Hall.settle.Met as settle-met
-use Rattle.hall.proofs.Hall.preview_closing.Met as preview-met
-use Rattle.hall.proofs.Hall.supply_point.Met as supply-point-met
-use Rattle.hall.proofs.Hall.who_can_force.Met as who-can-force-met
-use Rattle.hall.proofs.Hall.reading.Met as reading-met
+use Rattle.hall_readings.proofs.settle.Met as settle-met
+use Rattle.hall_readings.proofs.preview_closing.Met as preview-met
+use Rattle.hall_readings.proofs.supply_point.Met as supply-point-met
+use Rattle.hall_readings.proofs.who_can_force.Met as who-can-force-met
+use Rattle.hall_readings.proofs.read.Met as reading-met
 use Rattle.theorem.specs.EveryList.{Run, reached}
 use Rattle.theorem.specs.HallRuns.{MadeThrough, by-hall-contract, HallRun, hall-reached, SeatedRun, permitted-run, entries-answered, seated}
 

@@ -25,11 +25,12 @@ use Rattle.seats.specs.Seats as seats
 use Rattle.seats.specs.Seats.{mayMake, maySettle}
 use Rattle.seats.specs.SeatLaws.{refused-excess}
 use Rattle.seat_rights.specs.declared.Seat.{Seat}
-use Rattle.hall.specs.Through.{CalledThrough, SettlesThrough}
+use Rattle.hall.specs.Through.{CalledThrough}
 use Rattle.hall.specs.declared.Hall.{Hall}
-use Rattle.hall.proofs.Hall.settle.{signature as hall-signature}
-use Rattle.hall.proofs.Hall.settle.Kinds as hall-kinds
-use Rattle.hall.proofs.Hall.settle.Reads as hall-settle
+use Rattle.hall_readings.specs.Looks.{SettlesThrough}
+use Rattle.hall_readings.proofs.settle.{signature as hall-signature}
+use Rattle.hall_readings.proofs.settle.Kinds as hall-kinds
+use Rattle.hall_readings.proofs.settle.Reads as hall-settle
 use Rattle.theorem.specs.EveryList.{Made, by-contract}
 use Rattle.theorem.specs.HallRuns.{MadeThrough, by-hall-contract}
 

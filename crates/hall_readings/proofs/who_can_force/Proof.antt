@@ -1,9 +1,9 @@
 -- The question who can force the price: barred, or the auction's.
 use mathlib.Core.Path.{refl}
 use borrow.Author.Needs.{needs}
-use Rattle.hall.proofs.Calls.{no-right, has-right}
-use Rattle.hall.proofs.Hall.who_can_force.Statement.{statement}
-use Rattle.hall.proofs.Hall.who_can_force.Tie as tie
+use Rattle.seat_rights.specs.RightLaws.{no-right, has-right}
+use Rattle.hall_readings.proofs.who_can_force.Statement.{statement}
+use Rattle.hall_readings.proofs.who_can_force.Tie as tie
 
 conducts-requires : tie.Need-conducts-requires
 conducts-requires c κs = search needs

@@ -1,9 +1,9 @@
 -- Settling: barred, with the buffer as it was, or the auction's.
 use mathlib.Core.Path.{refl}
 use borrow.Author.Needs.{needs}
-use Rattle.hall.proofs.Calls.{no-right, has-right}
-use Rattle.hall.proofs.Hall.settle.Statement.{statement}
-use Rattle.hall.proofs.Hall.settle.Tie as tie
+use Rattle.seat_rights.specs.RightLaws.{no-right, has-right}
+use Rattle.hall_readings.proofs.settle.Statement.{statement}
+use Rattle.hall_readings.proofs.settle.Tie as tie
 
 settles-requires : tie.Need-settles-requires
 settles-requires c κs = search needs

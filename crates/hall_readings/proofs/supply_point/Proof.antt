@@ -1,9 +1,9 @@
 -- A point of the supply curve: barred, or the auction's.
 use mathlib.Core.Path.{refl}
 use borrow.Author.Needs.{needs}
-use Rattle.hall.proofs.Calls.{no-right, has-right}
-use Rattle.hall.proofs.Hall.supply_point.Statement.{statement}
-use Rattle.hall.proofs.Hall.supply_point.Tie as tie
+use Rattle.seat_rights.specs.RightLaws.{no-right, has-right}
+use Rattle.hall_readings.proofs.supply_point.Statement.{statement}
+use Rattle.hall_readings.proofs.supply_point.Tie as tie
 
 conducts-requires : tie.Need-conducts-requires
 conducts-requires c κs = search needs

@@ -1,0 +1,46 @@
+-- What the calls that leave the hall as it is ensure. `h` is the hall, `r` the answer, `s` the seat.
+use Prim.Native.Nat.{ℕ}
+use mathlib.Core.Path.{_≡_}
+use mathlib.Core.Bool.{true, false}
+use mathlib.Core.List.{List}
+use Rattle.rules.specs.Preview.{previewAlone}
+use Rattle.seats.specs.Seats.{Seat, maySettle, mayLook}
+use Rattle.readings.specs.Readings.{previewIn, Previews, ReadsCurve}
+use Rattle.readings.specs.declared.Preview.{Preview}
+use Rattle.readings.specs.declared.SupplyPoint.{SupplyPoint}
+use Rattle.forcing.specs.Forces.{refusedForcing, ForcesPrice}
+use Rattle.forcing.specs.declared.Forced.{Forced}
+use Rattle.settling.specs.Settles.{refusedWith, Settles}
+use Rattle.settling.specs.declared.Settled.{Settled}
+use Rattle.seat_readings.specs.Shown.{ReadsFrom}
+use Rattle.seat_readings.specs.declared.Reading.{Reading}
+use Rattle.hall.specs.declared.Hall.{Hall}
+use Rattle.hall_readings.specs.declared.CurvePoint.{CurvePoint}
+
+-- settling: without the right refused by 20, every other number 0, the buffer as it was; with it, as settling the auction
+pub record SettlesThrough (s : Seat) (h : Hall) (limit : ℕ) (old new : List ℕ) (r : Settled) : Type 0 where
+  pub barred : maySettle s ≡ false → (r ≡ refusedWith 20) × (new ≡ old)
+  pub made : maySettle s ≡ true → Settles (h .auction) limit old new r
+
+-- the other calls: likewise
+pub record PreviewsThrough (s : Seat) (h : Hall) (r : Preview) : Type 0 where
+  pub barred : mayLook s ≡ false → previewIn r ≡ previewAlone 20
+  pub made : mayLook s ≡ true → Previews (h .auction) r
+
+abbrev pub noCurvePoint : ℕ → CurvePoint
+noCurvePoint n = record { number = n; entries = 0; price = 0; before = 0; after = 0 }
+
+abbrev pub curvePointIn : CurvePoint → SupplyPoint
+curvePointIn r = record { entries = r .entries; price = r .price; before = r .before; after = r .after }
+
+pub record ReadsCurveThrough (s : Seat) (h : Hall) (place : ℕ) (r : CurvePoint) : Type 0 where
+  pub barred : mayLook s ≡ false → r ≡ noCurvePoint 20
+  pub made : mayLook s ≡ true → (r .number ≡ 0) × ReadsCurve (h .auction) place (curvePointIn r)
+
+pub record ForcesThrough (s : Seat) (h : Hall) (m n : ℕ) (ps : List ℕ) (r : Forced) : Type 0 where
+  pub barred : mayLook s ≡ false → r ≡ refusedForcing 20
+  pub made : mayLook s ≡ true → ForcesPrice (h .auction) m n ps r
+
+-- a reading: every seat has one
+abbrev pub ReadsThrough : Seat → Hall → Reading → Type 0
+ReadsThrough s h r = ReadsFrom (h .auction) (h .excess) s r

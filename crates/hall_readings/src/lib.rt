@@ -1,0 +1,84 @@
+// The calls through a seat that leave the hall as it is (document 02, 14): settling, and what a seat looks at. Without the right a call is refused
+// by 20; otherwise it is the auction's own (specs/Looks.antt).
+ghost use Rattle.seat_rights.specs.Rights.{seatOf};
+ghost use Rattle.hall_readings.specs.Looks.{SettlesThrough, PreviewsThrough, ReadsCurveThrough, ForcesThrough, ReadsThrough};
+use forcing::Forced;
+use hall::Hall;
+use readings::Preview;
+use seat_readings::Reading;
+use seat_rights::Seat;
+use settling::Settled;
+
+// 0 or a refusal's number, the number of points of the supply curve, and the one at a place, zero past the end.
+pub struct CurvePoint {
+    pub number: u8,
+    pub entries: usize,
+    pub price: u32,
+    pub before: u64,
+    pub after: u64,
+}
+
+pub fn settle(hall: Hall, seat: Seat, limit: u32, awards: &mut [u8]) -> Settled
+    ensures { λ r. ⌜ SettlesThrough (seatOf seat) hall limit (now (awards .entry)) (now (awards .exit)) r ⌝ }
+{
+    if !seat_rights::settles(seat) {
+        return settling::refused(Hall::NO_RIGHT);
+    }
+    settling::settle(hall.auction, limit, awards)
+}
+
+pub fn preview_closing(hall: Hall, seat: Seat) -> Preview
+    ensures { λ r. ⌜ PreviewsThrough (seatOf seat) hall r ⌝ }
+{
+    if !seat_rights::conducts(seat) {
+        return Preview {
+            number: Hall::NO_RIGHT,
+            excess: 0,
+            remainder: 0,
+            closed: false,
+        };
+    }
+    readings::preview_closing(hall.auction)
+}
+
+pub fn supply_point(hall: Hall, seat: Seat, place: usize) -> CurvePoint
+    ensures { λ r. ⌜ ReadsCurveThrough (seatOf seat) hall place r ⌝ }
+{
+    if !seat_rights::conducts(seat) {
+        return CurvePoint {
+            number: Hall::NO_RIGHT,
+            entries: 0,
+            price: 0,
+            before: 0,
+            after: 0,
+        };
+    }
+    let point = readings::supply_point(hall.auction, place);
+    CurvePoint {
+        number: 0,
+        entries: point.entries,
+        price: point.price,
+        before: point.before,
+        after: point.after,
+    }
+}
+
+pub fn who_can_force(hall: Hall, seat: Seat, first: u64, second: u64, prices: &[u64]) -> Forced
+    ensures { λ r. ⌜ ForcesThrough (seatOf seat) hall first second (now (prices .entry)) r ⌝ }
+{
+    if !seat_rights::conducts(seat) {
+        return Forced {
+            number: Hall::NO_RIGHT,
+            outcome: 0,
+            withdraws: false,
+        };
+    }
+    forcing::who_can_force(hall.auction, first, second, prices)
+}
+
+// What the seat reads: every seat may.
+pub fn read(hall: Hall, seat: Seat) -> Reading
+    ensures { λ r. ⌜ ReadsThrough (seatOf seat) hall r ⌝ }
+{
+    seat_readings::read_from(hall.auction, hall.excess, seat)
+}
