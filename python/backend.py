@@ -1,0 +1,79 @@
+"""Makes the package's wheel, for pip (PEP 517), with nothing but the standard library.
+
+An own backend, so that pip installs without a network: it would download any other.
+"""
+
+from __future__ import annotations
+
+import base64
+import hashlib
+import re
+import sysconfig
+import zipfile
+from pathlib import Path
+
+_ROOT = Path(__file__).resolve().parent
+_PACKAGE = _ROOT / "reference_engine"
+_NATIVE = ("libreference_engine.so", "trace")
+
+
+def _version() -> str:
+    text = (_PACKAGE / "__init__.py").read_text(encoding="utf-8")
+    found = re.search(r'^__version__ = "([0-9.]+)"$', text, re.MULTILINE)
+    if not found:
+        raise RuntimeError("reference_engine/__init__.py has no __version__")
+    return found[1]
+
+
+def _files() -> list[Path]:
+    native = [_PACKAGE / "native" / name for name in _NATIVE]
+    for path in native:
+        if not path.is_file():
+            raise RuntimeError(f"{path} is missing: run python/build in the checkout first")
+    return sorted(_PACKAGE.glob("*.py")) + native
+
+
+def _metadata() -> str:
+    text = (_ROOT / "pyproject.toml").read_text(encoding="utf-8")
+    stated = dict(re.findall(r'^([a-z-]+) = "(.*)"$', text, re.MULTILINE))
+    return (
+        f"Metadata-Version: 2.1\nName: {stated['name']}\nVersion: {_version()}\n"
+        f"Summary: {stated['description']}\nRequires-Python: {stated['requires-python']}\n"
+    )
+
+
+def _record(name: str, content: bytes) -> str:
+    digest = base64.urlsafe_b64encode(hashlib.sha256(content).digest()).rstrip(b"=").decode()
+    return f"{name},sha256={digest},{len(content)}\n"
+
+
+def build_wheel(
+    wheel_directory: str,
+    config_settings: object = None,
+    metadata_directory: str | None = None,
+) -> str:
+    """Writes the wheel into the folder and gives its name. Raises RuntimeError if not built."""
+    # The shared object is for this platform, and for any Python: ctypes loads it.
+    tag = "py3-none-" + re.sub(r"[-.]", "_", sysconfig.get_platform())
+    stem = f"reference_engine-{_version()}"
+    about = f"{stem}.dist-info"
+    made = f"Wheel-Version: 1.0\nGenerator: backend\nRoot-Is-Purelib: false\nTag: {tag}\n"
+    entries = [
+        (path.relative_to(_ROOT).as_posix(), path.stat().st_mode, path.read_bytes())
+        for path in _files()
+    ]
+    entries.append((f"{about}/METADATA", 0o100644, _metadata().encode()))
+    entries.append((f"{about}/WHEEL", 0o100644, made.encode()))
+    record = "".join(_record(name, content) for name, _, content in entries)
+    entries.append((f"{about}/RECORD", 0o100644, f"{record}{about}/RECORD,,\n".encode()))
+    with zipfile.ZipFile(Path(wheel_directory, f"{stem}-{tag}.whl"), "w") as wheel:
+        for name, mode, content in entries:
+            entry = zipfile.ZipInfo(name)
+            entry.external_attr = mode << 16
+            wheel.writestr(entry, content, zipfile.ZIP_DEFLATED)
+    return f"{stem}-{tag}.whl"
+
+
+def build_sdist(sdist_directory: str, config_settings: object = None) -> str:
+    """Refused: the library is proved and built in the checkout."""
+    raise RuntimeError("there is no source distribution: install from the checkout")

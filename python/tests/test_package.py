@@ -1,0 +1,86 @@
+"""The wheel that pip installs, made without pip and used from where it is unpacked."""
+
+from __future__ import annotations
+
+import base64
+import hashlib
+import os
+import subprocess
+import sys
+import tempfile
+import unittest
+import zipfile
+from pathlib import Path
+from unittest import mock
+
+ROOT = Path(__file__).resolve().parents[2]
+sys.path.insert(0, str(ROOT / "python"))
+import backend  # noqa: E402  beside the package, not in it
+import reference_engine  # noqa: E402
+
+
+class Wheel(unittest.TestCase):
+    def setUp(self) -> None:
+        folder = tempfile.TemporaryDirectory()
+        self.addCleanup(folder.cleanup)
+        self.folder = Path(folder.name)
+        self.name = backend.build_wheel(folder.name)
+        self.about = f"reference_engine-{reference_engine.__version__}.dist-info"
+
+    def test_name_and_version(self) -> None:
+        self.assertRegex(self.name, r"^reference_engine-[0-9.]+-py3-none-linux_\w+\.whl$")
+        with zipfile.ZipFile(self.folder / self.name) as wheel:
+            metadata = wheel.read(f"{self.about}/METADATA").decode()
+            made = wheel.read(f"{self.about}/WHEEL").decode()
+        self.assertIn("\nName: reference-engine\n", metadata)
+        self.assertIn(f"\nVersion: {reference_engine.__version__}\n", metadata)
+        self.assertIn("\nRequires-Python: >=3.10\n", metadata)
+        self.assertIn("-".join(self.name.removesuffix(".whl").split("-")[2:]), made)
+
+    def test_every_file_is_recorded(self) -> None:
+        with zipfile.ZipFile(self.folder / self.name) as wheel:
+            rows = wheel.read(f"{self.about}/RECORD").decode().splitlines()
+            recorded = {row.split(",")[0]: row.split(",")[1:] for row in rows}
+            self.assertEqual(sorted(recorded), sorted(wheel.namelist()))
+            self.assertEqual(recorded.pop(f"{self.about}/RECORD"), ["", ""])
+            for name, (digest, length) in recorded.items():
+                content = wheel.read(name)
+                found = base64.urlsafe_b64encode(hashlib.sha256(content).digest()).decode()
+                self.assertEqual(digest, "sha256=" + found.rstrip("="))
+                self.assertEqual(int(length), len(content))
+            trace = wheel.getinfo("reference_engine/native/trace").external_attr >> 16
+            self.assertTrue(trace & 0o100)
+        sources = {f"reference_engine/{path.name}" for path in backend._PACKAGE.glob("*.py")}
+        self.assertLess(sources, set(recorded))
+
+    def test_unpacked(self) -> None:
+        script = (
+            "import reference_engine as r; from reference_engine import library; "
+            "print(r.__file__, r.demand(20000, 1000, 900, 1200, 29999), library.traced(b'0g'))"
+        )
+        with zipfile.ZipFile(self.folder / self.name) as wheel:
+            wheel.extractall(self.folder)
+        (self.folder / "reference_engine/native/trace").chmod(0o755)  # zipfile drops modes
+        done = subprocess.run(
+            [sys.executable, "-c", script],
+            cwd=self.folder,
+            env={**os.environ, "PYTHONPATH": str(self.folder)},
+            capture_output=True,
+            text=True,
+            check=True,
+        )
+        place = self.folder / "reference_engine/__init__.py"
+        self.assertEqual(done.stdout, f"{place} 951 FF0C\n\n")
+
+    def test_not_built(self) -> None:
+        with mock.patch.object(backend, "_NATIVE", ("nothing.so",)):
+            with self.assertRaisesRegex(RuntimeError, "nothing.so is missing: run python/build"):
+                backend.build_wheel(str(self.folder))
+
+    def test_no_source_distribution(self) -> None:
+        with self.assertRaisesRegex(RuntimeError, "no source distribution"):
+            backend.build_sdist(str(self.folder))
+
+
+if __name__ == "__main__":
+    unittest.main()
