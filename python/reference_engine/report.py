@@ -1,0 +1,480 @@
+"""The command report: an auction as one self-contained HTML page, with figures as inline SVG."""
+
+from __future__ import annotations
+
+import argparse
+import sys
+from collections.abc import Iterable, Sequence
+from pathlib import Path
+
+from . import figures
+from .auction import Auction, Round, Settled, read_auction
+from .calls import NAMES, Cancellation, Lodging, Malformed, Offer, Registration, Step
+from .markup import Markup, element, escaped, joined, price, quantity
+from .record import Line, Record
+from .status import status_of
+
+_KINDS = {1: "existing", 2: "new"}
+_STEPS = "steps: US$ per MWh, kWh per day"
+_SHOWN = 200  # characters of a line; a frame has at most 160
+
+_STYLE = """
+body { font: 16px/1.45 sans-serif; color: #000; background: #fff; max-width: 56rem;
+  margin: 0 auto; padding: 1rem; overflow-wrap: anywhere; }
+h1 { font-size: 1.5rem; line-height: 1.2; }
+h2 { font-size: 1.2rem; margin-top: 2.2rem; border-bottom: 1px solid #000; }
+h3 { font-size: 1rem; margin-bottom: 0.3rem; }
+.wide { overflow-x: auto; }
+table { border-collapse: collapse; margin: 0.5rem 0; overflow-wrap: normal; }
+th, td { padding: 0.2rem 0.7rem; border-bottom: 1px solid #bbb; text-align: left;
+  vertical-align: top; }
+thead th { border-bottom: 2px solid #000; vertical-align: bottom; font-size: 0.9rem; }
+tbody th { font-weight: normal; }
+.number { text-align: right; font-variant-numeric: tabular-nums; white-space: nowrap; }
+thead .number { white-space: normal; }
+.together { white-space: nowrap; }
+.mark { position: absolute; }
+code { font-size: 0.85rem; white-space: pre-wrap; overflow-wrap: anywhere; }
+td code { display: block; min-width: 8rem; }
+figure { margin: 1rem 0; overflow-x: auto; }
+svg { display: block; width: 100%; min-width: 30rem; height: auto; }
+figcaption { font-size: 0.9rem; }
+.note { font-size: 0.9rem; }
+@media (max-width: 40rem) { body { padding: 0.5rem; } th, td { padding: 0.2rem 0.35rem; } }
+@media print { body { font-size: 10pt; max-width: none; padding: 0; }
+  .wide, figure { overflow-x: visible; } svg { min-width: 0; }
+  figure, tr { break-inside: avoid; } h2, h3 { break-after: avoid; } }
+"""
+
+
+def add_to(commands: "argparse._SubParsersAction[argparse.ArgumentParser]") -> None:
+    """Adds the command to the command line."""
+    parser = commands.add_parser(
+        "report",
+        help="an auction as one HTML page with figures",
+        description="Writes an auction as one self-contained HTML page: settings, registrations, "
+        "rounds, supply curve, settlement, refused lines. Exit status 1 where settling was asked "
+        "for and every time refused.",
+    )
+    parser.add_argument("record", metavar="RECORD", type=Path, help="the record's file")
+    parser.add_argument(
+        "-o",
+        "--output",
+        required=True,
+        metavar="PAGE",
+        help="the page's file; - for standard output",
+    )
+    parser.set_defaults(run=run)
+
+
+def run(chosen: argparse.Namespace) -> int:
+    """Writes the page and gives the exit status: 1 where every settling was refused, else 0."""
+    record: Path = chosen.record
+    auction = read_auction(Record.read(record))
+    written = page(auction, record.name).encode("utf-8")
+    if chosen.output == "-":
+        sys.stdout.buffer.write(written)
+        sys.stdout.buffer.flush()
+    else:
+        output = Path(chosen.output)
+        if output.exists() and output.samefile(record):
+            print(f"{output}: the page would replace the record", file=sys.stderr)
+            return 2
+        output.write_bytes(written)
+    return status_of(auction)
+
+
+def _reasons(auction: Auction) -> list[str]:
+    """Why settling failed, each refusal once, with the first line that got it."""
+    first: dict[int, str] = {}
+    for line in auction.refused:
+        if line.reply.kind == 0x06:
+            words = f"line {line.number}: settling {line.reply.refusal}"
+            first.setdefault(line.reply.number, words)
+    return list(first.values())
+
+
+def page(auction: Auction, name: str) -> str:
+    """The page of an auction whose record has the name."""
+    title = f"Auction report: {name}"
+    head = element(
+        "head",
+        element("meta", charset="utf-8"),
+        element("meta", name="viewport", content="width=device-width, initial-scale=1"),
+        element("title", title),
+        element("style", Markup(_STYLE)),
+    )
+    body = element(
+        "body",
+        element("h1", title),
+        _summary(auction),
+        *_section("Settings", _settings(auction)),
+        *_section("Registrations", _registrations(auction)),
+        *_section("Rounds", _rounds(auction)),
+        *_section("Withdrawals and supply curve", _curve(auction)),
+        *_section("Settlement", _settlements(auction)),
+        *_section("Refused and malformed lines", _refused(auction)),
+    )
+    root = element("html", head, "\n", body, xmlns="http://www.w3.org/1999/xhtml", lang="en")
+    return f"<!DOCTYPE html>\n{root}\n"
+
+
+# ---- parts of a page
+
+
+def _section(heading: str, parts: Iterable[Markup]) -> list[Markup]:
+    return [Markup("\n"), element("h2", heading), *parts]
+
+
+def _said(*words: str) -> Markup:
+    return element("p", *words)
+
+
+def _note(*words: str) -> Markup:
+    return element("p", *words, class_="note")
+
+
+def _cell(name: str, content: str, column: str) -> Markup:
+    """A cell; numbers stand in the columns whose heading starts with #."""
+    if column.startswith("#"):
+        return element(name, content, class_="number")
+    return element(name, content)
+
+
+def _table(columns: Sequence[str], rows: Iterable[Sequence[str]]) -> Markup:
+    """A table. A column whose heading starts with # is one of numbers, on the right."""
+    heads = (_cell("th", column.lstrip("#"), column) for column in columns)
+    body = (
+        joined("\n", element("tr", *(_cell("td", *pair) for pair in zip(row, columns))))
+        for row in rows
+    )
+    table = element("table", element("thead", element("tr", *heads)), element("tbody", *body))
+    return element("div", table, class_="wide")
+
+
+def _named(rows: Iterable[tuple[str, str, str]]) -> Markup:
+    """A table of names, figures and units."""
+    body = (
+        joined(
+            "\n",
+            element(
+                "tr",
+                element("th", name, scope="row"),
+                element("td", figure, class_="number"),
+                element("td", unit),
+            ),
+        )
+        for name, figure, unit in rows
+    )
+    return element("div", element("table", element("tbody", *body)), class_="wide")
+
+
+def _drawn(picture: Markup, caption: str) -> Markup:
+    return element("figure", picture, element("figcaption", caption))
+
+
+def _together(parts: Iterable[str]) -> Markup:
+    """A list that breaks its line only between its parts."""
+    listed = list(parts)
+    spans = [
+        element("span", part, ";" if place < len(listed) - 1 else "", class_="together")
+        for place, part in enumerate(listed)
+    ]
+    return Markup(" ".join(spans))
+
+
+def _steps(steps: Sequence[Step]) -> Markup:
+    if not steps:
+        return escaped("no steps")
+    return _together(f"at {price(step.price)} down to {quantity(step.level)}" for step in steps)
+
+
+def _yes(mark: bool | None, unknown: str) -> str:
+    return unknown if mark is None else "yes" if mark else "no"
+
+
+def _plural(number: int, one: str, many: str) -> str:
+    return f"{quantity(number)} {one if number == 1 else many}"
+
+
+def shown(line: bytes) -> Markup:
+    """A line's bytes, readable: what is no printable ASCII as \\xNN, a backslash doubled."""
+    if not line:
+        return element("em", "blank")
+    text = "".join(
+        "\\\\" if byte == 0x5C else chr(byte) if 0x20 <= byte < 0x7F else f"\\x{byte:02X}"
+        for byte in line[:_SHOWN]
+    )
+    if len(line) <= _SHOWN:
+        return element("code", text)
+    more = _plural(len(line) - _SHOWN, "byte", "bytes")
+    return joined(element("code", text), element("em", f"and {more} more"))
+
+
+# ---- sections
+
+
+def _summary(auction: Auction) -> Markup:
+    malformed = sum(isinstance(line.call, Malformed) for line in auction.refused)
+    counts = (
+        f"The record has {_plural(len(auction.lines), 'line', 'lines')}; "
+        f"{quantity(len(auction.refused) - malformed)} refused, {quantity(malformed)} malformed."
+    )
+    if not auction.lines:
+        counts = "The record is empty."
+    units = (
+        "Prices are in US$ per MWh, with a point before the thousandths; quantities in whole kWh "
+        "per day, with commas between thousands."
+    )
+    return joined(_said(counts), _note(units))
+
+
+def _settings(auction: Auction) -> list[Markup]:
+    known = auction.settings
+    if known is None:
+        return [_said("No set-up was accepted.")]
+    return [
+        _named(
+            [
+                ("Entrant's cost CE", price(known.ce), "US$ per MWh"),
+                ("Target demand D", quantity(known.d), "kWh per day"),
+                ("Lower margin M1", quantity(known.m1), "kWh per day"),
+                ("Upper margin M2", quantity(known.m2), "kWh per day"),
+                ("Opening price A", price(known.a), "US$ per MWh"),
+            ]
+        )
+    ]
+
+
+def _agent(call: Registration) -> Markup:
+    """The agent, marked where the registration names none and it has the developer's number."""
+    if call.agent is None:
+        return joined(str(call.developer), element("span", "*", class_="mark"))
+    return escaped(str(call.agent))
+
+
+def _agent_note(calls: Iterable[Registration | None]) -> list[Markup]:
+    if not any(call and call.agent is None for call in calls):
+        return []
+    return [_note("* The registration's agent is the one with the developer's number.")]
+
+
+def _registrations(auction: Auction) -> list[Markup]:
+    if not auction.registrations:
+        return [_said("No registration was accepted.")]
+    calls = [line.call for line in auction.registrations if isinstance(line.call, Registration)]
+    columns = [
+        "#project",
+        "#developer",
+        "kind",
+        "#agent",
+        "#study value",
+        "#start day",
+        "levels, kWh per day",
+    ]
+    rows = (
+        [
+            str(call.project),
+            str(call.developer),
+            _KINDS[call.kind],
+            _agent(call),
+            quantity(call.study),
+            quantity(call.day),
+            _together(quantity(level) for level in call.levels),
+        ]
+        for call in calls
+    )
+    return [_table(columns, rows), *_agent_note(calls), *_lodgings(auction)]
+
+
+def _lodgings(auction: Auction) -> list[Markup]:
+    if not auction.lodgings:
+        return [_said("No list was lodged.")]
+    rows = (
+        [quantity(line.number), str(line.call.developer), _steps(line.call.steps)]
+        for line in auction.lodgings
+        if isinstance(line.call, Lodging)
+    )
+    return [
+        element("h3", "Lodged lists"),
+        _table(["#line", "#developer", _STEPS], rows),
+        _note("A list replaces the one that the plant lodged before."),
+    ]
+
+
+def _closing_cells(now: Round) -> list[str]:
+    if now.supply is None or now.demand is None or now.remainder is None or now.excess is None:
+        return ["", "", "", "", "not closed"]
+    figures_shown = [quantity(each) for each in (now.supply, now.demand, now.remainder, now.excess)]
+    return [*figures_shown, _yes(now.closes_auction, "not shown")]
+
+
+def _rounds(auction: Auction) -> list[Markup]:
+    if not auction.rounds:
+        return [_said("No round was opened.")]
+    columns = [
+        "#round", "#opening price", "#C", "#supply", "#demand", "#remainder", "#excess",
+        "closes the auction",
+    ]
+    rows = (
+        [quantity(now.number), price(now.opening), price(now.c), *_closing_cells(now)]
+        for now in auction.rounds
+    )
+    parts = [
+        _table(columns, rows),
+        _note(
+            "Prices are in US$ per MWh. Supply, demand and excess (supply less demand) are those "
+            "at C, in kWh per day; the remainder is what rounding adds to exact demand, in CE-ths "
+            "of a kWh per day."
+        ),
+    ]
+    if not auction.traced:
+        parts.append(_note(_untraced("whether a round closes the auction")))
+    if sum(now.closed is not None for now in auction.rounds) > 1:
+        picture = figures.supply_by_round(auction)
+        parts.append(_drawn(picture, "Supply, demand and excess by round."))
+    return [*parts, *_moves(auction)]
+
+
+def _untraced(what: str) -> str:
+    return f"The record is longer than 65,536 bytes and has no trace: {what} is not shown."
+
+
+def _moves(auction: Auction) -> list[Markup]:
+    """The accepted offers and cancellations of each round that has any."""
+    moved = [now for now in auction.rounds if now.moves]
+    parts: list[Markup] = []
+    for now in moved:
+        prices = f"from {price(now.opening)} down to C {price(now.c)}"
+        parts.append(element("h3", f"Round {quantity(now.number)}, {prices}"))
+        rows = ([quantity(line.number), *_move(line)] for line in now.moves)
+        parts.append(_table(["#line", "#developer", "call", _STEPS], rows))
+    if len(moved) < len(auction.rounds):
+        where = "in the other rounds" if moved else "in any round"
+        parts.append(_said(f"No offer was accepted {where}."))
+    return parts
+
+
+def _move(line: Line) -> list[str]:
+    call = line.call
+    assert isinstance(call, (Offer, Cancellation))
+    steps = _steps(call.steps) if isinstance(call, Offer) else ""
+    return [str(call.developer), NAMES[line.reply.kind], steps]
+
+
+def _curve(auction: Auction) -> list[Markup]:
+    parts: list[Markup] = []
+    if auction.settings is not None:
+        parts.append(_drawn(figures.demand_and_supply(auction), _caption(auction)))
+    if not auction.traced:
+        return [*parts, _said(_untraced("the supply curve"))]
+    if not any(now.closed for now in auction.rounds):
+        return [*parts, _said("No round was closed, so there is no supply curve.")]
+    if not auction.curve:
+        return [*parts, _said("Nobody has withdrawn.")]
+    rows = (
+        [price(point.price), quantity(point.before), quantity(point.after)]
+        for point in auction.curve
+    )
+    columns = [
+        "#withdrawal price, US$ per MWh",
+        "#supply before, kWh per day",
+        "#supply after, kWh per day",
+    ]
+    return [*parts, _table(columns, rows)]
+
+
+def _caption(auction: Auction) -> str:
+    if auction.traced and any(now.closed for now in auction.rounds):
+        return "Demand, and supply after the withdrawals down to the C of the latest closing."
+    return "Demand; there is no supply curve to show."
+
+
+def _settlements(auction: Auction) -> list[Markup]:
+    """Each settlement once, with the lines that got it."""
+    if not auction.settled:
+        if not auction.settling_failed:
+            return [_said("No settling was asked for.")]
+        reasons = (_said(reason) for reason in _reasons(auction))
+        return [_said("Every settling was refused."), *reasons]
+    alike: dict[str, list[Settled]] = {}
+    for settled in auction.settled:
+        alike.setdefault(settled.line.reply_text, []).append(settled)
+    parts: list[Markup] = []
+    for group in alike.values():
+        numbers = [quantity(each.line.number) for each in group]
+        where = f"line {numbers[0]}" if len(numbers) == 1 else f"lines {'; '.join(numbers)}"
+        parts += [_said(f"Settled by {where}."), *_settlement(auction, group[0])]
+    return parts
+
+
+def _settlement(auction: Auction, settled: Settled) -> list[Markup]:
+    assert auction.settings is not None, "the library settles no auction before set-up"
+    final = settled.settlement
+    kept = "not shown" if settled.kept is None else quantity(settled.kept)
+    participation = "insufficient" if final.participation_is_insufficient else "sufficient"
+    return [
+        _named(
+            [
+                ("Closing price P", price(final.price), "US$ per MWh"),
+                ("Second price, for new plants", price(final.second_price), "US$ per MWh"),
+                ("Second price is short", _yes(final.second_is_short, ""), ""),
+                ("Demand at P", quantity(final.demand), "kWh per day"),
+                (
+                    "Remainder of demand",
+                    quantity(final.remainder),
+                    f"CE-ths of a kWh per day, with CE {quantity(auction.settings.ce)}",
+                ),
+                ("Award's total", quantity(final.total), "kWh per day"),
+                ("Admissible choices", quantity(final.choices), ""),
+                ("Covering choices", quantity(final.covering), ""),
+                ("Covering choices kept by the search", kept, ""),
+                ("Participation", participation, ""),
+                ("Price paid to existing plants", price(final.price_paid), "US$ per MWh"),
+            ]
+        ),
+        *([] if auction.traced else [_note(_untraced("the number of choices kept"))]),
+        *_awards(auction, settled),
+    ]
+
+
+def _awards(auction: Auction, settled: Settled) -> list[Markup]:
+    awards = settled.settlement.awards
+    if not awards:
+        return [_said("Nothing is awarded.")]
+    calls = [auction.registration_of(award.developer) for award in awards]
+    rows = (
+        [
+            str(award.project),
+            str(award.developer),
+            _agent(call) if call else "",
+            _KINDS[call.kind] if call else "",
+            quantity(award.quantity),
+        ]
+        for award, call in zip(awards, calls)
+    )
+    columns = ["#project", "#developer", "#agent", "kind", "#quantity, kWh per day"]
+    return [element("h3", "Award"), _table(columns, rows), *_agent_note(calls)]
+
+
+def _refused(auction: Auction) -> list[Markup]:
+    if not auction.refused:
+        return [_said("None.")]
+    rows = (
+        [quantity(line.number), shown(line.text), _asked(line), _refusal(line)]
+        for line in auction.refused
+    )
+    return [
+        _table(["#line", "text", "call", "refusal"], rows),
+        _note("Bytes other than printable ASCII are shown as \\xNN, a backslash as \\\\."),
+    ]
+
+
+def _asked(line: Line) -> str:
+    return "none" if isinstance(line.call, Malformed) else NAMES[line.reply.kind]
+
+
+def _refusal(line: Line) -> str:
+    refusal = line.reply.refusal
+    assert refusal is not None
+    return f"{refusal.number}: {refusal.meaning}"
