@@ -1,0 +1,61 @@
+"""The command line: its exit status, and what it says where it cannot go on."""
+
+from __future__ import annotations
+
+import os
+import subprocess
+import sys
+import unittest
+from pathlib import Path
+
+ROOT = Path(__file__).resolve().parents[2]
+SAMPLE = str(ROOT / "crates/replay/stdin")
+COMMANDS = ("compare", "report", "table", "explain")
+
+
+def run(*arguments: str, **options: object) -> subprocess.CompletedProcess[str]:
+    """The commands as a process of their own."""
+    command = [sys.executable, "-m", "reference_engine", *arguments]
+    options = {"stdout": subprocess.PIPE, **options}
+    return subprocess.run(command, stderr=subprocess.PIPE, text=True, **options)
+
+
+class CommandLine(unittest.TestCase):
+    def test_help(self) -> None:
+        for command in COMMANDS:
+            done = run(command, "--help")
+            self.assertEqual((done.returncode, done.stderr), (0, ""))
+            self.assertIn(f"reference_engine {command}", done.stdout)
+            self.assertIn(command, run("--help").stdout)
+
+    def test_bad_usage(self) -> None:
+        for arguments in ((), ("settle",), *((command,) for command in COMMANDS)):
+            done = run(*arguments)
+            self.assertEqual((done.returncode, done.stdout), (2, ""))
+            self.assertIn("usage:", done.stderr)
+
+    def test_no_such_file(self) -> None:
+        done = run("explain", "nowhere/to/be/found")
+        self.assertEqual((done.returncode, done.stdout), (2, ""))
+        self.assertIn("nowhere/to/be/found", done.stderr)
+        self.assertNotIn("Traceback", done.stderr)
+
+    def test_not_built(self) -> None:
+        done = run("explain", SAMPLE, env={**os.environ, "REFERENCE_ENGINE_LIBRARY": "nowhere.so"})
+        self.assertEqual(done.returncode, 2)
+        self.assertIn("nowhere.so is missing; in the checkout, python/build makes it", done.stderr)
+        self.assertNotIn("Traceback", done.stderr)
+
+    def test_nobody_reads_on(self) -> None:
+        """A closed pipe is no success: 0 from compare would say that nothing differs."""
+        reading, writing = os.pipe()
+        os.close(reading)
+        try:
+            done = run("explain", SAMPLE, stdout=writing)
+        finally:
+            os.close(writing)
+        self.assertEqual((done.returncode, done.stderr), (1, ""))
+
+
+if __name__ == "__main__":
+    unittest.main()

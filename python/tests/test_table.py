@@ -1,0 +1,318 @@
+"""Tables read back to the numbers of the auction, in each format, and the command's exit status."""
+
+from __future__ import annotations
+
+import contextlib
+import csv
+import io
+import random
+import re
+import tempfile
+import time
+import unittest
+from pathlib import Path
+from typing import Union
+
+from records import long_record, random_record, sample
+from reference_engine import Record
+from reference_engine.__main__ import main
+from reference_engine.auction import Auction, read_auction
+from reference_engine.table import latex_escaped
+
+Cell = Union[int, str, None]
+Tables = dict[str, list[list[Cell]]]  # the rows of each table, its headings first
+
+PRICE = "(thousandths of US$ per MWh)"
+QUANTITY = "(kWh per day)"
+REMAINDER = "(CE-ths of a kWh per day)"
+HEADINGS = {
+    "rounds": [
+        "round",
+        f"opening price {PRICE}",
+        f"C {PRICE}",
+        f"supply {QUANTITY}",
+        f"demand {QUANTITY}",
+        f"remainder {REMAINDER}",
+        f"excess {QUANTITY}",
+    ],
+    "curve": [f"price {PRICE}", f"supply before {QUANTITY}", f"supply after {QUANTITY}"],
+    "award": ["project", "developer", "agent", "kind", f"quantity {QUANTITY}"],
+    "settlement": ["item", "value"],
+}
+
+
+def cell_in(text: str) -> Cell:
+    """A number, words, or None for an empty cell."""
+    if re.fullmatch(r"-?[0-9]+", text):
+        return int(text)
+    return text or None
+
+
+def tables_in_csv(text: str) -> Tables:
+    """As the command's help says."""
+    tables: Tables = {}
+    for row in csv.reader(io.StringIO(text)):
+        tables.setdefault(row[0], []).append([cell_in(cell) for cell in row[1:]])
+    return tables
+
+
+def tables_in_latex(text: str) -> Tables:
+    """The heading's rows joined by column, a unit set between brackets as in the other formats."""
+    tables: Tables = {}
+    for found in re.finditer(
+        r"^% (\w+).*\n\\begin\{tabular\}\{([lr]+)\}\n\\hline\n((?:.*\n)*?)\\end\{tabular\}\n",
+        text,
+        re.MULTILINE,
+    ):
+        heading, _, body = found[3].partition("\\hline\n")
+        names, *units = latex_rows(heading)
+        headings: list[Cell] = []
+        for name, *unit in zip(names, *units):
+            words = " ".join(word for word in unit if word)
+            headings.append(f"{name} ({words})" if words else name)
+        rows = [[cell_in(cell) for cell in row] for row in latex_rows(body)]
+        assert all(len(row) == len(found[2]) for row in [headings, *rows])
+        tables[found[1]] = [headings, *rows]
+    return tables
+
+
+def latex_rows(text: str) -> list[list[str]]:
+    rows = []
+    for line in text.splitlines():
+        if line != r"\hline":
+            assert line.endswith(r" \\"), line
+            rows.append([cell.strip().replace(r"\$", "$") for cell in line[:-3].split(" & ")])
+    return rows
+
+
+def tables_in_markdown(text: str) -> Tables:
+    tables: Tables = {}
+    name = ""
+    for line in text.splitlines():
+        if line.startswith("### "):
+            name = line[4:].lower()
+        elif line.startswith("|") and not re.fullmatch(r"[|:\- ]+", line):
+            cells = [cell_in(cell.strip()) for cell in line[1:-1].split("|")]
+            tables.setdefault(name, []).append(cells)
+    return tables
+
+
+READERS = {"csv": tables_in_csv, "latex": tables_in_latex, "markdown": tables_in_markdown}
+
+
+def tables_of(auction: Auction) -> Tables:
+    """What the tables must say, from the auction's own figures."""
+    tables: Tables = {name: [list(headings)] for name, headings in HEADINGS.items()}
+    for each in auction.rounds:
+        figures = [each.supply, each.demand, each.remainder, each.excess]
+        tables["rounds"].append([each.number, each.opening, each.c, *figures])
+    tables["curve"] += [[point.price, point.before, point.after] for point in auction.curve]
+    if not auction.settled:
+        return tables
+    last = auction.settled[-1]
+    for award in last.settlement.awards:
+        plant = auction.registration_of(award.developer)
+        assert plant is not None
+        agent = plant.agent or plant.developer
+        kind = {1: "existing", 2: "new"}[plant.kind]
+        tables["award"].append([award.project, award.developer, agent, kind, award.quantity])
+    tables["settlement"] += [
+        [f"closing price {PRICE}", last.settlement.price],
+        [f"second price {PRICE}", last.settlement.second_price],
+        ["second price is short", ["no", "yes"][last.settlement.second_is_short]],
+        [f"demand {QUANTITY}", last.settlement.demand],
+        [f"remainder {REMAINDER}", last.settlement.remainder],
+        [f"total {QUANTITY}", last.settlement.total],
+        ["admissible choices", last.settlement.choices],
+        ["covering choices", last.settlement.covering],
+        ["choices that the search keeps", last.kept],
+        [
+            "participation is insufficient",
+            ["no", "yes"][last.settlement.participation_is_insufficient],
+        ],
+        [f"price paid to existing plants {PRICE}", last.settlement.price_paid],
+    ]
+    return tables
+
+
+def unsettled() -> Record:
+    """The sample with a limit that its settling goes beyond."""
+    return Record(b"".join(bytes(sample()).splitlines(True)[:-1])).settle(0)
+
+
+def untraced() -> Record:
+    """The sample and blank lines, more than the program trace reads."""
+    return Record(bytes(sample()) + b"\n" * 65_536)
+
+
+class TableTest(unittest.TestCase):
+    def setUp(self) -> None:
+        folder = tempfile.TemporaryDirectory()
+        self.addCleanup(folder.cleanup)
+        self.path = Path(folder.name) / "record"
+
+    def run_on(self, record: Record, *options: str) -> tuple[int, str, str]:
+        """Exit status, standard output and standard error of the command."""
+        record.write(self.path)
+        out, err = io.StringIO(), io.StringIO()
+        with contextlib.redirect_stdout(out), contextlib.redirect_stderr(err):
+            status = main(["table", str(self.path), *options])
+        return status, out.getvalue(), err.getvalue()
+
+    def check_read_back(self, record: Record) -> Tables:
+        """Each format reads back to the auction's numbers."""
+        auction = read_auction(record)
+        expected = tables_of(auction)
+        for name, reader in READERS.items():
+            status, text, _ = self.run_on(record, "--format", name)
+            self.assertEqual(reader(text), expected, name)
+            self.assertEqual(status, 1 if auction.settling_failed else 0)
+        return expected
+
+    # ---- the tables
+
+    def test_sample_reads_back(self) -> None:
+        tables = self.check_read_back(sample())
+        self.assertEqual(tables["rounds"][1:], [[1, 40_000, 25_000, 920, 975, 0, -55]])
+        self.assertEqual(tables["curve"][1:], [[26_000, 1_170, 920]])
+        self.assertEqual(
+            tables["award"][1:], [[1, 1, 1, "existing", 820], [2, 3, 3, "new", 200]]
+        )
+        values = [row[1] for row in tables["settlement"][1:]]
+        self.assertEqual(values, [26_000, 26_000, "no", 970, 0, 1_020, 4, 3, 2, "no", 26_000])
+
+    def test_random_records_read_back(self) -> None:
+        choice = random.Random(25)
+        rows = dict.fromkeys(HEADINGS, 0)
+        for _ in range(60):
+            for name, table in self.check_read_back(random_record(choice)).items():
+                rows[name] += len(table) - 1
+        for name, count in rows.items():
+            self.assertGreater(count, 60, f"the random records have few rows of {name}")
+
+    def test_marks_and_named_agents(self) -> None:
+        record = Record().set_up(20_000, 1_000_000, 900_000, 1_200_000, 40_000)
+        record.register(1, 1, 1, [150_000], agent=5).register(2, 2, 2, [300_001], agent=5)
+        record.register(3, 3, 2, [299_999]).register(4, 4, 1, [200_000], agent=4)
+        record.open(29_990).offer(2).offer(3).close().settle()
+        tables = self.check_read_back(record)
+        self.assertEqual([row[2] for row in tables["award"][1:]], [5, 5, 3, 4])
+        self.assertIn(["participation is insufficient", "yes"], tables["settlement"])
+        self.assertIn([f"price paid to existing plants {PRICE}", 22_000], tables["settlement"])
+
+    def test_second_price_marked_short(self) -> None:
+        record = Record().set_up(20_000, 1_000_000, 900_000, 1_200_000, 40_000)
+        record.register(1, 1, 1, [300_000, 500_000]).register(2, 2, 1, [400_000])
+        record.register(3, 3, 2, [499_999]).lodge(1, [(30_000, 300_000), (29_990, 0)])
+        record.open(30_000).offer(3).close().open(29_990).offer(3).close().settle()
+        tables = self.check_read_back(record)
+        self.assertIn([f"second price {PRICE}", 40_000], tables["settlement"])
+        self.assertIn(["second price is short", "yes"], tables["settlement"])
+
+    def test_round_that_is_not_closed_has_its_prices_alone(self) -> None:
+        record = Record(b"".join(bytes(sample()).splitlines(True)[:7]))
+        tables = self.check_read_back(record)
+        self.assertEqual(tables["rounds"][1:], [[1, 40_000, 25_000, None, None, None, None]])
+
+    def test_odd_records(self) -> None:
+        for content in (b"", b"\n", b"0g", b"\xff\x00&%|\\\r\n", b"0600000064", b"A" * 70_000):
+            tables = self.check_read_back(Record(content))
+            self.assertEqual([len(table) for table in tables.values()], [1, 1, 1, 1])
+
+    # ---- the formats
+
+    def test_empty_tables_say_so(self) -> None:
+        for name, mark in (("latex", "% rounds: no round was opened\n"), ("markdown", "No round")):
+            self.assertIn(mark, self.run_on(Record(), "--format", name)[1])
+            self.assertNotIn(mark, self.run_on(sample(), "--format", name)[1])
+
+    def test_markdown_columns_are_aligned(self) -> None:
+        text = self.run_on(random_record(random.Random(3)))[1]
+        blocks = [block for block in text.split("\n\n") if block.startswith("|")]
+        self.assertEqual(len(blocks), 4)
+        for block in blocks:
+            bars = {
+                tuple(found.start() for found in re.finditer(r"\|", line))
+                for line in block.splitlines()
+            }
+            self.assertEqual(len(bars), 1, block)
+
+    def test_latex_special_characters_are_escaped(self) -> None:
+        self.assertEqual(latex_escaped("a & 5% of US$ #_{}"), r"a \& 5\% of US\$ \#\_\{\}")
+        self.assertEqual(
+            latex_escaped("\\~^"), r"\textbackslash{}\textasciitilde{}\textasciicircum{}"
+        )
+        text = self.run_on(sample(), "--format", "latex")[1]
+        self.assertEqual(re.findall(r"(?<!\\)[$#_^~]", text), [])
+        self.assertEqual(set(re.findall(r"\\[a-z]+", text)), {r"\begin", r"\end", r"\hline"})
+
+    def test_parts(self) -> None:
+        parts = {"rounds": ["rounds"], "curve": ["curve"], "award": ["award", "settlement"]}
+        expected = tables_of(read_auction(sample()))
+        for part, names in parts.items():
+            for name, reader in READERS.items():
+                tables = reader(self.run_on(sample(), "--part", part, "--format", name)[1])
+                self.assertEqual(tables, {each: expected[each] for each in names})
+
+    def test_single_part_reads_by_dict_reader(self) -> None:
+        text = self.run_on(sample(), "--part", "curve", "--format", "csv")[1]
+        rows = list(csv.DictReader(io.StringIO(text)))
+        self.assertEqual([row[f"supply before {QUANTITY}"] for row in rows], ["1170"])
+
+    # ---- the command
+
+    def test_markdown_and_all_are_the_default(self) -> None:
+        status, text, err = self.run_on(sample())
+        chosen = self.run_on(sample(), "--format", "markdown", "--part", "all")
+        self.assertEqual((status, text, err), chosen)
+        self.assertEqual((status, err), (0, ""))
+
+    def test_output_to_a_file(self) -> None:
+        target = self.path.with_name("tables.csv")
+        for record, expected in ((sample(), 0), (unsettled(), 1)):
+            status, text, _ = self.run_on(record, "--format", "csv", "-o", str(target))
+            self.assertEqual((status, text), (expected, ""))
+            shown = self.run_on(record, "--format", "csv")[1]
+            self.assertEqual(target.read_bytes(), shown.encode("ascii"))
+
+    def test_each_settling_refused_is_1(self) -> None:
+        status, text, err = self.run_on(unsettled())
+        self.assertEqual(status, 1)
+        self.assertEqual(err, "not settled: line 11 was refused by 10: choices above the limit\n")
+        self.assertIn("Not settled.", text)
+
+    def test_a_settling_accepted_later_is_0(self) -> None:
+        status, _, err = self.run_on(unsettled().settle())
+        self.assertEqual((status, err), (0, ""))
+
+    def test_bad_usage_is_2(self) -> None:
+        with self.assertRaises(SystemExit) as raised:
+            self.run_on(sample(), "--format", "xml")
+        self.assertEqual(raised.exception.code, 2)
+        err = io.StringIO()
+        with contextlib.redirect_stderr(err):
+            self.assertEqual(main(["table", str(self.path.with_name("missing"))]), 2)
+        self.assertIn("missing", err.getvalue())
+
+    def test_record_that_trace_does_not_read(self) -> None:
+        tables = self.check_read_back(untraced())
+        self.assertEqual(len(tables["curve"]), 1)
+        self.assertIn(["choices that the search keeps", None], tables["settlement"])
+        status, text, err = self.run_on(untraced(), "--part", "curve")
+        self.assertEqual(status, 0)
+        for said in (text.lower(), err):
+            self.assertIn("not known: the record has more than 65,536 bytes", said)
+        self.assertEqual(self.run_on(untraced(), "--part", "rounds")[2], "")
+
+    def test_long_record_is_fast(self) -> None:
+        record = long_record()
+        began = time.monotonic()
+        status, text, _ = self.run_on(record, "--format", "csv")
+        self.assertEqual(status, 0)
+        self.assertGreater(len(tables_in_csv(text)["award"]), 16)
+        self.run_on(Record(b"\n" * 65_536))
+        self.assertLess(time.monotonic() - began, 5)
+
+
+if __name__ == "__main__":
+    unittest.main()
