@@ -1,0 +1,80 @@
+"""The README's commands and its Python example, run as they stand."""
+
+from __future__ import annotations
+
+import os
+import re
+import shutil
+import subprocess
+import sys
+import tempfile
+import unittest
+from pathlib import Path
+
+ROOT = Path(__file__).resolve().parents[2]
+BLOCK = re.compile(r"^```(sh|python|text)\n(.*?)^```$", re.MULTILINE | re.DOTALL)
+
+
+class Readme(unittest.TestCase):
+    def setUp(self) -> None:
+        """A folder with what the commands read, so that nothing is written into the checkout."""
+        folder = tempfile.TemporaryDirectory()
+        self.addCleanup(folder.cleanup)
+        self.folder = Path(folder.name)
+        shutil.copytree(ROOT / "crates/replay", self.folder / "crates/replay")
+        self.readme = (ROOT / "README.md").read_text(encoding="utf-8")
+        self.blocks = BLOCK.findall(self.readme)
+
+    def run_here(self, command: str | list[str], status: int = 0) -> str:
+        """What a command prints. It must end with the status, and say nothing else."""
+        done = subprocess.run(
+            command,
+            shell=isinstance(command, str),
+            cwd=self.folder,
+            env={**os.environ, "PYTHONPATH": str(ROOT / "python"), "PYTHONDONTWRITEBYTECODE": "1"},
+            capture_output=True,
+            text=True,
+        )
+        self.assertEqual((done.returncode, done.stderr), (status, ""), command)
+        return done.stdout
+
+    def printed(self) -> list[tuple[str, str]]:
+        """Each text block, with what the block before it prints."""
+        pairs, printed = [], ""
+        for language, content in self.blocks:
+            if language == "text":
+                pairs.append((content, printed))
+            elif language == "python":
+                printed = self.run_here([sys.executable, "-c", content])
+            else:
+                for command in content.splitlines():
+                    self.assertRegex(command, "^(PYTHONPATH=python )?python3 -m reference_engine ")
+                    printed = self.run_here(command)
+        return pairs
+
+    def test_blocks(self) -> None:
+        pairs = self.printed()
+        self.assertEqual(len(pairs), 3)
+        for text, printed in pairs:
+            self.assertEqual(printed[-len(text) :], text)
+        sample = self.folder / "sample.record"
+        self.assertEqual(sample.read_bytes(), (ROOT / "crates/replay/stdin").read_bytes())
+        self.assertIn("</svg>", (self.folder / "report.html").read_text(encoding="utf-8"))
+
+    def test_every_command_is_shown(self) -> None:
+        commands = "".join(content for language, content in self.blocks if language == "sh")
+        shown = re.findall(r"-m reference_engine (\w+)", commands)
+        self.assertEqual(sorted(shown), ["compare", "explain", "report", "table"])
+
+    def test_difference_in_words(self) -> None:
+        """The sentence that the README quotes, of a program that has -54."""
+        path = self.folder / "crates/replay/stdout"
+        path.write_text(path.read_text().replace("C900000000", "CA00000000"))
+        compare = next(content for _, content in self.blocks if " compare " in content)
+        quoted = re.search(r"`(line 10 \(close\): .*?)`", self.readme)
+        self.assertIsNotNone(quoted)
+        self.assertIn(quoted[1], self.run_here(compare, status=1))
+
+
+if __name__ == "__main__":
+    unittest.main()
