@@ -1,7 +1,10 @@
 // Settling a closed auction: closing price, award, counts, and the award records in the lent buffer (document 01, Closing price and award).
 ghost use Rattle.settling.specs.Settles.{Settles, refusedWith};
+ghost use Rattle.settling.specs.Accepted.{acceptedWith};
 ghost use mathlib.Core.Path.{_≡_};
 use auction::Auction;
+use cleared::Cleared;
+use selection::Selected;
 
 // The answer: 0 or a refusal's number; P, Dem(P) with its remainder (document 02, 4), the award's total, the numbers of admissible choices, of
 // covering ones and of those that the search keeps (document 02, 3), the second price and whether it is short (document 02, 5), whether
@@ -43,6 +46,32 @@ pub fn refused(number: u8) -> Settled
     }
 }
 
+fn accepted(
+    cleared: Cleared,
+    selected: Selected,
+    insufficient: bool,
+    paid: u32,
+    records: usize,
+) -> Settled
+    ensures { λ r. ⌜ r ≡ acceptedWith cleared selected insufficient paid records ⌝ }
+{
+    Settled {
+        number: 0,
+        price: cleared.price,
+        demand: cleared.demand,
+        remainder: cleared.remainder,
+        total: selected.total,
+        choices: selected.choices,
+        covering: selected.covering,
+        kept: selected.kept,
+        second: cleared.second,
+        short: cleared.short,
+        insufficient: insufficient,
+        paid: paid,
+        records: records,
+    }
+}
+
 // Checks: 2, 10, 11.
 pub fn settle(auction: Auction, limit: u32, awards: &mut [u8]) -> Settled
     ensures { λ r. ⌜ Settles auction limit (now (awards .entry)) (now (awards .exit)) r ⌝ }
@@ -50,21 +79,13 @@ pub fn settle(auction: Auction, limit: u32, awards: &mut [u8]) -> Settled
     if auction.phase != Auction::CLOSED {
         return refused(2);
     }
+    let cleared = cleared::clear(auction);
     let projects = auction.projects;
-    let settings = auction.settings;
     let declared = auction.declared;
-    let histories = auction.histories;
-    let highest = lows::highest_levels(declared);
-    let first = supply::supply(projects, highest);
-    let p = price::closing_price(auction, projects, highest, true, first);
-    let lows = lows::lows_at(histories, highest, p);
-    let highs = lows::lows_at(histories, highest, lows::above(p));
+    let lows = cleared.lows;
+    let highs = cleared.highs;
     let table = open_levels::table_of(projects, declared, lows, highs);
-    let demand = settings.demand_at(p);
-    let remainder = settings.remainder_at(p);
-    let second = second_price::second_price(auction, highest, p);
-    let capped = checks::capped_limit(limit);
-    let selected = selection::select(table, demand, capped);
+    let selected = selection::select(table, cleared.demand, checks::capped_limit(limit));
     if selected.number != 0 {
         return refused(selected.number);
     }
@@ -75,26 +96,13 @@ pub fn settle(auction: Auction, limit: u32, awards: &mut [u8]) -> Settled
     }
     let studies = auction.studies;
     let days = auction.days;
-    let kinds = auction.kinds;
-    let agents = auction.agents;
     let winners = awarding::winners(projects, studies, days, declared, lows, highs, award);
-    let d = settings.d;
+    let d = auction.settings.d;
+    let agents = auction.agents;
+    let kinds = auction.kinds;
+    let highest = cleared.highest;
     let insufficient = participation::insufficient(d, agents, kinds, highest, award, winners);
-    let paid = participation::price_paid(insufficient, settings.ce, p);
+    let paid = participation::price_paid(insufficient, auction.settings.ce, cleared.price);
     award_records::write_awards(awards, award, winners);
-    Settled {
-        number: 0,
-        price: p,
-        demand: demand,
-        remainder: remainder,
-        total: selected.total,
-        choices: selected.choices,
-        covering: selected.covering,
-        kept: selected.kept,
-        second: second.price,
-        short: second.short,
-        insufficient: insufficient,
-        paid: paid,
-        records: records,
-    }
+    accepted(cleared, selected, insufficient, paid, records)
 }

@@ -5,39 +5,20 @@ use Rattle.settling.proofs.Settling.{Computed, settle-phase, settle-ove
 use Rattle.settling.proofs.settle.Statement.{statement}
 use Rattle.settling.proofs.settle.Tie as tie
 
--- the ways back from the call of `select`: to that of `lows_at` for the highs, and to that of `closing_price`
-abbrev highs : tie.After-select → tie.After-lows-at2
-highs c = c .before .before .before .before .before .before
-
-abbrev priced : tie.After-select → tie.After-closing-price
-priced c = highs c .before .before .before
+-- the way back from the call of `select` to that of `clear`
+abbrev cleared : tie.After-select → tie.After-clear
+cleared c = c .before .before .before .before .before .before .before
 
 computed :
     (c : tie.After-select) →
-    let s = priced c .before .before .before .before .before .before .before .before .before .before .args in
-    Computed (s .auction) (s .limit) (priced c .closing-price .result) (c .before .before .before .before .demand-at .result) (c .before .before .before .remainder-at .result) (highs c .before .before .lows-at .result) (highs c .lows-at2 .result)
-    (c .before .before .second-price .result) (c .select .result)
-computed c =
-    let h = highs c in
-    let p = priced c in
-    record {
-      phase = p .before .before .before .before .before .before .before .if1 .left;
-      highest = p .before .before .highest-levels .result;
-      first = p .before .supply .result;
-      next = h .before .above .result;
-      table = c .before .before .before .before .before .table-of .result;
-      highests = p .before .before .highest-levels .ensures;
-      supplied = p .before .supply .ensures .0;
-      price = p .closing-price .ensures;
-      lows-at = h .before .before .lows-at .ensures;
-      above = h .before .above .ensures;
-      highs-at = h .lows-at2 .ensures;
-      tabled = c .before .before .before .before .before .table-of .ensures;
-      demand-at = c .before .before .before .before .demand-at .ensures .0;
-      remainder-at = c .before .before .before .remainder-at .ensures;
-      second-at = c .before .before .second-price .ensures;
-      selects = rw (c .before .capped-limit .ensures) at (c .select .ensures);
-    }
+    let s = cleared c .before .before .before .before .args in
+    Computed (s .auction) (s .limit) (cleared c .clear .result) (c .before .before .table-of .result) (c .select .result)
+computed c = record {
+  phase = cleared c .before .if1 .left;
+  clears = cleared c .clear .ensures;
+  tabled = c .before .before .table-of .ensures;
+  selects = rw (c .before .capped-limit .ensures) at (c .select .ensures);
+}
 
 refused-requires : tie.Need-refused-requires
 refused-requires c κs = search needs
@@ -45,35 +26,11 @@ refused-requires c κs = search needs
 returns : tie.Need-returns
 returns c = rw (c .refused .ensures) (settle-phase _ _ _ (c .before .if1 .taken))
 
-highest-levels-requires : tie.Need-highest-levels-requires
-highest-levels-requires c κs = search needs
-
-supply-requires : tie.Need-supply-requires
-supply-requires c κs = search needs
-
-closing-price-requires : tie.Need-closing-price-requires
-closing-price-requires c κs = search needs
-
-lows-at-requires : tie.Need-lows-at-requires
-lows-at-requires c κs = search needs
-
-above-requires : tie.Need-above-requires
-above-requires c κs = search needs
-
-lows-at-requires-2 : tie.Need-lows-at-requires-2
-lows-at-requires-2 c κs = search needs
+clear-requires : tie.Need-clear-requires
+clear-requires c κs = search needs
 
 table-of-requires : tie.Need-table-of-requires
 table-of-requires c κs = search needs
-
-demand-at-requires : tie.Need-demand-at-requires
-demand-at-requires c κs = search needs
-
-remainder-at-requires : tie.Need-remainder-at-requires
-remainder-at-requires c κs = search needs
-
-second-price-requires : tie.Need-second-price-requires
-second-price-requires c κs = search needs
 
 capped-limit-requires : tie.Need-capped-limit-requires
 capped-limit-requires c κs = search needs
@@ -85,7 +42,7 @@ refused-requires-2 : tie.Need-refused-requires-2
 refused-requires-2 c κs = search needs
 
 returns-2 : tie.Need-returns-2
-returns-2 c = rw (c .refused2 .ensures) (settle-over _ _ _ _ _ _ _ _ _ (computed (c .before .before .before)) _ (c .before .if2 .taken))
+returns-2 c = rw (c .refused2 .ensures) (settle-over _ _ _ _ _ (computed (c .before .before .before)) _ (c .before .if2 .taken))
 
 count-awards-requires : tie.Need-count-awards-requires
 count-awards-requires c κs = search needs
@@ -100,7 +57,7 @@ returns-3 : tie.Need-returns-3
 returns-3 c =
     let n = c .before .before in
     rw (c .refused3 .ensures)
-    (settle-no-room _ _ _ _ _ _ _ _ _ (computed (n .before .before .before .before)) _ (n .before .before .if2 .left) _ (n .count-awards .ensures .0) (c .before .if3 .taken))
+    (settle-no-room _ _ _ _ _ (computed (n .before .before .before .before)) _ (n .before .before .if2 .left) _ (n .count-awards .ensures .0) (c .before .if3 .taken))
 
 winners-requires : tie.Need-winners-requires
 winners-requires c κs = search needs
@@ -114,18 +71,21 @@ price-paid-requires c κs = search needs
 write-awards-requires : tie.Need-write-awards-requires
 write-awards-requires c κs = search needs
 
+accepted-requires : tie.Need-accepted-requires
+accepted-requires c κs = search needs
+
 same-length : tie.Need-same-length
 same-length c = search needs
 
 returns-4 : tie.Need-returns-4
-unfolding computed
 returns-4 c =
-    let q = c .before .before .before .before in
-    let w = q .before .before in
-    let f = w .before .before .before .before .before in
+    let q = c .before .before .before .before .before in
+    let w = q .before .before .before .before .before in
+    let f = w .before .before .before in
     let n = f .before in
-    settle-accepted _ _ _ _ _ _ _ _ _ (computed (n .before .before .before .before)) _ (n .before .before .if2 .left) _ (n .count-awards .ensures .0) (f .if3 .left) _ _ _ _
-    (w .winners .ensures) (q .before .insufficient .ensures) (q .price-paid .ensures) (c .before .before .write-awards .ensures)
+    rw (c .accepted .ensures)
+    (settle-accepted _ _ _ _ _ (computed (n .before .before .before .before)) _ (n .before .before .if2 .left) _ (n .count-awards .ensures .0) (f .if3 .left) _ _ _ _
+    (w .winners .ensures) (q .before .insufficient .ensures) (q .price-paid .ensures) (c .before .before .before .write-awards .ensures))
 
 pub settle-spec : {M : Type 1} → statement M
 settle-spec =
@@ -133,16 +93,8 @@ settle-spec =
     (tie.spec
     refused-requires
     returns
-    highest-levels-requires
-    supply-requires
-    closing-price-requires
-    lows-at-requires
-    above-requires
-    lows-at-requires-2
+    clear-requires
     table-of-requires
-    demand-at-requires
-    remainder-at-requires
-    second-price-requires
     capped-limit-requires
     select-requires
     refused-requires-2
@@ -155,5 +107,6 @@ settle-spec =
     insufficient-requires
     price-paid-requires
     write-awards-requires
+    accepted-requires
     same-length
     returns-4)
