@@ -25,8 +25,8 @@ use Rattle.frame_fields.specs.FrameFields.{fieldsOf, Framed, Reads}
 use Rattle.reply_sizes.specs.Texts.{Valued, textOf}
 use Rattle.reply_sizes.specs.TextLaws.{text-of, plain-text, closing-added, settling-added}
 use Rattle.reply_sizes.specs.declared.Reply.{Reply}
-use Rattle.turns.specs.Turns.{Answers, Takes}
-use Rattle.turns.specs.declared.Turn.{Turn}
+use Rattle.frame_turns.specs.Turns.{Answers, Takes}
+use Rattle.frame_turns.specs.declared.Turn.{Turn}
 
 pub takes-none : (a : Auction) (t : Turn) → t .auction ≡ a → t .reply .kind ≡ 255 → t .reply .number ≡ 12 → Takes a Malformed t
 unfolding replyTo

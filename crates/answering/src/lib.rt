@@ -4,11 +4,11 @@ ghost use Rattle.replies.specs.Orders.{Malformed, Asks, Settle, ordered};
 ghost use Rattle.rules.specs.Ledger.{Close};
 ghost use Rattle.frames.specs.Decoded.{callIn};
 ghost use Rattle.frame_fields.specs.FrameFields.{fieldsOf, Framed, Reads};
-ghost use Rattle.turns.specs.Turns.{Takes};
+ghost use Rattle.frame_turns.specs.Turns.{Takes};
 use auction::Auction;
+use frame_turns::Turn;
+use frame_turns::UNSETTLED;
 use frames::Frame;
-use turns::Turn;
-use turns::UNSETTLED;
 
 fn malformed(auction: Auction) -> Turn
     ensures { λ r. ⌜ Takes auction Malformed r ⌝ }
@@ -69,16 +69,16 @@ pub fn respond(auction: Auction, frame: Frame) -> Turn
 {
     let kind = frame.kind;
     if kind == 1 {
-        return turns::set_up_turn(auction, frame);
+        return frame_turns::set_up_turn(auction, frame);
     }
     if kind == 2 {
-        return turns::register_turn(auction, frame);
+        return frame_turns::register_turn(auction, frame);
     }
     if kind == 3 {
-        return turns::open_turn(auction, frame);
+        return frame_turns::open_turn(auction, frame);
     }
     if kind == 4 {
-        return turns::offer_turn(auction, frame);
+        return frame_turns::offer_turn(auction, frame);
     }
     if kind == 5 {
         return close_turn(auction);
@@ -87,13 +87,13 @@ pub fn respond(auction: Auction, frame: Frame) -> Turn
         return settle_turn(auction, frame);
     }
     if kind == 7 {
-        return turns::lodge_turn(auction, frame);
+        return frame_turns::lodge_turn(auction, frame);
     }
     if kind == 8 {
-        return turns::register_for_turn(auction, frame);
+        return frame_turns::register_for_turn(auction, frame);
     }
     if kind == 9 {
-        return turns::cancel_turn(auction, frame);
+        return frame_turns::cancel_turn(auction, frame);
     }
     malformed(auction)
 }

@@ -8,11 +8,13 @@ use native.Mathlib.Omega.{arith}
 use borrow.Author.Tests.{ne-eqb}
 use Rattle.numbers.specs.Lists.{oneTo, keep, total, greatest, lastOr, any, all}
 use Rattle.curve.specs.Demand.{dem, inBounds}
-use Rattle.rules.specs.Ledger.{Offer, Lodge, Cancel, Own, Call, SetUp, Register, Open, By, Close, made}
+use Rattle.rules.specs.Ledger.{Offer, Cancel, Own, Call, SetUp, Register, Open, By, Close, made}
 use Rattle.rules.specs.Clearing.{quantityAfter, high, developersOf, greatestOf, supply, covered}
 use Rattle.rules.specs.Refusals.{settingsOk, numbersOk, rising, levelsOk, mayJoin, declarationOk, openingPrice, closingOk, startCovered, isOfKind, falling, pricesOk, lowering, moveNumber, number}
 use Rattle.rules.specs.Rounds.{steps, moved, accepted, step, stepAll, ledger, granted, answer}
 use Rattle.cancelling.specs.TakenBack.{own}
+use Rattle.replies.specs.Orders.{Asks}
+use Rattle.replies.specs.WrittenOrders.{paired, rawOf}
 use Rattle.arrival.specs.Arrival.{told, isMove, Reordered, toldFrom}
 
 -- developer 1 an existing plant, 2 and 3 new ones; a round is open
@@ -70,15 +72,9 @@ orders = (refl, refl, refl, refl, refl)
 
 -- the number of a call's steps
 abbrev stepsIn : Call → ℕ
-stepsIn (SetUp s) = 0
-stepsIn (Register n w x) = 0
-stepsIn (Open c) = 0
-stepsIn (By n (Offer ps qs)) = length ps
-stepsIn (By n (Lodge ps qs)) = length ps
-stepsIn (By n Cancel) = 0
-stepsIn Close = 0
+stepsIn c = length (rawOf (Asks c) .fields)
 
 -- two offers of one developer, exchanged, are not the same calls in the same order
 pub one-developers : Reordered (partly ∷ nothing 2 ∷ []) (nothing 2 ∷ partly ∷ []) → ⊥
-unfolding keep own
+unfolding keep own paired
 one-developers h = omega (arith, ap (λ (cs : List Call). getD (map stepsIn cs) 0 0) (h .each 2))

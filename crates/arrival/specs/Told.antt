@@ -4,7 +4,7 @@ use Prim.Native.Nat.{ℕ}
 use mathlib.Core.Path.{_≡_, refl, sym, ap, ap₂, subst, _∙_}
 use mathlib.Core.Bool.{Bool, true, false}
 use mathlib.Core.List.{List, [], _∷_, _++_}
-use Rattle.numbers.specs.Cases.{not-true, clash}
+use Rattle.numbers.specs.Cases.{never-true, clash}
 use Rattle.exchanges.specs.Exchanges.{Exchanged, unchanged, neighbours, behind, further}
 use Rattle.arrival.specs.Arrival.{told}
 
@@ -39,7 +39,7 @@ module _ {S A B : Type 0} (next : S → A → S) (says : S → A → B) where
     exchanged-told s unchanged = unchanged
     exchanged-told s (neighbours {x} {y} {zs} n k p q d) =
         let f = free s x y n k p q d in
-        let other : its k x ≡ false = not-true (its k x) (λ e. clash (subst (λ (j : ℕ). its j y ≡ true) (once x k n e p) q) d) in
+        let other : its k x ≡ false = never-true (its k x) (λ e. clash (subst (λ (j : ℕ). its j y ≡ true) (once x k n e p) q) d) in
         let g = free s y x k n q p other in
         subst (λ (ts : List (A × B)). Exchanged (λ n t. its n (t .0)) ((x, says s x) ∷ (y, says (next s x) y) ∷ told next says (next (next s x) y) zs) ts)
         (ap₂ (λ (b : B) (ts : List (A × B)). (y, b) ∷ ts) (f .1)

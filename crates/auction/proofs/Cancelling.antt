@@ -21,7 +21,7 @@ use Rattle.auction.specs.Holds.{auctionOf}
 use Rattle.auction.specs.Called.{Called}
 use Rattle.auction.specs.Parts.{withHistory}
 use Rattle.auction.proofs.Calls.{Refused}
-use Rattle.auction.proofs.Phases.{round-is}
+use Rattle.auction.specs.PhaseNumbers.{round-is}
 use Rattle.auction.proofs.DeveloperHeld.{history-at, none-is, kind-is, none-lodged}
 use Rattle.auction.proofs.Moving.{move-refused, move-taken}
 
@@ -65,8 +65,7 @@ module _ (n : ℕ) (a : Auction) where
       unfolding moved
       cancel-taken = move-taken n Cancel a r (cancel-bounds .0) (cancel-bounds .1) (λ l s h. record {
         number = passes l s h;
-        declared = refl;
-        agent = refl;
+        lasting = refl;
         quantity = refl;
         withdrawals = refl;
         history = history-next l s h;

@@ -33,7 +33,7 @@ use Rattle.courses.specs.declared.Courses.{Courses}
 use Rattle.courses.specs.Courses.{afterRound, OffersApplied}
 use Rattle.clock.specs.Tests.{demandBy, remainderBy, phaseNumberAfter}
 use Rattle.auction.proofs.Calls.{Refused, refused, Taken, taken}
-use Rattle.auction.proofs.Phases.{round-is}
+use Rattle.auction.specs.PhaseNumbers.{round-is}
 use Rattle.clock.specs.Demands.{demand-is, remainder-is}
 
 pub close-phase : (a : Auction) → (a .phase ≡ 2 → ⊥) → Refused Close a 2
@@ -116,7 +116,7 @@ module _ (a : Auction) (b : Courses) (fs : List ℕ) (v : Curve) (f : Figures) (
 
     courses-after : applied-only ≡ auctionOf later
     unfolding applied
-    courses-after = courses-held a l (λ m. afterRound l (l .developers m)) h (λ m. refl) (λ m. refl) (after .0) (after .1) curve-after
+    courses-after = courses-held a l (λ m. afterRound l (l .developers m)) h (λ m. refl) (after .0) (after .1) curve-after
 
     held-closed : Taken Close closed (record { number = 0; excess = x; remainder = f .remainder }) l
     unfolding number granted accepted auctionOf

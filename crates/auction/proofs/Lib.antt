@@ -1,5 +1,4 @@
 pub mod Calls
-mod Phases
 mod SettingUp
 mod Registering
 mod Opening

@@ -27,7 +27,7 @@ use Rattle.auction.specs.Called.{Called}
 use Rattle.auction.specs.Parts.{withHistory}
 use Rattle.auction.proofs.Calls.{Refused}
 use Rattle.auction.proofs.Moving.{move-refused, move-taken}
-use Rattle.auction.proofs.Phases.{ready-is}
+use Rattle.auction.specs.PhaseNumbers.{ready-is}
 use Rattle.auction.proofs.DeveloperHeld.{steps-is, kind-is}
 
 module _ (n : ℕ) (ps qs : List ℕ) (a : Auction) (tops : List ℕ) (highests : Highests (a .declared) tops) where
@@ -91,8 +91,7 @@ module _ (n : ℕ) (ps qs : List ℕ) (a : Auction) (tops : List ℕ) (highests 
       unfolding moved
       lodge-taken = move-taken n (Lodge ps qs) a r (lodge-bounds .0) (lodge-bounds .1) (λ l s h. record {
         number = passes l s h;
-        declared = refl;
-        agent = refl;
+        lasting = refl;
         quantity = refl;
         withdrawals = refl;
         history = history-next l s h;

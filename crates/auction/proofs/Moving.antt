@@ -10,15 +10,14 @@ use Rattle.history.specs.declared.History.{History}
 use Rattle.auction.specs.declared.Auction.{Auction}
 use Rattle.auction.specs.Holds.{heldCourse, auctionOf, Holding}
 use Rattle.auction.specs.Called.{Called}
-use Rattle.auction.specs.Parts.{withHistory, courses-held, curve-stays}
+use Rattle.auction.specs.Parts.{lasting, withHistory, courses-held, curve-stays}
 use Rattle.courses.specs.Places.{put-at, put-keeps}
 use Rattle.auction.proofs.Calls.{Refused, refused, taken}
 
 -- the move m of developer n is accepted, keeps its declaration, its agent, its quantity and its withdrawals, and r is its history after it
 pub record Moves (n : ℕ) (m : Move) (r : History) (l : Ledger) : Type 0 where
   pub number : number l (By n m) ≡ 0
-  pub declared : moved (l .developers n) m .declared ≡ l .developers n .declared
-  pub agent : moved (l .developers n) m .agent ≡ l .developers n .agent
+  pub lasting : lasting (moved (l .developers n) m) ≡ lasting (l .developers n)
   pub quantity : moved (l .developers n) m .quantity ≡ l .developers n .quantity
   pub withdrawals : moved (l .developers n) m .withdrawals ≡ l .developers n .withdrawals
   pub history : r ≡ heldCourse (moved (l .developers n) m)
@@ -37,11 +36,11 @@ move-taken n m a r low high f = taken _ a _ _ refl (λ l s h.
     let k = f l s h in
     let entry = moved (l .developers n) m in
     let next = put n entry (l .developers) in
-    let same : (j : ℕ) → next j .declared ≡ l .developers j .declared = by-put (λ j y. y .declared ≡ l .developers j .declared) n entry _ (k .declared) (λ j. refl) in
+    let same : (j : ℕ) → lasting (next j) ≡ lasting (l .developers j) = by-put (λ j y. lasting y ≡ lasting (l .developers j)) n entry _ (k .lasting) (λ j. refl) in
     record {
       number = k .number;
       answer = refl;
-      next = courses-held a l next h same (by-put (λ j y. y .agent ≡ l .developers j .agent) n entry _ (k .agent) (λ j. refl))
+      next = courses-held a l next h same
           (ap (λ (x : Auction). x .quantities) h ∙ sym (put-keeps (λ x. x .quantity) l n entry (k .quantity)))
           (ap (λ (x : Auction). set (x .histories) (n - 1) r) h ∙ put-at heldCourse l n entry r low high (k .history))
           (curve-stays a l next h same (by-put (λ j y. y .withdrawals ≡ l .developers j .withdrawals) n entry _ (k .withdrawals) (λ j. refl)));

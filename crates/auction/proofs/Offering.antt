@@ -28,7 +28,7 @@ use Rattle.auction.specs.Called.{Called}
 use Rattle.auction.specs.Parts.{withHistory}
 use Rattle.auction.proofs.Calls.{Refused}
 use Rattle.auction.proofs.Moving.{move-refused, move-taken}
-use Rattle.auction.proofs.Phases.{round-is}
+use Rattle.auction.specs.PhaseNumbers.{round-is}
 use Rattle.auction.proofs.DeveloperHeld.{quantity-at, history-at, none-is, steps-is, kind-is, none-lodged}
 
 module _ (n : ℕ) (ps qs : List ℕ) (a : Auction) where
@@ -102,8 +102,7 @@ module _ (n : ℕ) (ps qs : List ℕ) (a : Auction) where
       unfolding moved
       offer-taken = move-taken n (Offer ps qs) a r (offer-bounds .0) (offer-bounds .1) (λ l s h. record {
         number = passes l s h;
-        declared = refl;
-        agent = refl;
+        lasting = refl;
         quantity = refl;
         withdrawals = refl;
         history = history-next l s h;

@@ -20,7 +20,7 @@ use Rattle.auction.specs.Called.{Called}
 use Rattle.auction.specs.Parts.{withClock, clock-held}
 use Rattle.clock.specs.Tests.{demandBy, openingBy, coveredBy, closingOkBy, openingNumberBy}
 use Rattle.auction.proofs.Calls.{Refused, refused, taken}
-use Rattle.auction.proofs.Phases.{ready-is, may-open-is}
+use Rattle.auction.specs.PhaseNumbers.{ready-is, may-open-is}
 use Rattle.clock.specs.Demands.{demand-is}
 
 -- before the first round nothing is withdrawn, so supply at A is the supply of the quantities

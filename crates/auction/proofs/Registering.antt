@@ -29,7 +29,7 @@ use Rattle.auction.specs.Holds.{heldCourse, auctionOf, Holding}
 use Rattle.auction.specs.Called.{Called, registers, registersFor}
 use Rattle.courses.specs.Places.{each-at, put-at, put-keeps}
 use Rattle.auction.proofs.Calls.{where-true, Refused, refused, taken}
-use Rattle.auction.proofs.Phases.{ready-is}
+use Rattle.auction.specs.PhaseNumbers.{ready-is}
 
 -- ---- the tests
 

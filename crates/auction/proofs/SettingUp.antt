@@ -8,11 +8,11 @@ use Rattle.rules.specs.Ledger.{settingsOf, Ready}
 use Rattle.rules.specs.Refusals.{settingsOk, number}
 use Rattle.rules.specs.Rounds.{accepted, numberAlone, granted}
 use Rattle.auction.specs.declared.Auction.{Auction}
-use Rattle.auction.specs.Holds.{auctionOf}
+use Rattle.auction.specs.Holds.{settingsHeld, auctionOf}
 use Rattle.auction.specs.Called.{Called, setsUp}
-use Rattle.auction.specs.Parts.{withClock, settingsHeld, clock-held}
+use Rattle.auction.specs.Parts.{withClock, clock-held}
 use Rattle.auction.proofs.Calls.{Refused, refused, taken}
-use Rattle.auction.proofs.Phases.{fresh-is}
+use Rattle.auction.specs.PhaseNumbers.{fresh-is}
 
 module _ (a : Auction) (ce d m1 m2 a₀ : ℕ) where
   pub set-up-phase : (a .phase ≡ 0 → ⊥) → Refused (setsUp ce d m1 m2 a₀) a 2

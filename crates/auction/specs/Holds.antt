@@ -3,12 +3,14 @@
 use Prim.Native.Nat.{ℕ}
 use mathlib.Core.Path.{_≡_}
 use Rattle.rules.specs.Ledger.{Phase, Fresh, Ready, Round, Between, Closed, Ledger}
+use Rattle.rules.specs.Ledger as rules
 use Rattle.rules.specs.Clearing.{ofEach}
 use Rattle.sound.specs.Sound.{Sound}
 use Rattle.supply_curve.specs.Curve.{supplyCurve}
 use Rattle.levels.specs.Held.{heldLevels}
 pub use Rattle.courses.specs.Courses.{heldCourse}
 use Rattle.kept_curve.specs.Held.{heldCurve}
+use Rattle.clock.specs.declared.Settings.{Settings}
 use Rattle.auction.specs.declared.Auction.{Auction}
 
 abbrev pub phaseNumber : Phase → ℕ
@@ -18,16 +20,13 @@ phaseNumber Round = 2
 phaseNumber Between = 3
 phaseNumber Closed = 4
 
+abbrev pub settingsHeld : rules.Settings → Settings
+settingsHeld s = record { ce = s .ce; d = s .d; m1 = s .m1; m2 = s .m2; a = s .a }
+
 unfoldable pub auctionOf : Ledger → Auction
 auctionOf l = record {
   phase = phaseNumber (l .phase);
-  settings = record {
-    ce = l .settings .ce;
-    d = l .settings .d;
-    m1 = l .settings .m1;
-    m2 = l .settings .m2;
-    a = l .settings .a;
-  };
+  settings = settingsHeld (l .settings);
   opening = l .opening;
   closing = l .closing;
   projects = ofEach (λ x. x .declared .project) l;

@@ -2,10 +2,10 @@
 -- registration, which stores to most of them.
 use Prim.Native.Nat.{ℕ, _-_}
 use mathlib.Core.Path.{_≡_, refl, sym, ap, _∙_, fun-ext}
-use mathlib.Core.List.{List, map}
+use mathlib.Core.List.{List, [], map}
 use lib.ListN.{set}
 use Rattle.numbers.specs.Lists.{oneTo}
-use Rattle.rules.specs.Ledger.{Declaration, Developer, Phase, Ledger, withPhase, withSettings, withPrices, withDevelopers}
+use Rattle.rules.specs.Ledger.{none, Developer, withCourse, Phase, Ledger, withPhase, withSettings, withPrices, withDevelopers}
 use Rattle.rules.specs.Ledger as rules
 use Rattle.rules.specs.Clearing.{ofEach}
 use Rattle.supply_curve.specs.Curve.{supplyCurve}
@@ -16,7 +16,7 @@ use Rattle.kept_curve.specs.Held.{heldCurve}
 use Rattle.kept_curve.specs.declared.Curve.{Curve}
 use Rattle.clock.specs.declared.Settings.{Settings}
 use Rattle.auction.specs.declared.Auction.{Auction}
-use Rattle.auction.specs.Holds.{phaseNumber, heldCourse, auctionOf}
+use Rattle.auction.specs.Holds.{phaseNumber, settingsHeld, heldCourse, auctionOf}
 
 -- ---- another phase, settings and prices
 
@@ -36,10 +36,6 @@ withClock a phase settings opening closing = record {
   histories = a .histories;
   curve = a .curve;
 }
-
--- the settings as the auction holds them
-abbrev pub settingsHeld : rules.Settings → Settings
-settingsHeld s = record { ce = s .ce; d = s .d; m1 = s .m1; m2 = s .m2; a = s .a }
 
 abbrev pub clocked : Ledger → Phase → rules.Settings → ℕ → ℕ → Ledger
 clocked l p s opening closing = withPhase (withPrices (withSettings l s) opening closing) p
@@ -88,30 +84,34 @@ withCourses a quantities histories curve = record {
 abbrev pub withHistory : Auction → ℕ → History → Auction
 withHistory a n r = withCourses a (a .quantities) (set (a .histories) (n - 1) r) (a .curve)
 
-module _ (a : Auction) (l : Ledger) (f : ℕ → Developer) (h : a ≡ auctionOf l) (e : (n : ℕ) → f n .declared ≡ l .developers n .declared) where
+-- what a developer's offers and a closing leave of its entry
+abbrev pub lasting : Developer → Developer
+lasting x = withCourse x 0 [] none []
+
+module _ (a : Auction) (l : Ledger) (f : ℕ → Developer) (h : a ≡ auctionOf l) (e : (n : ℕ) → lasting (f n) ≡ lasting (l .developers n)) where
   abbrev next : Ledger
   next = withDevelopers l f
 
-  keeps : {A : Type 0} (g : Declaration → A) {xs : List A} → xs ≡ ofEach (λ y. g (y .declared)) l → xs ≡ ofEach (λ y. g (y .declared)) next
+  keeps : {A : Type 0} (g : Developer → A) {xs : List A} → xs ≡ ofEach (λ y. g (lasting y)) l → xs ≡ ofEach (λ y. g (lasting y)) next
   keeps {A} g w = w ∙ ap (λ (k : ℕ → A). map k (oneTo 32)) (fun-ext (λ n. ap g (sym (e n))))
 
   pub courses-held :
-      ((n : ℕ) → f n .agent ≡ l .developers n .agent) → {qs : List ℕ} {hs : List History} {k : Curve} →
+      {qs : List ℕ} {hs : List History} {k : Curve} →
       qs ≡ ofEach (λ y. y .quantity) next → hs ≡ ofEach heldCourse next → k ≡ heldCurve (supplyCurve next) →
       withCourses a qs hs k ≡ auctionOf next
   unfolding auctionOf
-  courses-held eg eq eh ek = λ i. record {
+  courses-held eq eh ek = λ i. record {
     phase = h i .phase;
     settings = h i .settings;
     opening = h i .opening;
     closing = h i .closing;
-    projects = keeps (λ y. y .project) (λ j. h j .projects) i;
-    kinds = keeps (λ y. y .kind) (λ j. h j .kinds) i;
-    agents = (ap (λ (x : Auction). x .agents) h ∙ ap (λ (k : ℕ → ℕ). map k (oneTo 32)) (fun-ext (λ n. sym (eg n)))) i;
-    studies = keeps (λ y. y .study) (λ j. h j .studies) i;
-    days = keeps (λ y. y .day) (λ j. h j .days) i;
+    projects = keeps (λ y. y .declared .project) (λ j. h j .projects) i;
+    kinds = keeps (λ y. y .declared .kind) (λ j. h j .kinds) i;
+    agents = keeps (λ y. y .agent) (λ j. h j .agents) i;
+    studies = keeps (λ y. y .declared .study) (λ j. h j .studies) i;
+    days = keeps (λ y. y .declared .day) (λ j. h j .days) i;
     quantities = eq i;
-    declared = keeps (λ y. heldLevels (y .levels)) (λ j. h j .declared) i;
+    declared = keeps (λ y. heldLevels (y .declared .levels)) (λ j. h j .declared) i;
     histories = eh i;
     curve = ek i;
   }
@@ -119,4 +119,4 @@ module _ (a : Auction) (l : Ledger) (f : ℕ → Developer) (h : a ≡ auctionOf
   -- where nothing is withdrawn the supply curve stays
   pub curve-stays : ((n : ℕ) → f n .withdrawals ≡ l .developers n .withdrawals) → a .curve ≡ heldCurve (supplyCurve next)
   unfolding auctionOf
-  curve-stays w = ap (λ (x : Auction). x .curve) h ∙ ap heldCurve (curve-same l next (λ n. sym (w n)) (λ n. sym (e n)))
+  curve-stays w = ap (λ (x : Auction). x .curve) h ∙ ap heldCurve (curve-same l next (λ n. sym (w n)) (λ n. ap (λ (x : Developer). x .declared) (sym (e n))))

@@ -12,7 +12,7 @@ use borrow.Author.Tests.{eq-eqb, ne-eqb}
 use borrow.Rule.Slice.PartMut.{putMid, midOf, same-len-mid}
 use Rattle.rules.specs.Settling.{recordOf}
 use Rattle.award_records.specs.Records.{awardCount, recordsOf}
-use Rattle.award_records.specs.RecordLaws.{records-count, flat-length}
+use Rattle.award_records.specs.RecordLaws.{records-count, records-length}
 use Rattle.numbers.specs.Tails.{laid, Filled, filled-more, filled-all}
 
 -- what is left at place i: the record of its level, if that is above 0, and what is left behind it
@@ -57,7 +57,7 @@ writing-first award winners o l d h = record {
   developers = d;
   within = omega arith;
   long = refl;
-  room = omega (arith, flat-length 1 award winners, records-count 1 award winners (d ∙ sym l));
+  room = omega (arith, records-length 1 award winners, records-count 1 award winners (d ∙ sym l));
   filled = record { inside = omega arith; left = refl; holds = refl };
 }
 

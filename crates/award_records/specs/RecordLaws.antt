@@ -1,13 +1,14 @@
 -- Laws of the records: one for each level above 0, each of 6 bytes.
 use Prim.Native.Nat.{ℕ, zero, suc, _*_, _≤_}
 use mathlib.Core.Path.{_≡_, refl, ap}
-use mathlib.Core.Bool.{Bool, true, false, cond}
-use mathlib.Core.List.{List, [], _∷_, flatten}
+use mathlib.Core.Bool.{cond}
+use mathlib.Core.List.{List, [], _∷_, flatten, List·Memᴰ·not-nil}
 use native.Mathlib.Omega.{arith}
 use lib.Dec.{ltb, eqb, eqb·suc-zero}
 use lib.ListN.{length}
 use borrow.Author.Tests.{lt-ltb}
 use Rattle.numbers.specs.Lists.{keep}
+use Rattle.numbers.specs.ListLaws.{Each, each-more, flat-length}
 use Rattle.rules.specs.Settling.{recordOf}
 use Rattle.award_records.specs.Records.{awardCount, recordsOf}
 
@@ -38,15 +39,11 @@ records-few k (v ∷ vs) (n ∷ ns) = go v (records-few (suc k) vs ns)
     go (suc w) d = rw (eqb·suc-zero w, lt-ltb 0 (suc w) (omega arith)) (omega arith)
 
 -- a record has 6 bytes
-pub flat-length : (k : ℕ) (vs ns : List ℕ) → length (flatten (recordsOf k vs ns)) ≡ 6 * length (recordsOf k vs ns)
-unfolding recordsOf flatten
-flat-length k [] ns = refl
-flat-length k (v ∷ vs) [] = refl
-flat-length k (v ∷ vs) (n ∷ ns) = go (eqb v 0) (flat-length (suc k) vs ns)
-  where
-    rest : List (List ℕ)
-    rest = recordsOf (suc k) vs ns
+six-bytes : (k : ℕ) (vs ns : List ℕ) → Each (λ r. length r ≡ 6) (recordsOf k vs ns)
+unfolding recordsOf
+six-bytes k [] ns r m = absurd (List·Memᴰ·not-nil m)
+six-bytes k (v ∷ vs) [] r m = absurd (List·Memᴰ·not-nil m)
+six-bytes k (v ∷ vs) (n ∷ ns) r m = each-more (λ q. length q ≡ 6) (eqb v 0) (recordOf k n v) _ refl (six-bytes (suc k) vs ns) r m
 
-    go : (b : Bool) → length (flatten rest) ≡ 6 * length rest → length (flatten (cond b rest (recordOf k n v ∷ rest))) ≡ 6 * length (cond b rest (recordOf k n v ∷ rest))
-    go true e = e
-    go false e = omega arith
+pub records-length : (k : ℕ) (vs ns : List ℕ) → length (flatten (recordsOf k vs ns)) ≡ 6 * length (recordsOf k vs ns)
+records-length k vs ns = flat-length 6 (recordsOf k vs ns) (six-bytes k vs ns)

@@ -10,11 +10,11 @@ use lib.Dec.{leb}
 use lib.ListN.{getD}
 use borrow.Author.Tests.{leb-true, le-leb}
 use Rattle.numbers.specs.Cases.{and-true}
-use Rattle.numbers.specs.Lists.{oneTo, lastOr}
+use Rattle.numbers.specs.Lists.{oneTo, isEmpty, lastOr}
 use Rattle.numbers.specs.ListLaws.{Each, Passing, in-keep, any-true, in-map}
 use Rattle.rules.specs.Ledger.{declaredOrZero, Developer, Ledger}
 use Rattle.rules.specs.Clearing.{high, low, developersOf, greatestOf}
-use Rattle.rules.specs.Award.{openBetween, openToDeveloper, openTo, declaredBy, openLevels, isEmpty, row, rows}
+use Rattle.rules.specs.Award.{openBetween, openToDeveloper, openTo, declaredBy, openLevels, row, rows}
 use Rattle.rules.specs.CheckLaws.{declared-or-zero}
 use Rattle.rules.specs.Projects.{greatest-of-none, greatest-of-upper, greatest-of-attained}
 use Rattle.sound.specs.Sound.{Sound}

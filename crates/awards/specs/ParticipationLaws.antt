@@ -7,7 +7,6 @@ use mathlib.Core.Bool.{Bool, true, false, cond, not, _&&_}
 use mathlib.Core.List.{List, [], _∷_, List·Permᴰ}
 use native.Mathlib.Omega.{arith}
 use lib.Dec.{leb, eqb}
-use lib.ListN.{length}
 use borrow.Author.Tests.{not-true, leb-false, le-leb, lt-leb, lt-ltb}
 use Rattle.numbers.specs.Lists.{total}
 use Rattle.numbers.specs.Sums.{total-kept-permuted}
@@ -87,7 +86,3 @@ from-recorded l p k (v ∷ vs) = go (eqb v 0) (from-recorded l p (suc k) vs)
 pub grants-recorded : (l : Ledger) (p : ℕ) → Recorded (grants l p) (records l p)
 unfolding grants records
 grants-recorded l p = from-recorded l p 1 (award l p)
-
-pub recorded-length : {gs : List Grant} {rs : List (List ℕ)} → Recorded gs rs → length rs ≡ length gs
-recorded-length recorded-none = refl
-recorded-length (recorded-more g k r) = ap suc (recorded-length r)

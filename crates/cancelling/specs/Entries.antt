@@ -6,7 +6,7 @@ use mathlib.Core.Bool.{Bool, true, false, cond}
 use lib.Dec.{eqb}
 use native.Mathlib.Omega.{arith}
 use borrow.Author.Tests.{eqb-true, eq-eqb}
-use Rattle.numbers.specs.Cases.{not-true, clash}
+use Rattle.numbers.specs.Cases.{never-true, clash}
 use Rattle.rules.specs.Ledger.{Move, Offer, Lodge, Cancel, agentFor, Call, SetUp, Register, Open, By, Close, Developer, Phase, Round, Ledger, put, withDevelopers, withDeveloper}
 use Rattle.rules.specs.Refusals.{isFresh, isReady, mayOpen, inRound, settingsOk, isNumber, numbersOk, declarationOk, closingOk, startCovered, check, moveNumber, number}
 use Rattle.rules.specs.Rounds.{moved, accepted, step, numberAlone, granted, answer}
@@ -17,7 +17,7 @@ use Rattle.cancelling.specs.TakenBack.{own}
 -- ---- entries put one behind the other
 
 pub apart : (k n : ℕ) → eqb k n ≡ false → eqb n k ≡ false
-apart k n e = not-true (eqb n k) (λ t. clash (eq-eqb k n (sym (eqb-true n k t))) e)
+apart k n e = never-true (eqb n k) (λ t. clash (eq-eqb k n (sym (eqb-true n k t))) e)
 
 pub put-at : (n : ℕ) (x : Developer) (f : ℕ → Developer) → put n x f n ≡ x
 put-at n x f = ap (λ (b : Bool). cond b x (f n)) (eq-eqb n n refl)

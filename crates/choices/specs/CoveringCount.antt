@@ -2,14 +2,15 @@
 use Prim.Native.Nat.{ℕ, _+_, _*_, _≤_}
 use mathlib.Core.Path.{_≡_, refl, sym, ap, _∙_}
 use mathlib.Core.Bool.{Bool, true, false, cond}
-use mathlib.Core.List.{List, [], _∷_, map, List·Memᴰ·head, List·Memᴰ·tail}
+use mathlib.Core.List.{List, [], _∷_, map}
 use native.Mathlib.Omega.{arith}
 use native.Mathlib.Nat.{add-assoc, add-zero, zero-add, mul-left-comm}
 use lib.Dec.{leb}
 use borrow.Author.Tests.{le-leb}
 use lib.ListN.{length, length-append}
 use Rattle.numbers.specs.Lists.{keep, total}
-use Rattle.numbers.specs.ListLaws.{Each, keep-append, keep-le}
+use Rattle.numbers.specs.ListLaws.{Each, keep-le, keep-all, keep-append}
+use Rattle.numbers.specs.Sums.{total-add}
 use Rattle.choices.specs.Choices.{spread, choices, covering}
 use Rattle.choices.specs.Count.{product, choices-count, in-choices}
 use Rattle.choices.specs.Pairwise.{StrictlyRising}
@@ -63,23 +64,13 @@ covering-count d rows = covering-listed d rows 0 ∙ simp zero-add
 pub covering-few : (d : ℕ) (rows : List (List ℕ)) (t : ℕ) → coveringFrom d rows t ≤ length (choices rows)
 covering-few d rows t = rw (covering-listed d rows t) (keep-le (λ c. leb d (t + total c)) (choices rows))
 
-keep-every : {A : Type 0} (p : A → Bool) (xs : List A) → Each (λ x. p x ≡ true) xs → keep p xs ≡ xs
-unfolding keep
-keep-every p [] h = refl
-keep-every p (x ∷ xs) h = rw (h x (List·Memᴰ·head refl), keep-every p xs (λ y m. h y (List·Memᴰ·tail m)))
-
 -- where the lows cover, all choices do
 pub covering-all : (d : ℕ) (rows : List (List ℕ)) (t : ℕ) → Each StrictlyRising rows → d ≤ t + lowest rows → coveringFrom d rows t ≡ length (choices rows)
 covering-all d rows t h l =
     covering-listed d rows t
-    ∙ ap length (keep-every (λ c. leb d (t + total c)) (choices rows) (λ c m. le-leb d (t + total c) (omega (arith, total-between rows c h (in-choices rows c .0 m) .0))))
+    ∙ ap length (keep-all (λ c. leb d (t + total c)) (choices rows) (λ c m. le-leb d (t + total c) (omega (arith, total-between rows c h (in-choices rows c .0 m) .0))))
 
 -- ---- in any order
-
-total-add : (f g : ℕ → ℕ) (ws : List ℕ) → total (map (λ w. f w + g w) ws) ≡ total (map f ws) + total (map g ws)
-unfolding total
-total-add f g [] = refl
-total-add f g (w ∷ ws) = omega (arith, total-add f g ws)
 
 total-none : (ws : List ℕ) → total (map (λ w. 0) ws) ≡ 0
 unfolding total

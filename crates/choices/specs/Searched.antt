@@ -8,7 +8,7 @@ use native.Mathlib.Omega.{arith}
 use native.Mathlib.Nat.{add-assoc, add-zero, zero-add}
 use lib.Dec.{ltb}
 use lib.ListN.{length}
-use borrow.Author.Tests.{lt-ltb, le-ltb, ltb-false, not-true as test-false}
+use borrow.Author.Tests.{lt-ltb, le-ltb, ltb-false, not-true}
 use Rattle.numbers.specs.Cases.{or-right}
 use Rattle.numbers.specs.Lists.{keep, total, lastOr, any}
 use Rattle.numbers.specs.ListLaws.{Each, in-keep}
@@ -74,7 +74,7 @@ found-in-order d top rows some high =
     ones = keep (λ row. not (several row)) rows
 
     single : Each (λ row. row ≡ lowOf row ∷ []) ones
-    single row m = let k = in-keep (λ r. not (several r)) row rows .0 m in one-level row (some row (k .0)) (test-false (several row) (k .1))
+    single row m = let k = in-keep (λ r. not (several r)) row rows .0 m in one-level row (some row (k .0)) (not-true (several row) (k .1))
 
 -- ---- where the lows cover, they alone are found
 

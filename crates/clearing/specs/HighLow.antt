@@ -7,6 +7,7 @@ use mathlib.Core.List.{List, [], _∷_, List·Memᴰ·cases-cons}
 use native.Mathlib.Omega.{arith}
 use lib.Dec.{leb}
 use borrow.Author.Tests.{leb-true, leb-false, lt-leb}
+use Rattle.numbers.specs.Cases.{one-of}
 use Rattle.numbers.specs.ListLaws.{last-in}
 use Rattle.rules.specs.Ledger.{declaredOrZero, Step, Developer}
 use Rattle.rules.specs.Clearing.{highest, quantityAfter, high, low}
@@ -16,11 +17,6 @@ use Rattle.sound.specs.Sound.{levelsOf, Descends}
 use Rattle.clearing.specs.Course.{Falls}
 
 -- ---- the quantity after those withdrawals that pass a test
-
--- one of two numbers, by a test
-one-of : (P : ℕ → Type 0) (b : Bool) (v q : ℕ) → P v → P q → P (cond b v q)
-one-of P true v q x y = x
-one-of P false v q x y = y
 
 after-le : (t : ℕ → Bool) (b : ℕ) (ls : List ℕ) (cur q : ℕ) (ws : List Step) → lowering ls cur (levelsOf ws) ≡ true → cur ≤ b → q ≤ b → quantityAfter t q ws ≤ b
 unfolding quantityAfter

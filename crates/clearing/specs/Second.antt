@@ -5,14 +5,14 @@ use mathlib.Core.Logic.{_⊎_, inl, inr, ⊎-elim}
 use mathlib.Core.Bool.{Bool, true, false, cond, not}
 use native.Mathlib.Omega.{arith}
 use lib.Dec.{eqb}
-use borrow.Author.Tests.{leb-true, le-leb, eqb-true}
-use Rattle.numbers.specs.Cases.{and-true, not-true, le-or-lt, clash}
-use Rattle.numbers.specs.Lists.{oneTo, any}
+use borrow.Author.Tests.{leb-true, le-leb, eqb-true, not-false}
+use Rattle.numbers.specs.Cases.{and-true, never-true, le-or-lt, clash}
+use Rattle.numbers.specs.Lists.{oneTo, isEmpty, any}
 use Rattle.numbers.specs.ListLaws.{any-true, in-map, in-one-to, greatest-least, total-map-le}
 use Rattle.numbers.specs.Least.{Sought, Least, sought-from, sought-least}
 use Rattle.rules.specs.Ledger.{Developer, Ledger, nobody, withDevelopers}
 use Rattle.rules.specs.Clearing.{high, developersOf, greatestOf, supply, demandAt, covered, closingPrice}
-use Rattle.rules.specs.Second.{noSteps, lodgedApplied, takenOut, remaining, short, secondPrice}
+use Rattle.rules.specs.Second.{lodgedApplied, takenOut, remaining, short, secondPrice}
 use Rattle.rules.specs.Projects.{in-developers-of, greatest-of-upper}
 use Rattle.sound.specs.Sound.{started, Sound}
 use Rattle.sound.specs.Parts.{Part}
@@ -26,10 +26,6 @@ remaining-part l = record { settings = refl; closing = refl; each = λ n. go n (
     go : (n : ℕ) (b : Bool) → (cond b nobody (l .developers n) ≡ nobody) ⊎ (cond b nobody (l .developers n) ≡ l .developers n)
     go n true = inl refl
     go n false = inr refl
-
-not-false : (b : Bool) → not b ≡ false → b ≡ true
-not-false true e = refl
-not-false false e = absurd (clash refl e)
 
 -- where no lodged step was applied, nobody is taken out
 pub none-taken-out : (l : Ledger) → ((k : ℕ) → takenOut l k ≡ false) → remaining l ≡ l
@@ -67,7 +63,7 @@ module _ (l m : Ledger) (t : Part l m) where
 
 pub short-uncovered : (l : Ledger) → short l ≡ true → covered (remaining l) (l .settings .a) ≡ false
 unfolding short
-short-uncovered l h = not-true (covered (remaining l) (l .settings .a)) (λ c. clash h (ap not c))
+short-uncovered l h = never-true (covered (remaining l) (l .settings .a)) (λ c. clash h (ap not c))
 
 -- ---- of a sound ledger with a round opened
 
@@ -130,7 +126,7 @@ module _ (l : Ledger) (s : Sound l) (n : ℕ) where
 
   applied-kind : (y : Developer) → lodgedApplied y ≡ true → y .declared .kind ≡ 1
   unfolding lodgedApplied
-  applied-kind y e = eqb-true _ 1 (and-true (eqb (y .declared .kind) 1) (not (noSteps (y .withdrawals))) e .0)
+  applied-kind y e = eqb-true _ 1 (and-true (eqb (y .declared .kind) 1) (not (isEmpty (y .withdrawals))) e .0)
 
   kind-number : x .declared .kind ≡ 1 → (1 ≤ n) × (n ≤ 32)
   kind-number e = ⊎-elim
@@ -145,7 +141,7 @@ module _ (l : Ledger) (s : Sound l) (n : ℕ) where
       go true h =
           let r = kind-number (applied-kind x h) in
           any-true (λ m. lodgedApplied (l .developers m)) (developersOf l (x .declared .project)) .1 (n, in-developers-of l _ n .1 (r .0, r .1, refl), h)
-      go false h = not-true _ (λ a.
+      go false h = never-true _ (λ a.
           let r = any-true (λ m. lodgedApplied (l .developers m)) (developersOf l (x .declared .project)) .0 a in
           let k = applied-kind (l .developers (r .0)) (r .2) in
           let same : r .0 ≡ n = s .alone (r .0) n k (in-developers-of l _ (r .0) .0 (r .1) .2) in

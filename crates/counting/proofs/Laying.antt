@@ -8,9 +8,10 @@ use native.Mathlib.Omega.{arith}
 use lib.Dec.{leb}
 use lib.ListN.{length, drop, getD, drop-of-length-le}
 use borrow.Author.Tests.{le-leb, leb-true}
+use Rattle.numbers.specs.Lists.{part}
 use Rattle.numbers.specs.ListLaws.{Each}
 use Rattle.table.specs.Rows.{rowsIn, EndsRise}
-use Rattle.table.specs.Places.{part, RowLaid, Laid}
+use Rattle.table.specs.Places.{RowLaid, Laid}
 use Rattle.table.specs.PlaceLaws.{part-cons, rows-cons, rise-row, rise-back, rise-end}
 use Rattle.counting.specs.Counted.{Tells}
 

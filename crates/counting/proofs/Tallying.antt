@@ -5,10 +5,10 @@ use mathlib.Core.List.{List, [], _∷_}
 use native.Mathlib.Omega.{arith}
 use native.Mathlib.Nat.{mul-one, one-mul, mul-assoc, mul-le-mul, mul-le-mul-left, one-le-mul}
 use lib.ListN.{length, drop, getD, drop-of-length-le}
+use Rattle.numbers.specs.Lists.{part}
 use Rattle.choices.specs.Choices.{choices}
 use Rattle.table.specs.Rows.{rowsIn, EndsRise}
 use Rattle.choices.specs.Numbered.{count, count-row}
-use Rattle.table.specs.Places.{part}
 use Rattle.table.specs.PlaceLaws.{part-length, rows-cons, rise-row, rise-end}
 use Rattle.counting.specs.Counted.{CountedTo}
 

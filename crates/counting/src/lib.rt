@@ -2,9 +2,12 @@
 ghost use mathlib.Core.Path.{_≡_};
 ghost use Prim.Native.Nat.{_≤_, _<_};
 ghost use lib.ListN.{length};
+ghost use Rattle.numbers.specs.Lists.{part};
 ghost use Rattle.table.specs.Rows.{EndsRise};
-ghost use Rattle.table.specs.Places.{part, RowLaid, Laid, Long};
+ghost use Rattle.table.specs.Places.{RowLaid, Laid, Long};
 ghost use Rattle.counting.specs.Counted.{Tells, CountedTo};
+use levels::Levels;
+use table::Table;
 
 // Whether the levels from `at` to below `end` rise strictly, none above 10^9.
 fn row_is_laid(levels: &[u32; 288], at: usize, end: usize) -> bool
@@ -18,7 +21,7 @@ fn row_is_laid(levels: &[u32; 288], at: usize, end: usize) -> bool
         }
         k += 1;
     }
-    levels[k] <= 1_000_000_000
+    levels[k] <= Levels::LARGEST
 }
 
 // Whether the table holds 32 rows, none empty, each as above.
@@ -33,7 +36,7 @@ pub fn is_laid(levels: &[u32; 288], ends: &[usize; 32]) -> bool
         if end <= at {
             return false;
         }
-        if 288 < end {
+        if Table::MOST < end {
             return false;
         }
         if !row_is_laid(levels, at, end) {

@@ -10,6 +10,7 @@ use lib.Dec.{eqb}
 use borrow.Author.Tests.{eqb-true}
 use Rattle.numbers.specs.Cases.{and-true}
 use Rattle.numbers.specs.Lists.{keep}
+use Rattle.numbers.specs.ListLaws.{numbered-nth}
 use Rattle.rules.specs.Ledger.{Step, Standing, none, made, Developer, Phase, Round, Ledger, nobody}
 use Rattle.rules.specs.Clearing.{ofEach, highest}
 use Rattle.rules.specs.Refusals.{floor, falling}
@@ -22,7 +23,7 @@ use Rattle.history.specs.Held.{heldHistory, additions, Reached, Applied, LastLe
 use Rattle.history.specs.declared.History.{History}
 use Rattle.courses.specs.declared.Courses.{Courses}
 use Rattle.courses.specs.Courses.{heldCourse, afterRound, OffersApplied}
-use Rattle.courses.specs.Places.{numbered-length, numbered-at, Filling, filling-next, filling-all}
+use Rattle.courses.specs.Places.{numbered-length, Filling, filling-next, filling-all}
 
 -- ---- one developer
 
@@ -146,13 +147,13 @@ module _ (ks qs : List ℕ) (hs : List History) (o c : ℕ) where
       f = applicable l (h .sound) (h .round) (suc i)
 
       kind : getD ks i 0 ≡ x .declared .kind
-      kind = ap (λ (xs : List ℕ). getD xs i 0) (h .kinds) ∙ numbered-at _ i 0 w
+      kind = numbered-nth _ 32 ks i 0 (h .kinds) w
 
       quantity : getD qs i 0 ≡ x .quantity
-      quantity = ap (λ (xs : List ℕ). getD xs i 0) (h .quantities) ∙ numbered-at _ i 0 w
+      quantity = numbered-nth _ 32 qs i 0 (h .quantities) w
 
       history : getD hs i d ≡ heldCourse x
-      history = ap (λ (xs : List History). getD xs i d) (h .histories) ∙ numbered-at _ i d w
+      history = numbered-nth _ 32 hs i d (h .histories) w
 
       history-next : r ≡ heldCourse (afterRound l x)
       history-next = applied-history (l .closing) (l .opening) x f g r (rw (history, h .closing) at er) (rw (em, kind, quantity, h .opening) at ea)

@@ -1,9 +1,9 @@
 -- Laws of the arrays of 32 places, developer n at place n - 1: reading one place, storing to one, and filling all.
-use Prim.Native.Nat.{ℕ, zero, suc, _+_, _-_, _≤_, _<_}
+use Prim.Native.Nat.{ℕ, suc, _+_, _-_, _≤_, _<_}
 use mathlib.Core.Path.{_≡_, refl, sym, ap, _∙_}
 use mathlib.Core.Logic.{⊎-elim}
 use mathlib.Core.Bool.{Bool, true, false, cond}
-use mathlib.Core.List.{List, [], _∷_, map}
+use mathlib.Core.List.{List, map}
 use native.Mathlib.Omega.{arith}
 use lib.Dec.{eqb}
 use lib.ListN.{length, getD, set, replicate, length-map, length-set, length-replicate, getD-replicate}
@@ -11,7 +11,7 @@ use lib.Seq.{ext-getD, getD-set-same, getD-set-other}
 use borrow.Author.Tests.{eqb-true, eqb-false}
 use Rattle.numbers.specs.Cases.{le-or-lt}
 use Rattle.numbers.specs.Lists.{oneTo}
-use Rattle.numbers.specs.ListLaws.{length-one-to, one-to-nth}
+use Rattle.numbers.specs.ListLaws.{length-one-to, numbered-nth}
 use Rattle.rules.specs.Ledger.{Developer, Ledger, nobody, start, put}
 use Rattle.rules.specs.Clearing.{ofEach}
 
@@ -20,17 +20,8 @@ module _ {A : Type 0} where
   pub numbered-length : (g : ℕ → A) → length (map g (oneTo 32)) ≡ 32
   numbered-length g = length-map (oneTo 32) g ∙ length-one-to 32
 
-  -- by the place i of the list, whatever stands behind its end
-  pub numbered-at : (g : ℕ → A) (i : ℕ) (d : A) → i < 32 → getD (map g (oneTo 32)) i d ≡ g (suc i)
-  numbered-at g i d h = inside g (oneTo 32) i d (let e = length-one-to 32 in omega arith) ∙ ap g (one-to-nth 32 i h)
-    where
-      inside : (g : ℕ → A) (xs : List ℕ) (i : ℕ) (d : A) → i < length xs → getD (map g xs) i d ≡ g (getD xs i 0)
-      inside g [] i d h = absurd (omega arith)
-      inside g (x ∷ xs) zero d h = refl
-      inside g (x ∷ xs) (suc i) d h = inside g xs i d (omega arith)
-
   pub numbered : (g : ℕ → A) (d : A) (xs : List A) → length xs ≡ 32 → ((i : ℕ) → i < 32 → getD xs i d ≡ g (suc i)) → xs ≡ map g (oneTo 32)
-  numbered g d xs e h = ext-getD d xs (map g (oneTo 32)) (e ∙ sym (numbered-length g)) (λ i w. h i (omega arith) ∙ sym (numbered-at g i d (omega arith)))
+  numbered g d xs e h = ext-getD d xs (map g (oneTo 32)) (e ∙ sym (numbered-length g)) (λ i w. h i (omega arith) ∙ sym (numbered-nth g 32 _ i d refl (omega arith)))
 
   -- filled place by place: the first i places are done
   pub record Filling (g : ℕ → A) (d : A) (xs : List A) (i : ℕ) : Type 0 where
@@ -58,11 +49,11 @@ module _ {A : Type 0} where
         go j w true t =
             let q : j ≡ i = let z = eqb-true (suc j) (suc i) t in omega arith in
             rw q (getD-set-same (ofEach f l) i v v (let z = numbered-length (λ n. f (l .developers n)) in omega arith) ∙ e)
-        go j w false t = getD-set-other (ofEach f l) i j v v (λ q. eqb-false (suc j) (suc i) t (ap suc q)) ∙ numbered-at _ j v w
+        go j w false t = getD-set-other (ofEach f l) i j v v (λ q. eqb-false (suc j) (suc i) t (ap suc q)) ∙ numbered-nth _ 32 _ j v refl w
 
     -- the same by the developer's number
     pub each-at : (l : Ledger) (n : ℕ) (d : A) → 1 ≤ n → n ≤ 32 → getD (ofEach f l) (n - 1) d ≡ f (l .developers n)
-    each-at l n d low high = numbered-at (λ m. f (l .developers m)) (n - 1) d (omega arith) ∙ ap (λ (m : ℕ). f (l .developers m)) (omega arith)
+    each-at l n d low high = numbered-nth (λ m. f (l .developers m)) 32 _ (n - 1) d refl (omega arith) ∙ ap (λ (m : ℕ). f (l .developers m)) (omega arith)
 
     pub put-at : (l : Ledger) (n : ℕ) (x : Developer) (v : A) → 1 ≤ n → n ≤ 32 → v ≡ f x → set (ofEach f l) (n - 1) v ≡ map (λ m. f (put n x (l .developers) m)) (oneTo 32)
     put-at l n x v low high e =

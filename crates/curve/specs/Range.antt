@@ -7,7 +7,7 @@ use native.Mathlib.Omega.{arith}
 use native.Mathlib.Nat.{mul-comm, mul-assoc, mul-pos, suc-mul, mul-le-mul-left, le-trans, le-of-eq, div-lt-iff-lt-mul, div-le-of-le-mul}
 use lib.Dec.{leb}
 use borrow.Author.Tests.{lt-ltb, le-leb, lt-leb, eq-eqb, leb-true, ltb-true, eqb-true}
-use Rattle.numbers.specs.Cases.{le-or-lt, and-true, not-true}
+use Rattle.numbers.specs.Cases.{le-or-lt, and-true, never-true}
 use Rattle.curve.specs.Demand.{dem, dividedUp, InBounds, InRange, inBounds, inRange}
 
 pub dem-from-ce : (ce d m1 m2 p : ℕ) → ce ≤ p → dem ce d m1 m2 p ≡ d - (d - m1) * (p - ce) / ce
@@ -107,7 +107,7 @@ module _ (ce d m1 m2 : ℕ) where
   in-bounds-test s = rw (eq-eqb (ce % 2) 0 (s .even), le-leb 2 ce (s .ce-low), le-leb ce 500000 (s .ce-high), lt-ltb 0 m1 (s .m1-low), lt-ltb m1 d (s .m1-d), lt-ltb d m2 (s .d-m2), le-leb m2 100000000000 (s .m2-high))
 
   pub out-of-bounds : (InBounds ce d m1 m2 → ⊥) → inBounds ce d m1 m2 ≡ false
-  out-of-bounds h = not-true (inBounds ce d m1 m2) (λ e. h (in-bounds e))
+  out-of-bounds h = never-true (inBounds ce d m1 m2) (λ e. h (in-bounds e))
 
 module _ (ce p : ℕ) where
   pub in-range : inRange ce p ≡ true → InRange ce p
@@ -119,4 +119,4 @@ module _ (ce p : ℕ) where
   in-range-test a = rw (le-leb (ce / 2) p (a .low), le-leb p (2 * ce) (a .high))
 
   pub out-of-range : (InRange ce p → ⊥) → inRange ce p ≡ false
-  out-of-range h = not-true (inRange ce p) (λ e. h (in-range e))
+  out-of-range h = never-true (inRange ce p) (λ e. h (in-range e))

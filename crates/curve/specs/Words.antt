@@ -8,7 +8,7 @@ use native.Mathlib.Nat.{sub-zero}
 use lib.Dec.{eqb}
 use lib.IntN.{pos, negsuc, pos-ne-negsuc}
 use borrow.Author.Tests.{eq-eqb, ne-eqb}
-use Rattle.numbers.specs.Cases.{le-or-lt, not-true}
+use Rattle.numbers.specs.Cases.{le-or-lt, never-true}
 use Rattle.numbers.specs.Least.{leastFrom, Least, least-is}
 use Rattle.curve.specs.Curve.{Fraction, curve, priced}
 use Rattle.curve.specs.Demand.{dem, demInWords, InBounds, InRange}
@@ -23,7 +23,7 @@ dem-least ce d m1 m2 p s a h = record {
   low = zero-le;
   high = dem-range ce d m1 m2 p s a .1;
   passes = dem-inverse ce d m1 m2 p s a h (dem ce d m1 m2 p) .0 (omega arith);
-  none = λ q l g. not-true _ (λ t. let k : dem ce d m1 m2 p ≤ q = dem-inverse ce d m1 m2 p s a h q .1 t in omega arith);
+  none = λ q l g. never-true _ (λ t. let k : dem ce d m1 m2 p ≤ q = dem-inverse ce d m1 m2 p s a h q .1 t in omega arith);
 }
 
 pub dem-in-words : (ce d m1 m2 p : ℕ) → InBounds ce d m1 m2 → InRange ce p → demInWords ce d m1 m2 p ≡ dem ce d m1 m2 p

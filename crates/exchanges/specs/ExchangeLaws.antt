@@ -3,7 +3,7 @@ use mathlib.Core.Path.{_≡_, refl, sym, ap, subst, _∙_}
 use mathlib.Core.Bool.{Bool, true, false, cond, _&&_, true≢false}
 use mathlib.Core.List.{List, [], _∷_}
 use Rattle.numbers.specs.Cases.{and-true, clash}
-use Rattle.numbers.specs.Lists.{keep, all}
+use Rattle.numbers.specs.Lists.{keep, isEmpty, all}
 use Rattle.exchanges.specs.Exchanges.{SameOfEach, Exchanged, unchanged, neighbours, behind, further}
 
 -- ---- exchanging keeps what each has, and whether all pass a test
@@ -45,10 +45,6 @@ tailOf : {A : Type 0} → List A → List A
 tailOf [] = []
 tailOf (x ∷ xs) = xs
 
-isEmpty : {A : Type 0} → List A → Bool
-isEmpty [] = true
-isEmpty (x ∷ xs) = false
-
 -- two of one and the same, exchanged, are the same in the same order only if they are equal
 pub in-order : {A : Type 0} (x y : A) → SameOfEach {N = A} (λ n z. true) (x ∷ y ∷ []) (y ∷ x ∷ []) → x ≡ y
 unfolding keep headOr
@@ -64,7 +60,7 @@ record Front {N A : Type 0} (its : N → A → Bool) (t : A → Bool) (x : A) (y
 module _ {N A : Type 0} (its : N → A → Bool) (once : (x : A) (n k : N) → its n x ≡ true → its k x ≡ true → n ≡ k)
     (t : A → Bool) (someones : (x : A) → t x ≡ true → (n : N) × (its n x ≡ true)) where
   front : (n : N) (x : A) (zs ys : List A) → its n x ≡ true → all t ys ≡ true → x ∷ zs ≡ keep (its n) ys → Front its t x ys
-  unfolding keep all headOr isEmpty
+  unfolding keep all headOr
   front n x zs [] p a e = absurd (true≢false (sym (ap isEmpty e)))
   front n x zs (y ∷ ys) p a e = go (its n y) refl (front n x zs ys p (and-true (t y) (all t ys) a .1))
     where
@@ -85,7 +81,7 @@ module _ {N A : Type 0} (its : N → A → Bool) (once : (x : A) (n k : N) → i
           }
 
   pub exchanged : (xs ys : List A) → all t xs ≡ true → all t ys ≡ true → SameOfEach its xs ys → Exchanged its xs ys
-  unfolding keep all isEmpty tailOf
+  unfolding keep all tailOf
   exchanged [] [] a b h = unchanged
   exchanged [] (y ∷ ys) a b h =
       let o = someones y (and-true (t y) (all t ys) b .0) in

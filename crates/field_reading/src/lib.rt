@@ -2,7 +2,7 @@
 ghost use mathlib.Core.Path.{_≡_};
 ghost use Prim.Native.Nat.{_+_, _≤_};
 ghost use lib.ListN.{length, take, drop};
-ghost use Rattle.format.specs.Hex.{isHex, allHex, valueOf, number};
+ghost use Rattle.format.specs.Hex.{isHex, allHex, valueOf, hexNumber};
 
 // Whether a byte is one of 0-9 and A-F.
 fn is_hex(c: u8) -> bool
@@ -50,7 +50,7 @@ pub fn value_of(c: u8) -> u64
 // The number that at most 16 digits stand for.
 fn number_of(digits: &[u8]) -> u64
     requires { ⌜ length (now digits) ≤ 16 ⌝ }
-    ensures { λ r. ⌜ r ≡ number (now (digits .entry)) ⌝ }
+    ensures { λ r. ⌜ r ≡ hexNumber (now (digits .entry)) ⌝ }
 {
     let mut n: u64 = 0;
     let mut i: usize = 0;
@@ -64,7 +64,7 @@ fn number_of(digits: &[u8]) -> u64
 // The field of `width` digits at `start`.
 pub fn field(line: &[u8], start: usize, width: usize) -> u64
     requires { ⌜ (start + width ≤ length (now line)) × (width ≤ 16) ⌝ }
-    ensures { λ r. ⌜ r ≡ number (take width (drop start (now (line .entry)))) ⌝ }
+    ensures { λ r. ⌜ r ≡ hexNumber (take width (drop start (now (line .entry)))) ⌝ }
 {
     number_of(&line[start..start + width])
 }

@@ -12,7 +12,7 @@ use lib.ListN.{length, getD}
 use lib.Seq.{getD-take}
 use Rattle.numbers.specs.Cases.{and-true, or-true, le-or-lt}
 use Rattle.numbers.specs.Lists.{total, all}
-use Rattle.format.specs.Fields.{Row, rows, listed, rowIn, fixed, each, count, repeats}
+use Rattle.format.specs.Fields.{Row, tableRows, listed, tableRowIn, fixed, each, count, repeats}
 use Rattle.format.specs.TableLaws.{row-passes}
 
 -- at most 8 fixed fields, of 1 to 16 digits; at most 2 follow for each one that a last fixed field of 2 digits counts
@@ -72,7 +72,7 @@ fitting-row r e =
 
 pub fitting-kind : (k : ℕ) → Fitting (fixed k) (each k)
 unfolding fitting narrow fixed each total all
-fitting-kind k = fitting-row (rowIn rows k) (row-passes fitting rows refl refl k)
+fitting-kind k = fitting-row (tableRowIn tableRows k) (row-passes fitting tableRows refl refl k)
 
 -- ---- how many fields follow
 

@@ -7,36 +7,30 @@ use native.Mathlib.Omega.{arith}
 use lib.Dec.{eqb}
 use lib.ListN.{getD}
 use Rattle.numbers.specs.Cases.{and-true}
-use Rattle.rules.specs.Ledger.{Phase, Fresh, Ready, Round, Between, Closed, Ledger}
-use Rattle.rules.specs.Refusals.{isOfKind, check}
+use Rattle.rules.specs.Ledger.{Ledger}
+use Rattle.rules.specs.Refusals.{isBetween, isOfKind, check}
 use Rattle.rules.specs.Rounds.{ledger}
 use Rattle.rules.specs.CheckLaws.{of-kind-facts}
 use Rattle.sound.specs.Sound.{Sound}
 use Rattle.reachable.specs.Reachable.{sound}
 use Rattle.courses.specs.Places.{each-at}
-use Rattle.forcing_game.specs.Forcing.{isBetween, pairOk, listOk, forcingNumber, forcedOutcome, firstMove}
+use Rattle.forcing_game.specs.Forcing.{pairOk, listOk, forcingNumber, forcedOutcome, firstMove}
 use Rattle.forcing_game.specs.ForcingLaws.{falling-each}
 use Rattle.forcing_checks.specs.Asking.{pairOkBy, listOkBy, forcingNumberBy}
-use Rattle.forcing_checks.specs.AskingLaws.{Pair, Listed, list-facts, Asked, asked}
+use Rattle.forcing_checks.specs.AskingLaws.{Pair, Listed, list-facts, Question, question-facts}
 use Rattle.rivals.specs.declared.Rival.{Rival}
 use Rattle.rivals.specs.declared.Supplies.{Supplies}
 use Rattle.rivals.specs.declared.Game.{Game}
 use Rattle.rivals.specs.Plain.{Held, highIn, withdrawsBy, withdrawsIn}
 use Rattle.auction.specs.declared.Auction.{Auction}
-use Rattle.auction.specs.Holds.{phaseNumber, auctionOf}
+use Rattle.auction.specs.Holds.{auctionOf}
+use Rattle.auction.specs.PhaseNumbers.{phase-by-number}
 use Rattle.auction.proofs.Calls.{where-true}
 use Rattle.auction.proofs.DeveloperHeld.{kind-is, quantity-at}
 use Rattle.forcing.specs.declared.Forced.{Forced}
 use Rattle.forcing.specs.Forces.{refusedForcing, ForcesPrice}
 use Rattle.forcing.specs.Playing.{keeping, suppliesOf, gameOf, Fitting}
 use Rattle.forcing.proofs.Games.{list-is, game-held, game, value-played, move-played}
-
-between-number : (p : Phase) → isBetween p ≡ eqb (phaseNumber p) 3
-between-number Fresh = refl
-between-number Ready = refl
-between-number Round = refl
-between-number Between = refl
-between-number Closed = refl
 
 module _ (a : Auction) (m n : ℕ) (ps : List ℕ) where
   -- ---- the number
@@ -63,8 +57,7 @@ module _ (a : Auction) (m n : ℕ) (ps : List ℕ) where
         ap₂ (λ (i j : ℕ). not (eqb i j)) (project-at m (u .0)) (project-at n (u .1)))
 
     between-held : eqb (a .phase) 3 ≡ isBetween (l .phase)
-    unfolding auctionOf
-    between-held = ap (λ (x : Auction). eqb (x .phase) 3) h ∙ sym (between-number (l .phase))
+    between-held = sym (phase-by-number a l h isBetween (λ k. eqb k 3) refl refl refl refl refl)
 
     list-held : listOkBy (a .settings .ce / 2) (a .closing) ps ≡ listOk l ps
     unfolding auctionOf
@@ -84,8 +77,8 @@ module _ (a : Auction) (m n : ℕ) (ps : List ℕ) where
   -- ---- the answer
 
   module _ (k : ℕ) (e : k ≡ numberBy) (z : k ≡ 0) where
-    question : Asked (a .phase) (a .settings .ce / 2) (a .closing) m n ps
-    question = asked _ _ _ (a .projects) (a .kinds) m n ps (sym e ∙ z)
+    question : Question (a .phase) (a .settings .ce / 2) (a .closing) m n ps
+    question = question-facts _ _ _ (a .projects) (a .kinds) m n ps (sym e ∙ z)
 
     pub pair : Pair m n
     pair = question .pair

@@ -12,7 +12,7 @@ use Rattle.numbers.specs.ListLaws.{Each}
 use Rattle.curve.specs.Demand.{InRange}
 use Rattle.rules.specs.Ledger.{Developer, Phase, Fresh, Ready, Round, Between, Closed, Ledger, withDeveloper}
 use Rattle.rules.specs.Clearing.{ofEach, supply, demandAt}
-use Rattle.rules.specs.Refusals.{isFresh, floor}
+use Rattle.rules.specs.Refusals.{isFresh, isBetween, floor}
 use Rattle.rules.specs.CheckLaws.{in-settings}
 use Rattle.sound.specs.Sound.{started, Sound}
 use Rattle.reachable.specs.Bounds.{closing-in-range}
@@ -24,11 +24,11 @@ use Rattle.clock.specs.declared.Settings.{Settings}
 use Rattle.courses.specs.Places.{each-at, put-at, put-keeps}
 use Rattle.forcing_game.specs.Game.{First, value, best}
 use Rattle.forcing_game.specs.SimulationLaws.{InStep, value-same, best-same}
-use Rattle.forcing_game.specs.Forcing.{mayWithdraw, withdrawing, withRivals, outcomeOf, isBetween, listOk, forcedOutcome, firstMove}
+use Rattle.forcing_game.specs.Forcing.{mayWithdraw, withdrawing, withRivals, outcomeOf, listOk, forcedOutcome, firstMove}
 use Rattle.forcing_game.specs.ForcingLaws.{Rival as Standing, keeping as still, rival-leaves, withQuantity, leftAt, rivalsAt, outcome-rivals, falling-each, listed-in}
 use Rattle.forcing_checks.specs.Asking.{listOkBy}
 use Rattle.forcing_checks.specs.AskingLaws.{Pair, list-facts}
-use Rattle.auction.specs.Parts.{settingsHeld}
+use Rattle.auction.specs.Holds.{settingsHeld}
 use Rattle.rivals.specs.declared.Rival.{Rival}
 use Rattle.rivals.specs.declared.Supplies.{Supplies}
 use Rattle.rivals.specs.declared.Game.{Game}

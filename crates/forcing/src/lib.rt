@@ -17,7 +17,7 @@ pub struct Forced {
     pub withdraws: bool,
 }
 
-fn refused(number: u8) -> Forced
+pub fn refused(number: u8) -> Forced
     ensures { λ r. ⌜ r ≡ refusedForcing number ⌝ }
 {
     Forced {

@@ -42,19 +42,19 @@ list-facts floor standing ps e =
     record { some = leb-true 1 (length ps) (u .0); few = leb-true (length ps) 10 (u .1); falls = t .1 }
 
 -- where the question is not refused
-pub record Asked (phase floor standing m n : ℕ) (ps : List ℕ) : Type 0 where
+pub record Question (phase floor standing m n : ℕ) (ps : List ℕ) : Type 0 where
   pub between : eqb phase 3 ≡ true
   pub pair : Pair m n
   pub list : listOkBy floor standing ps ≡ true
 
-pub asked :
+pub question-facts :
     (phase floor standing : ℕ) (projects kinds : List ℕ) (m n : ℕ) (ps : List ℕ) →
-    forcingNumberBy phase floor standing projects kinds m n ps ≡ 0 → Asked phase floor standing m n ps
-asked phase floor standing projects kinds m n ps = go (eqb phase 3) (pairOkBy projects kinds m n && listOkBy floor standing ps) refl refl
+    forcingNumberBy phase floor standing projects kinds m n ps ≡ 0 → Question phase floor standing m n ps
+question-facts phase floor standing projects kinds m n ps = go (eqb phase 3) (pairOkBy projects kinds m n && listOkBy floor standing ps) refl refl
   where
     go :
         (b c : Bool) → eqb phase 3 ≡ b → pairOkBy projects kinds m n && listOkBy floor standing ps ≡ c → check b 2 (check c 17 0) ≡ 0 →
-        Asked phase floor standing m n ps
+        Question phase floor standing m n ps
     go true true e f h =
         let t = and-true (pairOkBy projects kinds m n) (listOkBy floor standing ps) f in
         record { between = e; pair = pair-facts projects kinds m n (t .0); list = t .1 }

@@ -9,11 +9,13 @@ ghost use Rattle.forcing_checks.specs.Asking.{pairOkBy, listOkBy, forcin
 // The most prices that are listed.
 pub const MOST_PRICES: usize = 10;
 
+const MOST_DEVELOPERS: u64 = supply::MOST_DEVELOPERS as u64;
+
 // Whether a number is that of a developer of kind 2.
 fn is_new_plant(kinds: [u8; 32], developer: u64) -> bool
     ensures { λ r. ⌜ r ≡ isOfKind 2 developer (getD kinds (developer - 1) 0) ⌝ }
 {
-    if 32 < developer {
+    if MOST_DEVELOPERS < developer {
         return false;
     }
     step_checks::is_of_kind(kinds, developer as u8, supply::NEW)

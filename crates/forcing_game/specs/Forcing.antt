@@ -1,13 +1,13 @@
 -- Who can force the price (document 02, 11): the game of two developers from an auction between rounds, over the ledger and document 01's terms.
 use Prim.Native.Nat.{ℕ, min}
-use mathlib.Core.Bool.{Bool, true, false, not, _&&_}
+use mathlib.Core.Bool.{Bool, not, _&&_}
 use mathlib.Core.List.{List, [], _∷_, _++_}
 use lib.Dec.{leb, ltb, eqb}
 use lib.ListN.{length}
 use Rattle.numbers.specs.Lists.{keep}
-use Rattle.rules.specs.Ledger.{Developer, Phase, Fresh, Ready, Round, Between, Closed, Ledger, withDeveloper}
+use Rattle.rules.specs.Ledger.{withCourse, Developer, Ledger, withDeveloper}
 use Rattle.rules.specs.Clearing.{covered}
-use Rattle.rules.specs.Refusals.{floor, isOfKind, falling, check}
+use Rattle.rules.specs.Refusals.{isBetween, floor, isOfKind, falling, check}
 use Rattle.forcing_game.specs.Game.{Choice, First, value, best, Forced}
 
 -- one at 0 can only keep
@@ -16,14 +16,7 @@ mayWithdraw x = ltb 0 (x .quantity)
 
 -- a rival that withdraws to 0 at price p
 unfoldable pub withdrawing : ℕ → Developer → Developer
-withdrawing p x = record {
-  declared = x .declared;
-  agent = x .agent;
-  quantity = 0;
-  withdrawals = x .withdrawals ++ (record { price = p; level = 0 } ∷ []);
-  offer = x .offer;
-  lodged = x .lodged;
-}
+withdrawing p x = withCourse x 0 (x .withdrawals ++ (record { price = p; level = 0 } ∷ [])) (x .offer) (x .lodged)
 
 -- the lowest of prices, or p of none; all are below p
 unfoldable pub lowestOr : ℕ → List ℕ → ℕ
@@ -37,14 +30,6 @@ withRivals l m n x y = withDeveloper (withDeveloper l m x) n y
 -- the outcome: the lowest covered listed price, or the standing price, which is the last C, if no listed one is covered
 unfoldable pub outcomeOf : Ledger → ℕ → ℕ → List ℕ → Developer → Developer → ℕ
 outcomeOf l m n listed x y = lowestOr (l .closing) (keep (covered (withRivals l m n x y)) listed)
-
--- between rounds after at least one closed round
-abbrev pub isBetween : Phase → Bool
-isBetween Fresh = false
-isBetween Ready = false
-isBetween Round = false
-isBetween Between = true
-isBetween Closed = false
 
 -- two different developers of kind 2 in different projects
 unfoldable pub pairOk : Ledger → ℕ → ℕ → Bool

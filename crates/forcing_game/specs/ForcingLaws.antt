@@ -9,13 +9,13 @@ use native.Mathlib.Omega.{arith}
 use native.Mathlib.Nat.{le-div-iff-mul-le}
 use lib.Dec.{leb, ltb, eqb}
 use lib.ListN.{length}
-use borrow.Author.Tests.{leb-true, lt-ltb, le-ltb, ne-eqb}
+use borrow.Author.Tests.{leb-true, lt-ltb, le-ltb}
 use Rattle.numbers.specs.Cases.{le-or-lt, and-true}
 use Rattle.numbers.specs.Lists.{keep}
 use Rattle.numbers.specs.ListLaws.{Each, in-keep}
-use Rattle.rules.specs.Ledger.{Step, Developer, Phase, Fresh, Ready, Round, Between, Closed, Ledger, put}
+use Rattle.rules.specs.Ledger.{withCourse, Step, Developer, Phase, Fresh, Ready, Round, Between, Closed, Ledger, put}
 use Rattle.rules.specs.Clearing.{highest, quantityAfter, high, supply, demandAt, covered}
-use Rattle.rules.specs.Refusals.{isFresh, floor, falling}
+use Rattle.rules.specs.Refusals.{isFresh, isBetween, floor, falling}
 use Rattle.rules.specs.Rounds.{lastLevel}
 use Rattle.rules.specs.CheckLaws.{in-settings, falling-first}
 use Rattle.sound.specs.Sound.{appliedTo, Descends, Sound}
@@ -23,7 +23,7 @@ use Rattle.clearing.specs.Course.{courses}
 use Rattle.reachable.specs.Supplies.{supply-same}
 use Rattle.forcing_game.specs.Game.{First, Choice}
 use Rattle.forcing_game.specs.GameLaws.{value-each, forced, forced-only}
-use Rattle.forcing_game.specs.Forcing.{mayWithdraw, withdrawing, lowestOr, withRivals, outcomeOf, isBetween, listOk, forcedOutcome, firstMove, ForcedBy}
+use Rattle.forcing_game.specs.Forcing.{mayWithdraw, withdrawing, lowestOr, withRivals, outcomeOf, listOk, forcedOutcome, firstMove, ForcedBy}
 
 -- ---- what is reported
 
@@ -120,11 +120,6 @@ pub data Rival (x : Developer) : Developer → ℕ → Type 0 where
   keeping : Rival x x 0
   withdrawn : (w : ℕ) → 0 < w → Rival x (withdrawing w x) w
 
-pub rival-may : {x y : Developer} {w : ℕ} → Rival x y w → mayWithdraw y ≡ (eqb w 0 && mayWithdraw x)
-unfolding mayWithdraw withdrawing
-rival-may keeping = refl
-rival-may (withdrawn w h) = rw (ne-eqb w 0 (λ e. omega arith))
-
 pub rival-leaves : {x y : Developer} {w : ℕ} (p : ℕ) → 0 < p → mayWithdraw y ≡ true → Rival x y w → Rival x (withdrawing p y) p
 unfolding mayWithdraw withdrawing
 rival-leaves p h e keeping = withdrawn p h
@@ -137,7 +132,7 @@ rival-project (withdrawn w h) = refl
 
 -- the same developer at another quantity
 abbrev pub withQuantity : ℕ → Developer → Developer
-withQuantity q x = record { declared = x .declared; agent = x .agent; quantity = q; withdrawals = x .withdrawals; offer = x .offer; lodged = x .lodged }
+withQuantity q x = withCourse x q (x .withdrawals) (x .offer) (x .lodged)
 
 -- what is left at price p of the quantity q that is withdrawn at w, or, where w is 0, is kept
 abbrev pub leftAt : ℕ → ℕ → ℕ → ℕ

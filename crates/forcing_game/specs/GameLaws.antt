@@ -9,7 +9,7 @@ use mathlib.Core.List.{List, [], _∷_}
 use native.Mathlib.Omega.{arith}
 use lib.Dec.{ltb}
 use borrow.Author.Tests.{ltb-true, ltb-false, le-ltb}
-use Rattle.numbers.specs.Cases.{le-or-lt}
+use Rattle.numbers.specs.Cases.{le-or-lt, one-of}
 use Rattle.forcing_game.specs.Game.{Side, First, Second, Choice, Keep, Withdraw, after, Strategy, played, Forces, Forced, value, best}
 
 -- ---- one move, of which keeping is worth u and withdrawing w: by a side's better move, and by any move of the other
@@ -45,11 +45,6 @@ module _ (u w : ℕ) (f : Choice → ℕ) where
 keeps-best : (b : Bool) (u w : ℕ) → cond b (max u w) u ≤ u → cond (b && ltb u w) Withdraw Keep ≡ Keep
 keeps-best false u w h = refl
 keeps-best true u w h = rw (le-ltb u w (omega arith))
-
--- one of two numbers
-one-of : (P : ℕ → Type 0) (b : Bool) (u w : ℕ) → P u → P w → P (cond b u w)
-one-of P true u w h k = h
-one-of P false u w h k = k
 
 greater : (P : ℕ → Type 0) (u w : ℕ) → P u → P w → P (max u w)
 greater P u w h k = ⊎-elim (λ o. let e : w ≡ max u w = omega arith in subst P e k) (λ o. let e : u ≡ max u w = omega arith in subst P e h) (le-or-lt u w)

@@ -11,7 +11,7 @@ use lib.ListN.{replicate}
 use Rattle.numbers.specs.Lists.{total, any, all}
 use Rattle.numbers.specs.Tails.{laid}
 use Rattle.format.specs.Hex.{isHex, valueOf, charOf, digits, numberFrom}
-use Rattle.format.specs.Fields.{known, fixed, each, count, layout, RawCall, fieldsAt, textAt, kindOf, asked, wellFormed, callOf, read}
+use Rattle.format.specs.Fields.{known, fixed, each, count, layout, RawCall, rawCall, fieldsAt, textAt, kindOf, askedWidths, wellFormed, callOf, read}
 use Rattle.format.specs.Written.{widthsOf, lineOf, fit, writable, refusal, lodged}
 
 -- n characters of a text from place i on, as bytes
@@ -21,9 +21,6 @@ codes s i (suc n) = code (charAt s i) ∷ codes s (suc i) n
 
 abbrev bytes : String → List ℕ
 bytes s = codes s 0 (len s)
-
-abbrev call : ℕ → List ℕ → RawCall
-call k ns = record { kind = k; fields = ns }
 
 abbrev sampleLines : List String
 sampleLines =
@@ -40,19 +37,19 @@ sampleLines =
 
 abbrev sampleCalls : List RawCall
 sampleCalls =
-    call 1 (20000 ∷ 1000 ∷ 900 ∷ 1200 ∷ 40000 ∷ [])
-    ∷ call 2 (2 ∷ 2 ∷ 2 ∷ 400 ∷ 10 ∷ 2 ∷ 100 ∷ 200 ∷ [])
-    ∷ call 3 (25000 ∷ [])
-    ∷ call 4 (2 ∷ 1 ∷ 26000 ∷ 100 ∷ [])
-    ∷ call 5 []
-    ∷ call 6 (100 ∷ [])
-    ∷ call 7 (1 ∷ 1 ∷ 26000 ∷ 100 ∷ [])
-    ∷ call 8 (2 ∷ 2 ∷ 2 ∷ 3 ∷ 400 ∷ 10 ∷ 2 ∷ 100 ∷ 200 ∷ [])
-    ∷ call 9 (2 ∷ [])
+    rawCall 1 (20000 ∷ 1000 ∷ 900 ∷ 1200 ∷ 40000 ∷ [])
+    ∷ rawCall 2 (2 ∷ 2 ∷ 2 ∷ 400 ∷ 10 ∷ 2 ∷ 100 ∷ 200 ∷ [])
+    ∷ rawCall 3 (25000 ∷ [])
+    ∷ rawCall 4 (2 ∷ 1 ∷ 26000 ∷ 100 ∷ [])
+    ∷ rawCall 5 []
+    ∷ rawCall 6 (100 ∷ [])
+    ∷ rawCall 7 (1 ∷ 1 ∷ 26000 ∷ 100 ∷ [])
+    ∷ rawCall 8 (2 ∷ 2 ∷ 2 ∷ 3 ∷ 400 ∷ 10 ∷ 2 ∷ 100 ∷ 200 ∷ [])
+    ∷ rawCall 9 (2 ∷ [])
     ∷ []
 
 sample-lines : map (λ s. read (bytes s)) sampleLines ≡ map some sampleCalls
-unfolding codes any all total isHex valueOf numberFrom known fixed each count layout fieldsAt kindOf asked wellFormed callOf read
+unfolding codes any all total isHex valueOf numberFrom known fixed each count layout fieldsAt kindOf askedWidths wellFormed callOf read
 sample-lines = refl
 
 sample-lines-written : map lineOf sampleCalls ≡ map bytes sampleLines
@@ -63,23 +60,23 @@ sample-lines-written = refl
 
 -- a registration of so many levels, without its agent and with it (document 02, 10)
 abbrev levels : ℕ → RawCall
-levels n = call 2 (1 ∷ 1 ∷ 2 ∷ 0 ∷ 0 ∷ n ∷ replicate n 5)
+levels n = rawCall 2 (1 ∷ 1 ∷ 2 ∷ 0 ∷ 0 ∷ n ∷ replicate n 5)
 
 abbrev agentAndLevels : ℕ → RawCall
-agentAndLevels n = call 8 (1 ∷ 1 ∷ 2 ∷ 1 ∷ 0 ∷ 0 ∷ n ∷ replicate n 5)
+agentAndLevels n = rawCall 8 (1 ∷ 1 ∷ 2 ∷ 1 ∷ 0 ∷ 0 ∷ n ∷ replicate n 5)
 
 edges :
     map writable (
-    call 3 (4294967295 ∷ [])
-    ∷ call 3 (4294967296 ∷ [])  -- over 8 digits
+    rawCall 3 (4294967295 ∷ [])
+    ∷ rawCall 3 (4294967296 ∷ [])  -- over 8 digits
     ∷ levels 16  -- 154 characters
     ∷ levels 17  -- 162 characters
     ∷ agentAndLevels 16  -- 156 characters
     ∷ agentAndLevels 17  -- 164 characters
-    ∷ call 8 (1 ∷ 1 ∷ 2 ∷ 256 ∷ 0 ∷ 0 ∷ 0 ∷ [])  -- an agent over 2 digits
-    ∷ call 4 (1 ∷ 2 ∷ 9 ∷ 8 ∷ [])  -- a count of 2 with one step
-    ∷ call 3 []  -- a field that is not there
-    ∷ call 10 []  -- a kind that the table lacks
+    ∷ rawCall 8 (1 ∷ 1 ∷ 2 ∷ 256 ∷ 0 ∷ 0 ∷ 0 ∷ [])  -- an agent over 2 digits
+    ∷ rawCall 4 (1 ∷ 2 ∷ 9 ∷ 8 ∷ [])  -- a count of 2 with one step
+    ∷ rawCall 3 []  -- a field that is not there
+    ∷ rawCall 10 []  -- a kind that the table lacks
     ∷ [])
     ≡ true ∷ false ∷ true ∷ false ∷ true ∷ false ∷ false ∷ false ∷ false ∷ false ∷ []
 unfolding any charOf digits known fixed each count layout textAt widthsOf lineOf fit writable
@@ -87,7 +84,7 @@ edges = refl
 
 -- read, a line of 17 levels is malformed
 edges-read : map (λ c. wellFormed (lineOf c)) (levels 16 ∷ levels 17 ∷ agentAndLevels 16 ∷ agentAndLevels 17 ∷ []) ≡ true ∷ false ∷ true ∷ false ∷ []
-unfolding any all total isHex valueOf charOf digits numberFrom known fixed each count layout fieldsAt textAt kindOf asked wellFormed widthsOf lineOf
+unfolding any all total isHex valueOf charOf digits numberFrom known fixed each count layout fieldsAt textAt kindOf askedWidths wellFormed widthsOf lineOf
 edges-read = refl
 
 -- 14 comes before 13; a buffer of exactly the frame's length is enough, and what stands behind the frame stays

@@ -8,11 +8,11 @@ use native.Mathlib.Omega.{arith}
 use lib.ListN.{length, drop, getD, replicate, length-append, length-replicate, List·getD-eq-default}
 use lib.Seq.{getD-take}
 use borrow.Author.Tests.{le-leb, leb-true, eq-eqb, eqb-true}
-use Rattle.numbers.specs.Cases.{and-true, not-true}
+use Rattle.numbers.specs.Cases.{and-true, never-true}
 use Rattle.numbers.specs.Lists.{total}
 use Rattle.numbers.specs.ListLaws.{total-append}
 use Rattle.format.specs.Hex.{allHex}
-use Rattle.format.specs.Fields.{listed, known, longest, fixed, each, count, repeats, layout, RawCall, fieldsAt, kindOf, asked, wellFormed, callOf, read}
+use Rattle.format.specs.Fields.{listed, known, longest, fixed, each, count, repeats, layout, RawCall, fieldsAt, kindOf, askedWidths, wellFormed, callOf, read}
 use Rattle.format.specs.WidthLaws.{behind, length-fields, fields-front, take-fields, fields-fit}
 
 -- ---- which lines are read
@@ -21,7 +21,7 @@ pub record WellFormed (l : List ℕ) : Type 0 where
   pub short : length l ≤ longest
   pub hex : allHex l ≡ true
   pub kind-known : known (kindOf l) ≡ true
-  pub exact : length l ≡ 2 + total (asked l)
+  pub exact : length l ≡ 2 + total (askedWidths l)
 
 module _ (l : List ℕ) where
   well-formed : wellFormed l ≡ true → WellFormed l
@@ -34,12 +34,12 @@ module _ (l : List ℕ) where
         short = leb-true (length l) longest (t1 .0);
         hex = t1 .1;
         kind-known = t2 .1;
-        exact = eqb-true (length l) (2 + total (asked l)) (t3 .1);
+        exact = eqb-true (length l) (2 + total (askedWidths l)) (t3 .1);
       }
 
   well-formed-test : WellFormed l → wellFormed l ≡ true
   unfolding wellFormed
-  well-formed-test w = rw (le-leb (length l) longest (w .short), w .hex, w .kind-known, eq-eqb (length l) (2 + total (asked l)) (w .exact))
+  well-formed-test w = rw (le-leb (length l) longest (w .short), w .hex, w .kind-known, eq-eqb (length l) (2 + total (askedWidths l)) (w .exact))
 
   pub reads : WellFormed l → read l ≡ some (callOf l)
   unfolding read
@@ -47,7 +47,7 @@ module _ (l : List ℕ) where
 
   pub reads-none : (WellFormed l → ⊥) → read l ≡ none
   unfolding read
-  reads-none h = rw (not-true (wellFormed l) (λ e. h (well-formed e)))
+  reads-none h = rw (never-true (wellFormed l) (λ e. h (well-formed e)))
 
   pub was-read : (c : RawCall) → read l ≡ some c → WellFormed l × (callOf l ≡ c)
   unfolding read
@@ -90,7 +90,7 @@ pub record Formed (c : RawCall) : Type 0 where
   pub below : (j : ℕ) → getD (c .fields) j 0 < 16 ^ getD (fixed (c .kind)) j listed
 
 call-formed : (l : List ℕ) → WellFormed l → Formed (callOf l)
-unfolding callOf asked
+unfolding callOf askedWidths
 call-formed l w =
     let k : ℕ = kindOf l in
     let n : ℕ = repeats k (fieldsAt (fixed k) (drop 2 l)) in

@@ -6,7 +6,7 @@ use mathlib.Core.Option.{Option, none, some}
 use lib.Dec.{leb, eqb}
 use lib.ListN.{length, getD, take, drop, replicate}
 use Rattle.numbers.specs.Lists.{total, any}
-use Rattle.format.specs.Hex.{allHex, digits, number}
+use Rattle.format.specs.Hex.{allHex, digits, hexNumber}
 
 -- the fields of a frame kind: the widths of the fixed ones, and how many follow for each one that the last fixed field counts
 pub record Row : Type 0 where
@@ -14,21 +14,21 @@ pub record Row : Type 0 where
   pub widths : List ℕ
   pub repeated : ℕ
 
-abbrev pub row : ℕ → List ℕ → ℕ → Row
-row k ws n = record { kind = k; widths = ws; repeated = n }
+abbrev pub tableRow : ℕ → List ℕ → ℕ → Row
+tableRow k ws n = record { kind = k; widths = ws; repeated = n }
 
 -- THE TABLE: a row for each kind
-abbrev pub rows : List Row
-rows =
-    row 1 (8 ∷ 10 ∷ 10 ∷ 10 ∷ 8 ∷ []) 0  -- 01 set-up: CE, D, M1, M2, A
-    ∷ row 2 (2 ∷ 2 ∷ 2 ∷ 8 ∷ 8 ∷ 2 ∷ []) 1  -- 02 registration: project, developer, kind, study, day, count; levels
-    ∷ row 3 (8 ∷ []) 0  -- 03 open: C
-    ∷ row 4 (2 ∷ 2 ∷ []) 2  -- 04 offer: developer, count; steps of price and level
-    ∷ row 5 [] 0  -- 05 close
-    ∷ row 6 (8 ∷ []) 0  -- 06 settle: limit
-    ∷ row 7 (2 ∷ 2 ∷ []) 2  -- 07 lodging (document 02, 5): developer, count; steps of price and level
-    ∷ row 8 (2 ∷ 2 ∷ 2 ∷ 2 ∷ 8 ∷ 8 ∷ 2 ∷ []) 1  -- 08 registration with its agent (document 02, 10): project, developer, kind, agent, study, day, count; levels
-    ∷ row 9 (2 ∷ []) 0  -- 09 cancellation (document 02, 7): developer
+abbrev pub tableRows : List Row
+tableRows =
+    tableRow 1 (8 ∷ 10 ∷ 10 ∷ 10 ∷ 8 ∷ []) 0  -- 01 set-up: CE, D, M1, M2, A
+    ∷ tableRow 2 (2 ∷ 2 ∷ 2 ∷ 8 ∷ 8 ∷ 2 ∷ []) 1  -- 02 registration: project, developer, kind, study, day, count; levels
+    ∷ tableRow 3 (8 ∷ []) 0  -- 03 open: C
+    ∷ tableRow 4 (2 ∷ 2 ∷ []) 2  -- 04 offer: developer, count; steps of price and level
+    ∷ tableRow 5 [] 0  -- 05 close
+    ∷ tableRow 6 (8 ∷ []) 0  -- 06 settle: limit
+    ∷ tableRow 7 (2 ∷ 2 ∷ []) 2  -- 07 lodging (document 02, 5): developer, count; steps of price and level
+    ∷ tableRow 8 (2 ∷ 2 ∷ 2 ∷ 2 ∷ 8 ∷ 8 ∷ 2 ∷ []) 1  -- 08 registration with its agent (document 02, 10): project, developer, kind, agent, study, day, count; levels
+    ∷ tableRow 9 (2 ∷ []) 0  -- 09 cancellation (document 02, 7): developer
     ∷ []
 
 -- the width of each field that follows the fixed ones
@@ -37,22 +37,22 @@ listed = 8
 
 -- a kind that the table has
 unfoldable pub known : ℕ → Bool
-known k = any (λ r. eqb (r .kind) k) rows
+known k = any (λ r. eqb (r .kind) k) tableRows
 
 -- the row of a kind, and one of no kind and no fields where there is none
 abbrev pub noRow : Row
-noRow = row 0 [] 0
+noRow = tableRow 0 [] 0
 
-abbrev pub rowIn : List Row → ℕ → Row
-rowIn [] k = noRow
-rowIn (r ∷ rs) k = cond (eqb (r .kind) k) r (rowIn rs k)
+abbrev pub tableRowIn : List Row → ℕ → Row
+tableRowIn [] k = noRow
+tableRowIn (r ∷ rs) k = cond (eqb (r .kind) k) r (tableRowIn rs k)
 
 -- the widths of a kind's fixed fields, and how many fields follow for each one counted
 unfoldable pub fixed : ℕ → List ℕ
-fixed k = rowIn rows k .widths
+fixed k = tableRowIn tableRows k .widths
 
 unfoldable pub each : ℕ → ℕ
-each k = rowIn rows k .repeated
+each k = tableRowIn tableRows k .repeated
 
 -- what the last of the fixed fields counts, where these are the fields; a kind that repeats nothing counts nothing (`each` is 0)
 unfoldable pub count : ℕ → List ℕ → ℕ
@@ -71,7 +71,7 @@ layout k n = fixed k ++ replicate n listed
 -- the numbers that stand in bytes, at these widths
 unfoldable pub fieldsAt : List ℕ → List ℕ → List ℕ
 fieldsAt [] cs = []
-fieldsAt (w ∷ ws) cs = number (take w cs) ∷ fieldsAt ws (drop w cs)
+fieldsAt (w ∷ ws) cs = hexNumber (take w cs) ∷ fieldsAt ws (drop w cs)
 
 -- the digits of numbers, at these widths
 unfoldable pub textAt : List ℕ → List ℕ → List ℕ
@@ -85,22 +85,25 @@ pub record RawCall : Type 0 where
   pub kind : ℕ
   pub fields : List ℕ
 
+abbrev pub rawCall : ℕ → List ℕ → RawCall
+rawCall k ns = record { kind = k; fields = ns }
+
 unfoldable pub kindOf : List ℕ → ℕ
-kindOf l = number (take 2 l)
+kindOf l = hexNumber (take 2 l)
 
 -- the widths that a line's own kind and count ask
-unfoldable pub asked : List ℕ → List ℕ
-asked l = layout (kindOf l) (repeats (kindOf l) (fieldsAt (fixed (kindOf l)) (drop 2 l)))
+unfoldable pub askedWidths : List ℕ → List ℕ
+askedWidths l = layout (kindOf l) (repeats (kindOf l) (fieldsAt (fixed (kindOf l)) (drop 2 l)))
 
 abbrev pub longest : ℕ
 longest = 160
 
 -- at most 160 characters, all digits, a kind of the table, and as long as kind and count ask
 unfoldable pub wellFormed : List ℕ → Bool
-wellFormed l = leb (length l) longest && allHex l && known (kindOf l) && eqb (length l) (2 + total (asked l))
+wellFormed l = leb (length l) longest && allHex l && known (kindOf l) && eqb (length l) (2 + total (askedWidths l))
 
 unfoldable pub callOf : List ℕ → RawCall
-callOf l = record { kind = kindOf l; fields = fieldsAt (asked l) (drop 2 l) }
+callOf l = rawCall (kindOf l) (fieldsAt (askedWidths l) (drop 2 l))
 
 -- the call of a line, none of a malformed one
 unfoldable pub read : List ℕ → Option RawCall

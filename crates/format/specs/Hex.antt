@@ -30,5 +30,5 @@ unfoldable pub numberFrom : ℕ → List ℕ → ℕ
 numberFrom before [] = before
 numberFrom before (c ∷ cs) = numberFrom (before * 16 + valueOf c) cs
 
-abbrev pub number : List ℕ → ℕ
-number cs = numberFrom 0 cs
+abbrev pub hexNumber : List ℕ → ℕ
+hexNumber cs = numberFrom 0 cs

@@ -15,7 +15,7 @@ use lib.ListN.{length, take, drop, getD, length-take}
 use lib.Seq.{drop-cons}
 use Rattle.numbers.specs.Cases.{and-true, or-true}
 use Rattle.numbers.specs.Lists.{all}
-use Rattle.format.specs.Hex.{isHex, allHex, valueOf, charOf, digits, numberFrom, number}
+use Rattle.format.specs.Hex.{isHex, allHex, valueOf, charOf, digits, numberFrom, hexNumber}
 
 pub hex-step : (s : List ℕ) (i : ℕ) → i < length s → allHex (drop i s) ≡ isHex (getD s i 0) && allHex (drop (i + 1) s)
 unfolding all
@@ -50,15 +50,15 @@ number-above (c ∷ cs) before =
     rw (pow-suc 16 (length cs), ← div-div-eq-div-mul (numberFrom (before * 16 + valueOf c) cs) (16 ^ length cs) 16, number-above cs (before * 16 + valueOf c))
     (digits-div before (value-lt c))
 
-pub number-lt : (cs : List ℕ) → number cs < 16 ^ length cs
+pub number-lt : (cs : List ℕ) → hexNumber cs < 16 ^ length cs
 number-lt cs =
-    rw one-mul at (div-lt-iff-lt-mul {x = number cs} {y = 1} (power-pos (length cs)) .0 (omega (arith, number-above cs 0)))
+    rw one-mul at (div-lt-iff-lt-mul {x = hexNumber cs} {y = 1} (power-pos (length cs)) .0 (omega (arith, number-above cs 0)))
 
 -- w digits are below 16 to the w
-pub number-fits : (w : ℕ) (cs : List ℕ) → length cs ≤ w → number cs < 16 ^ w
+pub number-fits : (w : ℕ) (cs : List ℕ) → length cs ≤ w → hexNumber cs < 16 ^ w
 number-fits w cs h = lt-of-lt-of-le (number-lt cs) (pow-le-pow-right (zero-lt-suc 15) h)
 
-pub field-fits : (w : ℕ) (cs : List ℕ) → number (take w cs) < 16 ^ w
+pub field-fits : (w : ℕ) (cs : List ℕ) → hexNumber (take w cs) < 16 ^ w
 field-fits w cs = number-fits w (take w cs) (omega (arith, length-take w cs))
 
 pub length-digits : (w n : ℕ) → length (digits w n) ≡ w
@@ -115,7 +115,7 @@ number-digits-from (suc k) n before =
     ap (λ (d : ℕ). numberFrom (before * 16 + d) (digits k n)) (value-char (n / 16 ^ k % 16) (mod-lt _ (zero-lt-suc 15)))
     ∙ number-digits-from k n (before * 16 + n / 16 ^ k % 16) ∙ one-more k n before
 
-pub number-digits : (w n : ℕ) → n < 16 ^ w → number (digits w n) ≡ n
+pub number-digits : (w n : ℕ) → n < 16 ^ w → hexNumber (digits w n) ≡ n
 number-digits w n h = number-digits-from w n 0 ∙ rw (zero-mul, zero-add) (mod-eq-of-lt h)
 
 -- ---- bytes that are digits are what is written for the number that they read as
@@ -139,5 +139,5 @@ digits-number-from (c ∷ cs) before e =
     let v : numberFrom m cs / 16 ^ length cs % 16 ≡ valueOf c = rw (number-above cs m) (omega (arith, value-lt c)) in
     ap₂ _∷_ (ap charOf v ∙ char-value c (b .0)) (digits-number-from cs m (b .1))
 
-pub digits-number : (w : ℕ) (cs : List ℕ) → allHex cs ≡ true → length cs ≡ w → digits w (number cs) ≡ cs
-digits-number w cs e l = ap (λ (n : ℕ). digits n (number cs)) (sym l) ∙ digits-number-from cs 0 e
+pub digits-number : (w : ℕ) (cs : List ℕ) → allHex cs ≡ true → length cs ≡ w → digits w (hexNumber cs) ≡ cs
+digits-number w cs e l = ap (λ (n : ℕ). digits n (hexNumber cs)) (sym l) ∙ digits-number-from cs 0 e

@@ -9,7 +9,8 @@ use borrow.Author.Tests.{eq-eqb, ne-eqb}
 use lib.Dec.{eqb}
 use lib.ListN.{length, take, drop, getD, length-drop, drop-of-length-le}
 use lib.Seq.{drop-cons, drop-drop, length-take-le}
-use Rattle.format.specs.Lines.{lines, onFirst, run, part, lineStart, lineEnd}
+use Rattle.numbers.specs.Lists.{part}
+use Rattle.format.specs.Lines.{lines, onFirst, run, lineStart, lineEnd}
 
 pub run-le : (s : List ℕ) → run s ≤ length s
 unfolding run
@@ -70,22 +71,22 @@ lines-first (c ∷ (d ∷ cs)) h = go (eqb c 10) (lines-first (d ∷ cs) (omega 
     go false ih = ap (onFirst c) ih
 
 module _ (s : List ℕ) (at : ℕ) (h : at < length s) where
-  line-is : part (lineStart s at) (lineEnd s at) s ≡ take (run (drop at s)) (drop at s)
+  line-is : part s (lineStart s at) (lineEnd s at) ≡ take (run (drop at s)) (drop at s)
   line-is =
       let e : at + run (drop at s) - at ≡ run (drop at s) = omega arith in
       rw (start-in s at h, end-in s at h, e)
 
-  line-length : length (part (lineStart s at) (lineEnd s at) s) ≡ run (drop at s)
+  line-length : length (part s (lineStart s at) (lineEnd s at)) ≡ run (drop at s)
   line-length = ap length line-is ∙ length-take-le (run (drop at s)) (drop at s) (run-le (drop at s))
 
-  pub line-inside : at + length (part (lineStart s at) (lineEnd s at) s) ≤ length s
+  pub line-inside : at + length (part s (lineStart s at) (lineEnd s at)) ≤ length s
   line-inside = omega (arith, line-length, run-le (drop at s), length-drop at s)
 
   -- the next line from a position stands first among the lines from there; the others start behind its 0A
-  pub next-line : lines (drop at s) ≡ part (lineStart s at) (lineEnd s at) s ∷ lines (drop (at + length (part (lineStart s at) (lineEnd s at) s) + 1) s)
+  pub next-line : lines (drop at s) ≡ part s (lineStart s at) (lineEnd s at) ∷ lines (drop (at + length (part s (lineStart s at) (lineEnd s at)) + 1) s)
   next-line =
       let n : ℕ = run (drop at s) in
-      let l : List ℕ = part (lineStart s at) (lineEnd s at) s in
+      let l : List ℕ = part s (lineStart s at) (lineEnd s at) in
       let k : at + suc n ≡ at + length l + 1 = omega (arith, line-length) in
       let d : drop (suc n) (drop at s) ≡ drop (at + length l + 1) s = drop-drop (suc n) at s ∙ ap (λ (j : ℕ). drop j s) k in
       lines-first (drop at s) (omega (arith, length-drop at s)) ∙ ap₂ (λ (a : List ℕ) (r : List ℕ). a ∷ lines r) (sym line-is) d

@@ -1,14 +1,11 @@
 -- The lines of a record (document 01, Frames): each ended by byte 0A, which a last line may lack.
-use Prim.Native.Nat.{ℕ, suc, _+_, _-_, min}
+use Prim.Native.Nat.{ℕ, suc, _+_, min}
 use mathlib.Core.Bool.{cond}
 use mathlib.Core.List.{List, [], _∷_}
 use lib.Dec.{eqb}
-use lib.ListN.{length, take, drop}
+use lib.ListN.{length, drop}
 
 -- ---- the next line from a position: that part of the record, from its start to its end
-
-abbrev pub part : ℕ → ℕ → List ℕ → List ℕ
-part start end s = take (end - start) (drop start s)
 
 -- the position, or the record's end if that comes first
 unfoldable pub lineStart : List ℕ → ℕ → ℕ

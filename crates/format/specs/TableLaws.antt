@@ -9,30 +9,30 @@ use lib.Seq.{drop-cons}
 use borrow.Author.Tests.{eqb-true}
 use Rattle.numbers.specs.Cases.{and-true}
 use Rattle.numbers.specs.Lists.{any, all}
-use Rattle.format.specs.Fields.{Row, noRow, rowIn}
+use Rattle.format.specs.Fields.{Row, noRow, tableRowIn}
 
 -- a test that no row and every row passes, the row of each kind passes
-pub row-passes : (test : Row → Bool) (rs : List Row) → test noRow ≡ true → all test rs ≡ true → (k : ℕ) → test (rowIn rs k) ≡ true
+pub row-passes : (test : Row → Bool) (rs : List Row) → test noRow ≡ true → all test rs ≡ true → (k : ℕ) → test (tableRowIn rs k) ≡ true
 unfolding all
 row-passes test [] z e k = z
 row-passes test (r ∷ rs) z e k = go (eqb (r .kind) k) (and-true (test r) (all test rs) e .0) (row-passes test rs z (and-true (test r) (all test rs) e .1) k)
   where
-    go : (b : Bool) → test r ≡ true → test (rowIn rs k) ≡ true → test (cond b r (rowIn rs k)) ≡ true
+    go : (b : Bool) → test r ≡ true → test (tableRowIn rs k) ≡ true → test (cond b r (tableRowIn rs k)) ≡ true
     go true h g = h
     go false h g = g
 
 -- the kind of a kind's row: the kind itself where the rows have it, else 0
-pub row-kind : (rs : List Row) (k : ℕ) → rowIn rs k .kind ≡ cond (any (λ r. eqb (r .kind) k) rs) k 0
+pub row-kind : (rs : List Row) (k : ℕ) → tableRowIn rs k .kind ≡ cond (any (λ r. eqb (r .kind) k) rs) k 0
 unfolding any
 row-kind [] k = refl
 row-kind (r ∷ rs) k = go (eqb (r .kind) k) refl (row-kind rs k)
   where
-    go : (b : Bool) → eqb (r .kind) k ≡ b → rowIn rs k .kind ≡ cond (any (λ q. eqb (q .kind) k) rs) k 0
-        → cond b r (rowIn rs k) .kind ≡ cond (b || any (λ q. eqb (q .kind) k) rs) k 0
+    go : (b : Bool) → eqb (r .kind) k ≡ b → tableRowIn rs k .kind ≡ cond (any (λ q. eqb (q .kind) k) rs) k 0
+        → cond b r (tableRowIn rs k) .kind ≡ cond (b || any (λ q. eqb (q .kind) k) rs) k 0
     go true e h = eqb-true (r .kind) k e
     go false e h = h
 
 -- looked for from a place on: the row there, or one behind it
 pub row-here : (rs : List Row) (i k : ℕ) → i < length rs
-    → rowIn (drop i rs) k ≡ cond (eqb (getD rs i noRow .kind) k) (getD rs i noRow) (rowIn (drop (suc i) rs) k)
-row-here rs i k h = ap (λ (l : List Row). rowIn l k) (drop-cons rs i noRow h)
+    → tableRowIn (drop i rs) k ≡ cond (eqb (getD rs i noRow .kind) k) (getD rs i noRow) (tableRowIn (drop (suc i) rs) k)
+row-here rs i k h = ap (λ (l : List Row). tableRowIn l k) (drop-cons rs i noRow h)

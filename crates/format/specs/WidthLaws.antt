@@ -8,7 +8,7 @@ use lib.ListN.{length, take, drop, getD, replicate, length-append, length-drop, 
 use lib.Seq.{take-at, drop-at, length-take-le}
 use Rattle.numbers.specs.Lists.{total, all, padded}
 use Rattle.numbers.specs.ListLaws.{total-append}
-use Rattle.format.specs.Hex.{allHex, digits, number}
+use Rattle.format.specs.Hex.{allHex, digits, hexNumber}
 use Rattle.format.specs.Fields.{listed, fieldsAt, textAt}
 use Rattle.format.specs.HexLaws.{field-fits, power-pos, length-digits, hex-digits, hex-append, hex-parts, number-digits, digits-number}
 
@@ -31,12 +31,12 @@ length-fields (w ∷ ws) cs = ap suc (length-fields ws (drop w cs))
 pub fields-front : (ws vs cs : List ℕ) → take (length ws) (fieldsAt (ws ++ vs) cs) ≡ fieldsAt ws cs
 unfolding fieldsAt
 fields-front [] vs cs = refl
-fields-front (w ∷ ws) vs cs = ap (λ (l : List ℕ). number (take w cs) ∷ l) (fields-front ws vs (drop w cs))
+fields-front (w ∷ ws) vs cs = ap (λ (l : List ℕ). hexNumber (take w cs) ∷ l) (fields-front ws vs (drop w cs))
 
 pub take-fields : (ws cs : List ℕ) → take (length ws) (fieldsAt ws cs) ≡ fieldsAt ws cs
 unfolding fieldsAt
 take-fields [] cs = refl
-take-fields (w ∷ ws) cs = ap (λ (l : List ℕ). number (take w cs) ∷ l) (take-fields ws (drop w cs))
+take-fields (w ∷ ws) cs = ap (λ (l : List ℕ). hexNumber (take w cs) ∷ l) (take-fields ws (drop w cs))
 
 pub fields-fit : (ws cs : List ℕ) (j : ℕ) → getD (fieldsAt ws cs) j 0 < 16 ^ getD ws j listed
 unfolding fieldsAt

@@ -14,10 +14,10 @@ use Rattle.numbers.specs.Cases.{and-true}
 use Rattle.numbers.specs.Lists.{total, all}
 use Rattle.numbers.specs.ListLaws.{any-true, all-true}
 use Rattle.numbers.specs.Tails.{laid}
-use Rattle.format.specs.Hex.{isHex, allHex, digits, number}
+use Rattle.format.specs.Hex.{isHex, allHex, digits, hexNumber}
 use Rattle.format.specs.HexLaws.{power-pos, field-fits, length-digits, hex-digits, hex-append, hex-parts, number-digits, digits-number}
 use Rattle.format.specs.Lines.{lines, onFirst}
-use Rattle.format.specs.Fields.{Row, rows, listed, known, longest, fixed, each, count, repeats, layout, RawCall, fieldsAt, textAt, kindOf, asked, callOf, read}
+use Rattle.format.specs.Fields.{Row, tableRows, listed, known, longest, fixed, each, count, repeats, layout, RawCall, rawCall, fieldsAt, textAt, kindOf, askedWidths, callOf, read}
 use Rattle.format.specs.WidthLaws.{length-text, hex-text, fields-text, text-fields}
 use Rattle.format.specs.FieldLaws.{WellFormed, reads, was-read, count-front}
 use Rattle.format.specs.Written.{widthsOf, lineOf, frameOf, fit, writable, refusal, written, lodged}
@@ -72,20 +72,17 @@ fitting (w ∷ ws) (n ∷ ns) e =
 read-fitting : (ws cs : List ℕ) → fit ws (fieldsAt ws cs) ≡ true
 unfolding fit fieldsAt
 read-fitting [] cs = refl
-read-fitting (w ∷ ws) cs = rw (lt-ltb (number (take w cs)) (16 ^ w) (field-fits w cs)) (read-fitting ws (drop w cs))
+read-fitting (w ∷ ws) cs = rw (lt-ltb (hexNumber (take w cs)) (16 ^ w) (field-fits w cs)) (read-fitting ws (drop w cs))
 
 -- every kind of the table has two digits
 known-two-digits : (k : ℕ) → known k ≡ true → k < 256
 unfolding known all
 known-two-digits k e =
-    let r = any-true (λ (q : Row). eqb (q .kind) k) rows .0 e in
-    let t = all-true (λ (q : Row). ltb (q .kind) 256) rows refl (r .0) (r .1) in
+    let r = any-true (λ (q : Row). eqb (q .kind) k) tableRows .0 e in
+    let t = all-true (λ (q : Row). ltb (q .kind) 256) tableRows refl (r .0) (r .1) in
     omega (arith, ltb-true (r .0 .kind) 256 t, eqb-true (r .0 .kind) k (r .2))
 
 -- ---- writable calls
-
-abbrev call : ℕ → List ℕ → RawCall
-call k ns = record { kind = k; fields = ns }
 
 pub record Writable (c : RawCall) : Type 0 where
   pub kind-known : known (c .kind) ≡ true
@@ -116,7 +113,7 @@ module _ (c : RawCall) where
     line-kind : kindOf (lineOf c) ≡ c .kind
     unfolding kindOf lineOf
     line-kind =
-        ap number (take-at (digits 2 (c .kind)) (textAt (widthsOf c) (c .fields)) 2 (length-digits 2 (c .kind)))
+        ap hexNumber (take-at (digits 2 (c .kind)) (textAt (widthsOf c) (c .fields)) 2 (length-digits 2 (c .kind)))
         ∙ number-digits 2 (c .kind) (known-two-digits (c .kind) (w .kind-known))
 
     line-fields : fieldsAt (widthsOf c) (drop 2 (lineOf c)) ≡ c .fields
@@ -125,8 +122,8 @@ module _ (c : RawCall) where
         ap (fieldsAt (widthsOf c)) (line-behind-kind ∙ sym (append-nil (textAt (widthsOf c) (c .fields))))
         ∙ fields-text (widthsOf c) (c .fields) [] (f .0) (f .1)
 
-    line-asks : asked (lineOf c) ≡ widthsOf c
-    unfolding asked widthsOf
+    line-asks : askedWidths (lineOf c) ≡ widthsOf c
+    unfolding askedWidths widthsOf
     line-asks =
         let k : ℕ = c .kind in
         let r : List ℕ = drop 2 (lineOf c) in
@@ -143,7 +140,7 @@ module _ (c : RawCall) where
 
     line-call : callOf (lineOf c) ≡ c
     unfolding callOf
-    line-call = ap₂ call line-kind (ap (λ (ws : List ℕ). fieldsAt ws (drop 2 (lineOf c))) line-asks ∙ line-fields)
+    line-call = ap₂ rawCall line-kind (ap (λ (ws : List ℕ). fieldsAt ws (drop 2 (lineOf c))) line-asks ∙ line-fields)
 
   -- the frame of a writable call, without its 0A, reads back to that call
   pub reads-back : writable c ≡ true → read (lineOf c) ≡ some c
@@ -152,8 +149,8 @@ module _ (c : RawCall) where
 -- ---- lines that are read
 
 module _ (l : List ℕ) (w : WellFormed l) where
-  call-widths : widthsOf (callOf l) ≡ asked l
-  unfolding widthsOf callOf asked
+  call-widths : widthsOf (callOf l) ≡ askedWidths l
+  unfolding widthsOf callOf askedWidths
   call-widths =
       let k : ℕ = kindOf l in
       ap (λ (m : ℕ). layout k (each k * m)) (count-front k (repeats k (fieldsAt (fixed k) (drop 2 l))) (drop 2 l))
@@ -162,16 +159,16 @@ module _ (l : List ℕ) (w : WellFormed l) where
   unfolding lineOf callOf kindOf
   call-line =
       let h = hex-parts 2 l (w .hex) in
-      let n : length (drop 2 l) ≡ total (asked l) = omega (arith, length-drop 2 l, w .exact) in
+      let n : length (drop 2 l) ≡ total (askedWidths l) = omega (arith, length-drop 2 l, w .exact) in
       ap₂ _++_ (digits-number 2 (take 2 l) (h .0) (length-take-le 2 l (omega (arith, w .exact))))
-      (ap (λ (ws : List ℕ). textAt ws (fieldsAt (asked l) (drop 2 l))) call-widths ∙ text-fields (asked l) (drop 2 l) (h .1) n)
+      (ap (λ (ws : List ℕ). textAt ws (fieldsAt (askedWidths l) (drop 2 l))) call-widths ∙ text-fields (askedWidths l) (drop 2 l) (h .1) n)
       ∙ take-append-drop 2 l
 
   call-writable : Writable (callOf l)
   unfolding callOf
   call-writable = record {
     kind-known = w .kind-known;
-    fields-fit = ap (λ (ws : List ℕ). fit ws (callOf l .fields)) call-widths ∙ read-fitting (asked l) (drop 2 l);
+    fields-fit = ap (λ (ws : List ℕ). fit ws (callOf l .fields)) call-widths ∙ read-fitting (askedWidths l) (drop 2 l);
     short = subst (λ (s : List ℕ). length s ≤ longest) (sym call-line) (w .short);
   }
 

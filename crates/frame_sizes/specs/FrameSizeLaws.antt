@@ -7,10 +7,10 @@ use mathlib.Core.List.{List}
 use native.Mathlib.Omega.{arith}
 use lib.ListN.{length, take, getD}
 use lib.Seq.{getD-take}
-use Rattle.numbers.specs.Cases.{le-or-lt, not-true}
+use Rattle.numbers.specs.Cases.{le-or-lt, never-true}
 use Rattle.numbers.specs.Lists.{total}
 use Rattle.format.specs.HexLaws.{power-pos}
-use Rattle.format.specs.Fields.{RawCall, listed, fixed, count, repeats, layout}
+use Rattle.format.specs.Fields.{RawCall, rawCall, listed, fixed, count, repeats, layout}
 use Rattle.format.specs.FieldLaws.{total-layout, length-layout, layout-at}
 use Rattle.format.specs.Written.{widthsOf, lineOf, frameOf, fit, writable}
 use Rattle.format.specs.WrittenLaws.{Writable, is-writable, writable-test, fitting, length-line, length-frame}
@@ -18,35 +18,35 @@ use Rattle.field_table.specs.Fitting.{fitting-kind, repeats-few}
 use Rattle.field_table.specs.declared.Shape.{Shape}
 use Rattle.field_table.specs.Shapes.{Shaped}
 use Rattle.field_table.specs.ShapeLaws.{shape-layout}
-use Rattle.frame_sizes.specs.FrameSizes.{call, frameSize}
+use Rattle.frame_sizes.specs.FrameSizes.{frameSize}
 
 -- ---- how many fields and characters
 
 module _ (k : ℕ) (ns : List ℕ) where
-  pub line-long : length (lineOf (call k ns)) ≡ 2 + total (fixed k) + listed * repeats k ns
+  pub line-long : length (lineOf (rawCall k ns)) ≡ 2 + total (fixed k) + listed * repeats k ns
   unfolding widthsOf
-  line-long = omega (arith, length-line (call k ns), total-layout k (repeats k ns))
+  line-long = omega (arith, length-line (rawCall k ns), total-layout k (repeats k ns))
 
-  pub as-many : Writable (call k ns) → length ns ≡ length (fixed k) + repeats k ns
+  pub as-many : Writable (rawCall k ns) → length ns ≡ length (fixed k) + repeats k ns
   unfolding widthsOf
   as-many w = fitting (layout k (repeats k ns)) ns (w .fields-fit) .0 ∙ length-layout k (repeats k ns)
 
   -- a line of more fields is over 160 characters, whatever their widths
-  pub few-fields : Writable (call k ns) → length ns ≤ 27
+  pub few-fields : Writable (rawCall k ns) → length ns ≤ 27
   few-fields w = omega (arith, as-many w, line-long, w .short, fitting-kind k .few)
 
-  pub too-many : 27 < length ns → writable (call k ns) ≡ false
-  too-many h = not-true (writable (call k ns)) (λ e. let f = few-fields (is-writable (call k ns) e) in omega arith)
+  pub too-many : 27 < length ns → writable (rawCall k ns) ≡ false
+  too-many h = never-true (writable (rawCall k ns)) (λ e. let f = few-fields (is-writable (rawCall k ns) e) in omega arith)
 
 -- ---- the size of the frame
 
 module _ (k : ℕ) (ns : List ℕ) where
   abbrev c : RawCall
-  c = call k ns
+  c = rawCall k ns
 
   pub no-size : (Writable c → ⊥) → 0 ≡ frameSize c
   unfolding frameSize
-  no-size h = rw (not-true (writable c) (λ e. h (is-writable c e)))
+  no-size h = rw (never-true (writable c) (λ e. h (is-writable c e)))
 
   pub the-size : Writable c → length (frameOf c) ≡ frameSize c
   unfolding frameSize
@@ -79,7 +79,7 @@ module _ (k : ℕ) (ns : List ℕ) (s : Shape) (w : Shaped k s) (n : ℕ) (e : n
       let m : s .fixed + (n - s .fixed) ≡ n = omega arith in
       subst (λ (i : ℕ). take i (s .widths) ≡ layout k (n - s .fixed)) m (shape-layout k s w (n - s .fixed) (omega arith))
 
-  pub widths-are : length ns ≡ length (fixed k) + repeats k ns → take n (s .widths) ≡ widthsOf (call k ns)
+  pub widths-are : length ns ≡ length (fixed k) + repeats k ns → take n (s .widths) ≡ widthsOf (rawCall k ns)
   unfolding widthsOf
   widths-are q =
       let m : n - s .fixed ≡ repeats k ns = omega (arith, w .many) in

@@ -3,8 +3,9 @@ ghost use mathlib.Core.Path.{_≡_};
 ghost use Prim.Native.Nat.{_^_};
 ghost use lib.Dec.{ltb};
 ghost use lib.ListN.{length};
+ghost use Rattle.format.specs.Fields.{rawCall};
 ghost use Rattle.format.specs.Written.{fit};
-ghost use Rattle.frame_sizes.specs.FrameSizes.{call, frameSize};
+ghost use Rattle.frame_sizes.specs.FrameSizes.{frameSize};
 use field_table::LISTED;
 use field_table::LONGEST;
 
@@ -38,7 +39,7 @@ fn fields_fit(widths: &[usize], fields: &[u64]) -> bool
 
 // How many bytes the frame of a call has; 0 where the call is not writable. A line that is not too long has at most 32 fields.
 pub fn frame_size(kind: usize, fields: &[u64]) -> usize
-    ensures { λ r. ⌜ r ≡ frameSize (call kind (now (fields .entry))) ⌝ }
+    ensures { λ r. ⌜ r ≡ frameSize (rawCall kind (now (fields .entry))) ⌝ }
 {
     let shape = field_table::shape_of(kind);
     if shape.kind == 0 {

@@ -1,5 +1,5 @@
 -- A line written: the kind's digits, then the text of the fields into the tail behind them.
-use Prim.Native.Nat.{ℕ, _+_, _-_, _≤_, _<_}
+use Prim.Native.Nat.{ℕ, _-_, _≤_, _<_}
 use mathlib.Core.Path.{_≡_, sym, ap, _∙_}
 use mathlib.Core.List.{List, [], _∷_, _++_}
 use native.Mathlib.Omega.{arith}
@@ -9,27 +9,26 @@ use Rattle.numbers.specs.Lists.{total}
 use Rattle.numbers.specs.Tails.{laid, length-laid, tail-is, grow}
 use Rattle.format.specs.Hex.{digits}
 use Rattle.format.specs.HexLaws.{length-digits}
-use Rattle.format.specs.Fields.{textAt}
+use Rattle.format.specs.Fields.{textAt, rawCall}
 use Rattle.format.specs.Written.{widthsOf, lineOf, frameOf}
 use Rattle.format.specs.WrittenLaws.{length-line}
-use Rattle.frame_sizes.specs.FrameSizes.{call}
 
 -- in a buffer that the line fits
-module _ (k : ℕ) (ns old : List ℕ) (room : length (lineOf (call k ns)) ≤ length old) where
+module _ (k : ℕ) (ns old : List ℕ) (room : length (lineOf (rawCall k ns)) ≤ length old) where
   pub kind-room : 2 ≤ length old
-  kind-room = omega (arith, length-line (call k ns))
+  kind-room = omega (arith, length-line (rawCall k ns))
 
   -- the kind's digits stand there
   module _ (xs : List ℕ) (there : xs ≡ laid (digits 2 k) old) where
     pub kind-same : length xs ≡ length old
     kind-same = ap length there ∙ length-laid (digits 2 k) old (omega (arith, length-digits 2 k, kind-room))
 
-    module _ (ws : List ℕ) (e : ws ≡ widthsOf (call k ns)) where
+    module _ (ws : List ℕ) (e : ws ≡ widthsOf (rawCall k ns)) where
       pub fields-room : total ws ≤ length (midOf 2 (length xs - 2) xs)
-      fields-room = rw tail-is (omega (arith, length-line (call k ns), ap total e, kind-same, length-drop 2 xs))
+      fields-room = rw tail-is (omega (arith, length-line (rawCall k ns), ap total e, kind-same, length-drop 2 xs))
 
       pub line-there : (ys : List ℕ) → ys ≡ laid (textAt ws ns) (midOf 2 (length xs - 2) xs)
-          → putMid 2 (length xs - 2) xs ys ≡ laid (lineOf (call k ns)) old
+          → putMid 2 (length xs - 2) xs ys ≡ laid (lineOf (rawCall k ns)) old
       unfolding lineOf
       line-there ys f =
           grow (digits 2 k) (textAt ws ns) old xs ys 2 there (sym (length-digits 2 k)) f
@@ -40,7 +39,7 @@ pub tail-room : (xs : List ℕ) (n : ℕ) → n < length xs → 1 ≤ length (mi
 tail-room xs n h = rw tail-is (omega (arith, length-drop n xs))
 
 -- the 0A goes into the tail behind the line
-pub frame-there : (k : ℕ) (ns old xs ys : List ℕ) (n : ℕ) → n ≡ length (lineOf (call k ns)) → xs ≡ laid (lineOf (call k ns)) old
-    → ys ≡ laid (10 ∷ []) (midOf n (length xs - n) xs) → putMid n (length xs - n) xs ys ≡ laid (frameOf (call k ns)) old
+pub frame-there : (k : ℕ) (ns old xs ys : List ℕ) (n : ℕ) → n ≡ length (lineOf (rawCall k ns)) → xs ≡ laid (lineOf (rawCall k ns)) old
+    → ys ≡ laid (10 ∷ []) (midOf n (length xs - n) xs) → putMid n (length xs - n) xs ys ≡ laid (frameOf (rawCall k ns)) old
 unfolding frameOf
-frame-there k ns old xs ys n e there f = grow (lineOf (call k ns)) (10 ∷ []) old xs ys n there e f
+frame-there k ns old xs ys n e there f = grow (lineOf (rawCall k ns)) (10 ∷ []) old xs ys n there e f

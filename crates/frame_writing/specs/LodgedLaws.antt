@@ -8,11 +8,11 @@ use native.Mathlib.Omega.{arith}
 use lib.ListN.{length}
 use Rattle.numbers.specs.Cases.{le-or-lt}
 use Rattle.numbers.specs.Tails.{laid}
-use Rattle.format.specs.Fields.{RawCall}
+use Rattle.format.specs.Fields.{RawCall, rawCall}
 use Rattle.format.specs.Written.{lineOf, frameOf, writable}
 use Rattle.format.specs.WrittenLaws as laws
 use Rattle.format.specs.WrittenLaws.{length-line, length-frame}
-use Rattle.frame_sizes.specs.FrameSizes.{call, frameSize}
+use Rattle.frame_sizes.specs.FrameSizes.{frameSize}
 use Rattle.frame_sizes.specs.FrameSizeLaws.{size-none, size-some}
 use Rattle.frame_writing.specs.declared.Written.{Written}
 use Rattle.frame_writing.specs.Lodged.{Lodges, Encodes, Refuses}
@@ -39,7 +39,7 @@ module _ (ok : Bool) (frame old new : List ℕ) (r : Written) where
 
 module _ (k : ℕ) (ns : List ℕ) where
   abbrev c : RawCall
-  c = call k ns
+  c = rawCall k ns
 
   module _ (size n : ℕ) (old : List ℕ) (s : size ≡ frameSize c) (f : Refuses size (length old) n) where
     -- a refusal

@@ -5,8 +5,8 @@ ghost use mathlib.Core.Bool.{true};
 ghost use Prim.Native.Nat.{_≤_};
 ghost use lib.ListN.{length};
 ghost use Rattle.numbers.specs.Tails.{laid};
+ghost use Rattle.format.specs.Fields.{rawCall};
 ghost use Rattle.format.specs.Written.{lineOf, writable};
-ghost use Rattle.frame_sizes.specs.FrameSizes.{call};
 ghost use Rattle.frame_writing.specs.Lodged.{Refuses, Encodes};
 
 // What writing answers: 0 and how many bytes were written, or a refusal's number and 0.
@@ -46,8 +46,8 @@ fn refusal_of(size: usize, room: usize) -> u8
 
 // Writes the line of a writable call at the start of a buffer.
 fn put_line(kind: usize, fields: &[u64], out: &mut [u8])
-    requires { ⌜ (writable (call kind (now fields)) ≡ true) × (length (lineOf (call kind (now fields))) ≤ length (now out)) ⌝ }
-    ensures { λ _. ⌜ now (out .exit) ≡ laid (lineOf (call kind (now (fields .entry)))) (now (out .entry)) ⌝ }
+    requires { ⌜ (writable (rawCall kind (now fields)) ≡ true) × (length (lineOf (rawCall kind (now fields))) ≤ length (now out)) ⌝ }
+    ensures { λ _. ⌜ now (out .exit) ≡ laid (lineOf (rawCall kind (now (fields .entry)))) (now (out .entry)) ⌝ }
 {
     let shape = field_table::shape_of(kind);
     let widths = shape.widths;
@@ -58,7 +58,7 @@ fn put_line(kind: usize, fields: &[u64], out: &mut [u8])
 
 // Writes the frame of a call at the start of a buffer; the bytes behind it stay, and a refusal leaves every byte.
 pub fn encode(kind: usize, fields: &[u64], out: &mut [u8]) -> Written
-    ensures { λ r. ⌜ Encodes (call kind (now (fields .entry))) (now (out .entry)) (now (out .exit)) r ⌝ }
+    ensures { λ r. ⌜ Encodes (rawCall kind (now (fields .entry))) (now (out .entry)) (now (out .exit)) r ⌝ }
 {
     let size = frame_sizes::frame_size(kind, fields);
     let number = refusal_of(size, out.len());

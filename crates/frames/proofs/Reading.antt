@@ -9,8 +9,8 @@ use native.Mathlib.Omega.{arith}
 use lib.ListN.{length, take, drop, getD, set, replicate, length-set, length-replicate, drop-of-length-le}
 use lib.Seq.{drop-cons, drop-drop, take-suc-set}
 use Rattle.numbers.specs.Lists.{total}
-use Rattle.format.specs.Hex.{allHex, number}
-use Rattle.format.specs.Fields.{listed, known, longest, RawCall, fixed, each, count, repeats, layout, fieldsAt, kindOf, asked, callOf, read}
+use Rattle.format.specs.Hex.{allHex, hexNumber}
+use Rattle.format.specs.Fields.{listed, known, longest, RawCall, fixed, each, count, repeats, layout, fieldsAt, kindOf, askedWidths, callOf, read}
 use Rattle.format.specs.WidthLaws.{take-fields, fields-fit}
 use Rattle.format.specs.FieldLaws.{WellFormed, reads, reads-none, total-layout}
 use Rattle.field_table.specs.Fitting.{repeats-few}
@@ -37,7 +37,7 @@ module _ (ws s out : List ℕ) where
     unfolding total
     reading-room = omega (arith, r .room, ap total next)
 
-    pub reading-next : (v : ℕ) → length ws ≤ 32 → v ≡ number (take w (drop at s)) → Reading ws s (set out j v) (at + w) (j + 1)
+    pub reading-next : (v : ℕ) → length ws ≤ 32 → v ≡ hexNumber (take w (drop at s)) → Reading ws s (set out j v) (at + w) (j + 1)
     unfolding fieldsAt
     reading-next v few q = record {
       inside = omega arith;
@@ -78,7 +78,7 @@ module _ (k m : ℕ) (first cs : List ℕ) (q : m ≡ length (fixed k)) (r : tak
 
 -- the length that its kind and count ask
 pub asked-length : (l : List ℕ) → WellFormed l → (k : ℕ) → k ≡ kindOf l → length l ≡ 2 + total (fixed k) + listed * repeats k (fieldsAt (fixed k) (drop 2 l))
-unfolding asked
+unfolding askedWidths
 asked-length l w k e = rw e (omega (arith, w .exact, total-layout (kindOf l) (repeats (kindOf l) (fieldsAt (fixed (kindOf l)) (drop 2 l)))))
 
 module _ (l : List ℕ) (f : Frame) where
@@ -92,9 +92,9 @@ module _ (l : List ℕ) (f : Frame) where
   pub accepted : (k n : ℕ) → k ≡ kindOf l → n ≡ repeats k (fieldsAt (fixed k) (drop 2 l)) → length l ≤ longest → allHex l ≡ true → known k ≡ true
       → length l ≡ 2 + total (fixed k) + listed * n → (f .kind ≡ 0 → ⊥) → f .kind ≡ k → take (f .count) (f .fields) ≡ fieldsAt (layout k n) (drop 2 l)
       → Decodes
-  unfolding asked callOf
+  unfolding askedWidths callOf
   accepted k n e q short hex there exact fz fk ff =
-      let a : asked l ≡ layout k n = rw (q, e) in
+      let a : askedWidths l ≡ layout k n = rw (q, e) in
       let w : WellFormed l = record { short = short; hex = hex; kind-known = rw e at there; exact = exact ∙ omega (arith, ap total a, total-layout k n) } in
       (call-some f fz ∙ ap some (same (fk ∙ e) (ff ∙ ap (λ (ws : List ℕ). fieldsAt ws (drop 2 l)) (sym a))) ∙ sym (reads l w), λ z. absurd (fz z))
     where

@@ -67,11 +67,7 @@ pub fn who_can_force(hall: Hall, seat: Seat, first: u64, second: u64, prices: &[
     ensures { λ r. ⌜ ForcesThrough (seatOf seat) hall first second (now (prices .entry)) r ⌝ }
 {
     if !seat_rights::conducts(seat) {
-        return Forced {
-            number: Hall::NO_RIGHT,
-            outcome: 0,
-            withdraws: false,
-        };
+        return forcing::refused(Hall::NO_RIGHT);
     }
     forcing::who_can_force(hall.auction, first, second, prices)
 }

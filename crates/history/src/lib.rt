@@ -41,10 +41,10 @@ impl History {
             if levels.len() <= i {
                 return h;
             }
-            if 8 <= i {
+            if History::MOST <= i {
                 return h;
             }
-            if 8 - i <= n {
+            if History::MOST - i <= n {
                 return h;
             }
             h.prices[n + i] = prices[i];
@@ -63,7 +63,7 @@ impl History {
         let mut h = History::new();
         let mut i: usize = 0;
         while i < n {
-            if 8 <= i {
+            if History::MOST <= i {
                 return h;
             }
             h.prices[i] = self.prices[i];
@@ -93,10 +93,10 @@ impl History {
         let k = self.offered;
         let mut h = self;
         if 0 < k {
-            if 8 < k - 1 {
+            if History::MOST < k - 1 {
                 return h;
             }
-            if 8 - (k - 1) < n {
+            if History::MOST - (k - 1) < n {
                 return h;
             }
             h.count = n + (k - 1);
@@ -104,7 +104,7 @@ impl History {
             return h;
         }
         if missing {
-            if n < 8 {
+            if n < History::MOST {
                 h.prices[n] = opening;
                 h.levels[n] = 0;
                 h.count = n + 1;

@@ -6,14 +6,14 @@ use lib.ListN.{length}
 use Rattle.rules.specs.Ledger.{Ledger}
 use Rattle.record_forcing.specs.Chosen.{toldNumber, toldOutcome, Tells}
 use Rattle.record_forcing.specs.declared.Told.{Told}
-use Rattle.host_numbers.specs.HostNumbers.{answerOf, hostNumber}
+use Rattle.host_numbers.specs.HostNumbers.{valueAnswer, hostNumber}
 
 -- of the auction with this ledger, for a buffer of so many bytes
 unfoldable pub hostForcing : Ledger → ℕ → ℕ → List ℕ → ℕ → ℕ
-hostForcing l m n ps room = hostNumber (answerOf (toldNumber l m n ps room) (toldOutcome l m n ps room))
+hostForcing l m n ps room = hostNumber (valueAnswer (toldNumber l m n ps room) (toldOutcome l m n ps room))
 
 -- from what the library tells
 pub host-forcing : (l : Ledger) (m n : ℕ) (ps old new : List ℕ) (t : Told) (r : ℕ) → Tells l m n ps old new t
-    → r ≡ hostNumber (answerOf (t .number) (t .outcome)) → r ≡ hostForcing l m n ps (length old)
+    → r ≡ hostNumber (valueAnswer (t .number) (t .outcome)) → r ≡ hostForcing l m n ps (length old)
 unfolding hostForcing
-host-forcing l m n ps old new t r w e = e ∙ ap₂ (λ (k : ℕ) (v : ℕ). hostNumber (answerOf k v)) (w .number) (w .outcome)
+host-forcing l m n ps old new t r w e = e ∙ ap₂ (λ (k : ℕ) (v : ℕ). hostNumber (valueAnswer k v)) (w .number) (w .outcome)

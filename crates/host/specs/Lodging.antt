@@ -9,13 +9,13 @@ use Rattle.replies.specs.Orders.{Order}
 use Rattle.replies.specs.WrittenOrders.{writableOrder, frameOfOrder}
 use Rattle.frame_writing.specs.declared.Written.{Written}
 use Rattle.writing.specs.Writes.{Writes}
-use Rattle.host_numbers.specs.HostNumbers.{answerOf, hostNumber}
+use Rattle.host_numbers.specs.HostNumbers.{valueAnswer, hostNumber}
 
 -- the number for an order and a buffer
 unfoldable pub hostBytes : Order → List ℕ → ℕ
 hostBytes o old =
     let n = length old in
-    hostNumber (answerOf (refusal (writableOrder o) (frameOfOrder o) n) (written (writableOrder o) (frameOfOrder o) n))
+    hostNumber (valueAnswer (refusal (writableOrder o) (frameOfOrder o) n) (written (writableOrder o) (frameOfOrder o) n))
 
 -- and what the buffer then holds
 pub record HostWrites (o : Order) (old new : List ℕ) (r : ℕ) : Type 0 where
@@ -25,8 +25,8 @@ pub record HostWrites (o : Order) (old new : List ℕ) (r : ℕ) : Type 0 where
 -- ---- from the answer of the library
 
 abbrev pub answer : Written → Answer
-answer w = answerOf (w .number) (w .bytes)
+answer w = valueAnswer (w .number) (w .bytes)
 
 pub host-writes : (o : Order) (old new : List ℕ) (w : Written) (r : ℕ) → Writes o old new w → r ≡ hostNumber (answer w) → HostWrites o old new r
 unfolding hostBytes
-host-writes o old new w r l e = record { bytes = e ∙ ap₂ (λ (n : ℕ) (v : ℕ). hostNumber (answerOf n v)) (l .number) (l .bytes); buffer = l .buffer }
+host-writes o old new w r l e = record { bytes = e ∙ ap₂ (λ (n : ℕ) (v : ℕ). hostNumber (valueAnswer n v)) (l .number) (l .bytes); buffer = l .buffer }

@@ -6,13 +6,13 @@ use lib.ListN.{length}
 use Rattle.sealed.specs.Sealed.{Book, lentNumber, lentLeft}
 use Rattle.sealed_auction.specs.Cleared.{Lends}
 use Rattle.sealed_auction.specs.declared.Lent.{Lent}
-use Rattle.host_numbers.specs.HostNumbers.{hostNumber, answerOf}
+use Rattle.host_numbers.specs.HostNumbers.{hostNumber, valueAnswer}
 
 unfoldable pub hostSealed : ℕ → ℕ → Book → ℕ → ℕ
-hostSealed ceiling demand b room = hostNumber (answerOf (lentNumber ceiling demand b room) (lentLeft ceiling demand b room))
+hostSealed ceiling demand b room = hostNumber (valueAnswer (lentNumber ceiling demand b room) (lentLeft ceiling demand b room))
 
 -- from what the library tells
 pub host-sealed : (ceiling demand : ℕ) (b : Book) (old new : List ℕ) (t : Lent) (r : ℕ) → Lends ceiling demand b old new t
-    → r ≡ hostNumber (answerOf (t .number) (t .left)) → r ≡ hostSealed ceiling demand b (length old)
+    → r ≡ hostNumber (valueAnswer (t .number) (t .left)) → r ≡ hostSealed ceiling demand b (length old)
 unfolding hostSealed
-host-sealed ceiling demand b old new t r w e = e ∙ ap₂ (λ (k : ℕ) (v : ℕ). hostNumber (answerOf k v)) (w .number) (w .left)
+host-sealed ceiling demand b old new t r w e = e ∙ ap₂ (λ (k : ℕ) (v : ℕ). hostNumber (valueAnswer k v)) (w .number) (w .left)

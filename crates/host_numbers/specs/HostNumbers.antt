@@ -16,5 +16,5 @@ unfoldable pub hostRemainder : Answer → ℕ
 hostRemainder a = valueOr a (a .remainder)
 
 -- an answer of a number and a value alone
-abbrev pub answerOf : ℕ → ℕ → Answer
-answerOf n v = record { number = n; value = v; remainder = 0 }
+abbrev pub valueAnswer : ℕ → ℕ → Answer
+valueAnswer n v = record { number = n; value = v; remainder = 0 }

@@ -1,7 +1,7 @@
 // What a C host gets of an answer: one number of 64 bits (document 01, Frames, the C host).
 ghost use mathlib.Core.Path.{_≡_};
 ghost use Rattle.curve.specs.Answer.{demandAnswer};
-ghost use Rattle.host_numbers.specs.HostNumbers.{answerOf, hostNumber, hostRemainder};
+ghost use Rattle.host_numbers.specs.HostNumbers.{valueAnswer, hostNumber, hostRemainder};
 use demand::Demanded;
 
 // What C gets for refusal 1.
@@ -9,7 +9,7 @@ const REFUSAL_1: u64 = 0xffff_ffff_ffff_ffff;
 
 // What C gets of an answer: the value, or 2^64 less the refusal's number.
 pub fn host_number(number: u8, value: u64) -> u64
-    ensures { λ r. ⌜ r ≡ hostNumber (answerOf number value) ⌝ }
+    ensures { λ r. ⌜ r ≡ hostNumber (valueAnswer number value) ⌝ }
 {
     if number == 0 {
         return value;

@@ -62,7 +62,7 @@ impl Curve {
         if Curve::MOST <= n {
             return self;
         }
-        if 1000000 < price {
+        if checks::TOP_PRICE < price {
             return self;
         }
         if Curve::PRICE <= after {
@@ -114,7 +114,7 @@ impl Curve {
         ensures { λ r. ⌜ SuppliedAt self first p r ⌝ }
     {
         let mut left = first;
-        for i in 0..256 {
+        for i in 0..Curve::MOST {
             if self.count <= i {
                 return left;
             }

@@ -1,23 +1,17 @@
 -- Levels as they are held: one more in the place behind the others, and the highest of them.
 use Prim.Native.Nat.{ℕ, suc, _+_, _-_, _≤_, _<_}
 use mathlib.Core.Path.{_≡_, refl, sym, ap, _∙_}
-use mathlib.Core.List.{List, [], _∷_, _++_, append-assoc}
+use mathlib.Core.List.{List, [], _∷_, _++_}
 use mathlib.Core.Logic.{_⊎_, ⊎-elim}
 use native.Mathlib.Omega.{arith}
 use native.Mathlib.Numerals.{add-one}
-use lib.ListN.{length, getD, set, take, replicate, length-append, List·getD-append}
-use lib.Seq.{set-at, take-suc, take-all, length-take-le}
+use lib.ListN.{length, getD, set, take, replicate, List·getD-append}
+use lib.Seq.{take-suc, take-all, length-take-le}
 use Rattle.numbers.specs.Lists.{lastOr, padded}
 use Rattle.numbers.specs.ListLaws.{last-at}
+use Rattle.numbers.specs.Padded.{padded-more}
 use Rattle.levels.specs.declared.Levels.{Levels}
 use Rattle.levels.specs.Held.{heldLevels, Copied, Highest}
-
--- a store behind the last of the list
-padded-more : (places : ℕ) (xs : List ℕ) (n x : ℕ) → length xs ≡ n → n < places → set (padded places xs) n x ≡ padded places (xs ++ (x ∷ []))
-padded-more places xs n x e h =
-    let zeros : List ℕ = replicate (places - length (xs ++ (x ∷ []))) 0 in
-    let f : places - length xs ≡ suc (places - length (xs ++ (x ∷ []))) = omega (arith, length-append xs (x ∷ [])) in
-    rw f (set-at xs 0 zeros x n e ∙ sym (append-assoc xs (x ∷ []) zeros))
 
 -- the loop of `copied` before place i
 pub record Copying (ls : List ℕ) (held : Levels) (i : ℕ) : Type 0 where

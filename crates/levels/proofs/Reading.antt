@@ -1,16 +1,16 @@
 -- Tests that read a list from the front, in step with a loop: what they say of what is left is what they say of the whole.
 use Prim.Native.Nat.{ℕ, _+_, _≤_, _<_}
 use mathlib.Core.Path.{_≡_, refl, sym, ap, _∙_}
-use mathlib.Core.Bool.{Bool, true, false, _&&_, _||_, and-false}
+use mathlib.Core.Bool.{Bool, true, false, _&&_, and-false}
 use mathlib.Core.Logic.{_⊎_, ⊎-elim}
 use mathlib.Core.List.{List, [], _∷_}
 use native.Mathlib.Omega.{arith}
 use native.Mathlib.Numerals.{add-one}
 use lib.Dec.{leb, ltb, eqb}
-use lib.ListN.{length, getD, take, drop, length-take, drop-of-length-le}
-use lib.Seq.{drop-cons, getD-take}
+use lib.ListN.{length, getD, drop, drop-of-length-le}
+use lib.Seq.{drop-cons}
 use borrow.Author.Tests.{le-leb, lt-leb, lt-ltb, le-ltb, eq-eqb, ne-eqb}
-use Rattle.numbers.specs.Lists.{any, member}
+use Rattle.numbers.specs.Lists.{member}
 use Rattle.numbers.specs.ListLaws.{or-left, or-right}
 use Rattle.rules.specs.Ledger.{declaredOrZero}
 use Rattle.rules.specs.Refusals.{levelsOk, rising, lowering}
@@ -98,35 +98,3 @@ module _ (declared : List ℕ) where
 
   pub lowers-not : (q v : ℕ) → q ≤ v → lowers q v ≡ false
   lowers-not q v h = simp (le-ltb v q h, and-false)
-
--- ---- a level sought among the first n
-
-module _ (v n : ℕ) (xs : List ℕ) where
-  -- the loop before place i
-  pub record Sought (i : ℕ) : Type 0 where
-    pub within : i ≤ length xs
-    pub left : member v (drop i (take n xs)) ≡ member v (take n xs)
-
-  pub sought-first : Sought 0
-  sought-first = record { within = omega arith; left = refl }
-
-  module _ (i : ℕ) (s : Sought i) where
-    pub sought-end : (n ≤ i) ⊎ (length xs ≤ i) → false ≡ member v (take n xs)
-    unfolding any
-    sought-end h =
-        let few : length (take n xs) ≤ i = ⊎-elim (λ k. omega (arith, length-take n xs)) (λ k. omega (arith, length-take n xs)) h in
-        ap (member v) (sym (drop-of-length-le (take n xs) few)) ∙ s .left
-
-    module _ (h : i < n) (g : i < length xs) where
-      sought-turn : eqb v (getD xs i 0) || member v (drop (i + 1) (take n xs)) ≡ member v (take n xs)
-      unfolding any
-      sought-turn =
-          let e : getD (take n xs) i 0 ≡ getD xs i 0 = getD-take n xs i 0 h in
-          let d : drop i (take n xs) ≡ getD xs i 0 ∷ drop (i + 1) (take n xs) = rw (← e) (at-place (take n xs) i (omega (arith, length-take n xs))) in
-          ap (member v) (sym d) ∙ s .left
-
-      pub sought-again : (getD xs i 0 ≡ v → ⊥) → Sought (i + 1)
-      sought-again e = record { within = omega arith; left = rw (ne-eqb v (getD xs i 0) (λ k. e (sym k))) at sought-turn }
-
-      pub sought-found : getD xs i 0 ≡ v → true ≡ member v (take n xs)
-      sought-found e = rw (eq-eqb v (getD xs i 0) (sym e)) at sought-turn

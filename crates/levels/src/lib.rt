@@ -76,7 +76,7 @@ impl Levels {
         if n < 1 {
             return 0;
         }
-        if 8 < n {
+        if Levels::MOST < n {
             return 0;
         }
         self.values[n - 1]
@@ -88,7 +88,7 @@ impl Levels {
     {
         let n = self.count;
         let mut i: usize = 0;
-        while i < 8 {
+        while i < Levels::MOST {
             if n <= i {
                 return false;
             }

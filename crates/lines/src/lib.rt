@@ -2,7 +2,8 @@
 ghost use mathlib.Core.Path.{_≡_};
 ghost use Prim.Native.Nat.{_≤_};
 ghost use lib.ListN.{length};
-ghost use Rattle.format.specs.Lines.{run, part, lineStart, lineEnd};
+ghost use Rattle.numbers.specs.Lists.{part};
+ghost use Rattle.format.specs.Lines.{run, lineStart, lineEnd};
 
 // How many bytes stand before the first 0A, or before the end.
 fn run_of(bytes: &[u8]) -> usize
@@ -20,7 +21,7 @@ fn run_of(bytes: &[u8]) -> usize
 
 // The next line of a record, as that part of it, without its 0A; at its end or past it the empty part there.
 pub fn next_line(bytes: &[u8], at: usize) -> &[u8]
-    ensures { λ r. ⌜ now r ≡ part (lineStart (now (bytes .entry)) at) (lineEnd (now (bytes .entry)) at) (now (bytes .entry)) ⌝ }
+    ensures { λ r. ⌜ now r ≡ part (now (bytes .entry)) (lineStart (now (bytes .entry)) at) (lineEnd (now (bytes .entry)) at) ⌝ }
 {
     let len = bytes.len();
     if len <= at {

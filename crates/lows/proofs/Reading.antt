@@ -6,6 +6,7 @@ use mathlib.Core.List.{List}
 use native.Mathlib.Omega.{arith}
 use lib.Dec.{leb}
 use lib.ListN.{length, getD, set}
+use Rattle.numbers.specs.ListLaws.{numbered-nth}
 use Rattle.rules.specs.Ledger.{Developer, Ledger}
 use Rattle.rules.specs.Clearing.{highest, quantityAfter, low, ofEach}
 use Rattle.sound.specs.Sound.{Sound}
@@ -16,7 +17,7 @@ use Rattle.levels.specs.declared.Levels.{Levels}
 use Rattle.history.specs.Held.{LevelAt}
 use Rattle.history.specs.declared.History.{History}
 use Rattle.courses.specs.Courses.{heldCourse}
-use Rattle.courses.specs.Places.{Filling, filling-next, filling-all, numbered-at}
+use Rattle.courses.specs.Places.{Filling, filling-next, filling-all}
 use Rattle.lows.specs.Lows.{Highests, Lows}
 
 -- ---- what a sound ledger holds fits eight places
@@ -37,7 +38,7 @@ pub highest-next : (declared : List Levels) (out : List ℕ) (i : ℕ) (d : Leve
 highest-next declared out i d v t w r = record {
   within = omega arith;
   part = λ l s h. filling-next _ 0 out i v (t .part l s h) w
-      (r .right (l .developers (suc i) .declared .levels) (ap (λ (xs : List Levels). getD xs i d) h ∙ numbered-at (λ n. heldLevels (l .developers n .declared .levels)) i d w) (levels-few l s (suc i)));
+      (r .right (l .developers (suc i) .declared .levels) (numbered-nth (λ n. heldLevels (l .developers n .declared .levels)) 32 declared i d h w) (levels-few l s (suc i)));
 }
 
 pub highest-all : (declared : List Levels) (out : List ℕ) (i : ℕ) → HighestTurn declared out i → 32 ≤ i → Highests declared out
@@ -58,8 +59,8 @@ low-next histories firsts p out i d v t w r = record {
   within = omega arith;
   part = λ l s h g. filling-next _ 0 out i v (t .part l s h g) w
       (r .right (l .developers (suc i) .withdrawals) (l .developers (suc i) .offer) (l .developers (suc i) .lodged)
-      (ap (λ (xs : List History). getD xs i d) h ∙ numbered-at (λ n. heldCourse (l .developers n)) i d w) (history-few l s (suc i))
-      ∙ ap (λ (q : ℕ). quantityAfter (leb p) q (l .developers (suc i) .withdrawals)) (ap (λ (xs : List ℕ). getD xs i 0) g ∙ numbered-at (λ n. highest (l .developers n)) i 0 w));
+      (numbered-nth (λ n. heldCourse (l .developers n)) 32 histories i d h w) (history-few l s (suc i))
+      ∙ ap (λ (q : ℕ). quantityAfter (leb p) q (l .developers (suc i) .withdrawals)) (numbered-nth (λ n. highest (l .developers n)) 32 firsts i 0 g w));
 }
 
 pub low-all : (histories : List History) (firsts : List ℕ) (p : ℕ) (out : List ℕ) (i : ℕ) → LowTurn histories firsts p out i → 32 ≤ i → Lows histories firsts p out

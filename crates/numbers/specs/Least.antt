@@ -4,7 +4,7 @@ use mathlib.Core.Path.{_≡_, refl, sym, subst}
 use mathlib.Core.Bool.{Bool, true, false}
 use mathlib.Core.Logic.{⊎-elim}
 use native.Mathlib.Omega.{arith}
-use Rattle.numbers.specs.Cases.{le-or-lt, not-true, clash}
+use Rattle.numbers.specs.Cases.{le-or-lt, never-true, clash}
 
 -- from lo up, lo + k at most: the first that passes, and lo + k where none below it does
 unfoldable pub leastFrom : (ℕ → Bool) → ℕ → ℕ → ℕ
@@ -117,7 +117,7 @@ bracket-up f c a lo hi mid r b h g e = record {
   order = omega arith;
   to = b .to;
   top = b .top;
-  none = λ p k l. not-true (f p) (λ t. clash (r p mid k (omega arith) (let m = b .to in omega arith) t) e);
+  none = λ p k l. never-true (f p) (λ t. clash (r p mid k (omega arith) (let m = b .to in omega arith) t) e);
 }
 
 pub bracket-end : (f : ℕ → Bool) (c a lo hi : ℕ) → Bracket f c a lo hi → hi ≤ lo → Sought f c a lo

@@ -3,11 +3,11 @@ use Prim.Native.Nat.{ℕ, zero, suc, _+_, _*_, max, _≤_, zero-le, suc-le-suc}
 use mathlib.Core.Path.{_≡_, refl, sym, ap, _∙_, subst}
 use mathlib.Core.Logic.{_⊎_, inl, inr, ⊎-elim, _↔_}
 use mathlib.Core.Bool.{Bool, true, false, cond, _&&_, false≢true}
-use mathlib.Core.List.{List, [], _∷_, _++_, map, List·Memᴰ, List·Memᴰ·head, List·Memᴰ·tail, List·Memᴰ·not-nil, List·Memᴰ·cases-cons}
+use mathlib.Core.List.{List, [], _∷_, _++_, map, flatten, List·Memᴰ, List·Memᴰ·head, List·Memᴰ·tail, List·Memᴰ·not-nil, List·Memᴰ·cases-cons}
 use native.Mathlib.Omega.{arith}
 use native.Mathlib.Nat.{suc-mul}
 use lib.Dec.{eqb}
-use lib.ListN.{length, getD}
+use lib.ListN.{length, getD, length-append}
 use borrow.Author.Tests.{eqb-true, eq-eqb}
 use Rattle.numbers.specs.Cases.{le-or-lt, and-true}
 pub use Rattle.numbers.specs.Cases.{or-true, or-left, or-right}
@@ -27,6 +27,11 @@ module _ {A : Type 0} where
 
   rest : {P : A → Type 0} {y : A} {ys : List A} → Each P (y ∷ ys) → Each P ys
   rest h x m = h x (List·Memᴰ·tail m)
+
+  -- one more in front, or not
+  pub each-more : (P : A → Type 0) (b : Bool) (x : A) (xs : List A) → P x → Each P xs → Each P (cond b xs (x ∷ xs))
+  each-more P true x xs p h y m = h y m
+  each-more P false x xs p h y m = ⊎-elim (λ d. subst P (sym d) p) (h y) (List·Memᴰ·cases-cons m)
 
   -- ---- keep
 
@@ -63,6 +68,12 @@ module _ {A : Type 0} where
       go : (b : Bool) → length (keep t xs) ≤ length xs → length (cond b (x ∷ keep t xs) (keep t xs)) ≤ suc (length xs)
       go true h = suc-le-suc h
       go false h = omega arith
+
+  -- a list all of which passes
+  pub keep-all : (t : A → Bool) (xs : List A) → Each (λ x. t x ≡ true) xs → keep t xs ≡ xs
+  unfolding keep
+  keep-all t [] h = refl
+  keep-all t (x ∷ xs) h = rw (first h, keep-all t xs (rest h))
 
   pub keep-append : (t : A → Bool) (xs ys : List A) → keep t (xs ++ ys) ≡ keep t xs ++ keep t ys
   unfolding keep
@@ -131,6 +142,12 @@ module _ {A : Type 0} where
   unfolding total
   total-map-bound f b [] h = zero-le
   total-map-bound f b (x ∷ xs) h = omega (arith, first h, total-map-bound f b xs (rest h), suc-mul (length xs) b)
+
+-- lists of n elements each, one behind the other
+pub flat-length : {A : Type 0} (n : ℕ) (xss : List (List A)) → Each (λ xs. length xs ≡ n) xss → length (flatten xss) ≡ n * length xss
+unfolding flatten
+flat-length n [] h = omega arith
+flat-length n (xs ∷ xss) h = omega (arith, length-append xs (flatten xss), first h, flat-length n xss (rest h))
 
 -- ---- numbers
 

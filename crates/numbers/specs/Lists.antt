@@ -1,9 +1,9 @@
--- Lists of numbers: counting up, keeping those that pass a test, sums, the greatest, membership.
+-- Lists of numbers: counting up, keeping those that pass a test, parts, sums, the greatest, membership.
 use Prim.Native.Nat.{ℕ, zero, suc, _+_, _-_, max}
 use mathlib.Core.Bool.{Bool, true, false, cond, _&&_, _||_}
 use mathlib.Core.List.{List, [], _∷_, _++_}
 use lib.Dec.{eqb}
-use lib.ListN.{length, replicate}
+use lib.ListN.{length, take, drop, replicate}
 
 -- 1, 2, .., n
 unfoldable pub oneTo : ℕ → List ℕ
@@ -14,6 +14,14 @@ oneTo (suc n) = oneTo n ++ (suc n ∷ [])
 unfoldable pub keep : {A : Type 0} → (A → Bool) → List A → List A
 keep t [] = []
 keep t (x ∷ xs) = cond (t x) (x ∷ keep t xs) (keep t xs)
+
+-- from place `start` to below place `end`
+abbrev pub part : List ℕ → ℕ → ℕ → List ℕ
+part xs start end = take (end - start) (drop start xs)
+
+abbrev pub isEmpty : {A : Type 0} → List A → Bool
+isEmpty [] = true
+isEmpty (x ∷ xs) = false
 
 unfoldable pub total : List ℕ → ℕ
 total [] = 0

@@ -8,6 +8,11 @@ use Rattle.numbers.specs.Lists.{oneTo, keep, total}
 use Rattle.numbers.specs.ListLaws.{total-append}
 
 module _ {A : Type 0} where
+  pub total-add : (f g : A → ℕ) (xs : List A) → total (map (λ x. f x + g x) xs) ≡ total (map f xs) + total (map g xs)
+  unfolding total
+  total-add f g [] = refl
+  total-add f g (x ∷ xs) = omega (arith, total-add f g xs)
+
   -- one that does not pass counts for 0
   pub total-kept : (f : A → ℕ) (t : A → Bool) (xs : List A) → total (map f (keep t xs)) ≡ total (map (λ x. cond (t x) (f x) 0) xs)
   unfolding total keep

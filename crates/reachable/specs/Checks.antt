@@ -1,9 +1,10 @@
 -- What acceptance says: the checks that an accepted call passed. What each of these says stands in the crate `rules`.
 use Prim.Native.Nat.{ℕ, suc}
-use mathlib.Core.Path.{_≡_, refl, sym}
+use mathlib.Core.Path.{_≡_, refl}
 use mathlib.Core.Bool.{Bool, true, false, not}
 use mathlib.Core.List.{List}
 use native.Mathlib.Omega.{arith}
+use borrow.Author.Tests.{not-true}
 use Rattle.rules.specs.Ledger.{Settings, Declaration, Offer, Lodge, Cancel, Agency, agentFor, SetUp, Register, Open, Close, Developer, Ledger}
 use Rattle.rules.specs.Clearing.{highest}
 use Rattle.rules.specs.Refusals.{isFresh, isReady, mayOpen, inRound, settingsOk, isNumber, numbersOk, declarationOk, floor, closingOk, startCovered, isNone, isOfKind, pricesOk, lowering, check, moveNumber, number}
@@ -97,11 +98,7 @@ unfolding moveNumber
 cancel-passed l n x e =
     let p = passed (inRound (l .phase)) 1 _ e in
     let q = passed (isOfKind 2 n (x .declared .kind)) 2 _ (p .1) in
-    record { phase = p .0; developer = q .0; stands = not-not (isNone (x .offer)) (passed (not (isNone (x .offer))) 15 _ (q .1) .0) }
-  where
-    not-not : (b : Bool) → not b ≡ true → b ≡ false
-    not-not true h = sym h
-    not-not false h = refl
+    record { phase = p .0; developer = q .0; stands = not-true (isNone (x .offer)) (passed (not (isNone (x .offer))) 15 _ (q .1) .0) }
 
 pub close-passed : (l : Ledger) → number l Close ≡ 0 → ClosePassed l
 unfolding number

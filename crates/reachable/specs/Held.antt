@@ -15,6 +15,13 @@ pub use Rattle.clearing.specs.ClosingPrice.{started-not-fresh}
 
 -- ---- phases
 
+pub is-fresh : (p : Phase) → isFresh p ≡ true → p ≡ Fresh
+is-fresh Fresh e = refl
+is-fresh Ready e = absurd (clash e refl)
+is-fresh Round e = absurd (clash e refl)
+is-fresh Between e = absurd (clash e refl)
+is-fresh Closed e = absurd (clash e refl)
+
 pub is-ready : (p : Phase) → isReady p ≡ true → p ≡ Ready
 is-ready Ready e = refl
 is-ready Fresh e = absurd (clash e refl)

@@ -7,7 +7,7 @@ use native.Mathlib.Omega.{arith}
 use native.Mathlib.Nat.{add-zero, add-assoc}
 use lib.Dec.{eqb}
 use borrow.Author.Tests.{eqb-true}
-use Rattle.numbers.specs.Cases.{not-true, clash}
+use Rattle.numbers.specs.Cases.{never-true, clash}
 use Rattle.rules.specs.Ledger.{Call, SetUp, Register, Open, By, Close, Phase, Ledger, start}
 use Rattle.rules.specs.Refusals.{isReady, floor, openingPrice, number}
 use Rattle.rules.specs.Rounds.{accepted, step, stepAll, ledger}
@@ -57,7 +57,7 @@ still l c k h g = rw add-zero (by-step (λ m. SoFar m k) l c h g)
 
 so-far-step : (l : Ledger) (c : Call) (k : ℕ) → SoFar l k → SoFar (step l c) (k + opened l c)
 unfolding step opened accepted
-so-far-step l (SetUp s) k h = still l (SetUp s) k h (λ e. record { none = λ f. h .none (not-true (started (l .phase)) (λ t. clash (set-up-passed l s e .phase) (started-not-fresh (l .phase) t))); room = λ f. absurd (clash f refl) })
+so-far-step l (SetUp s) k h = still l (SetUp s) k h (λ e. record { none = λ f. h .none (never-true (started (l .phase)) (λ t. clash (set-up-passed l s e .phase) (started-not-fresh (l .phase) t))); room = λ f. absurd (clash f refl) })
 so-far-step l (Register n w x) k h = still l (Register n w x) k h (λ e. record { none = h .none; room = h .room })
 so-far-step l (Open c) k h = go (eqb (number l (Open c)) 0) refl
   where

@@ -4,7 +4,7 @@ use mathlib.Core.Bool.{Bool, true, false, cond}
 use mathlib.Core.List.{List, [], _∷_, _++_}
 use lib.Dec.{eqb}
 use borrow.Author.Tests.{eqb-true, eq-eqb, ne-eqb}
-use Rattle.rules.specs.Ledger.{Call, Ledger, start}
+use Rattle.rules.specs.Ledger.{Call, SetUp, Register, Open, By, Close, Ledger, start}
 use Rattle.rules.specs.Refusals.{number}
 use Rattle.rules.specs.Rounds.{accepted, step, stepAll, ledger, Answered, numberAlone, granted, answer, answersFrom, answers}
 
@@ -23,6 +23,15 @@ answer-refused l c h = ap (λ (t : Bool). cond t (granted l c) (numberAlone (num
 pub answer-accepted : (l : Ledger) (c : Call) → number l c ≡ 0 → answer l c ≡ granted l c
 unfolding answer
 answer-accepted l c e = ap (λ (t : Bool). cond t (granted l c) (numberAlone (number l c))) (eq-eqb (number l c) 0 e)
+
+-- an accepted call answers 0
+pub granted-number : (l : Ledger) (c : Call) → granted l c .number ≡ 0
+unfolding granted
+granted-number l (SetUp s) = refl
+granted-number l (Register n w x) = refl
+granted-number l (Open c) = refl
+granted-number l (By n m) = refl
+granted-number l Close = refl
 
 -- what holds of the ledger, and after the call if it is accepted, holds after the call
 pub by-step : (P : Ledger → Type 0) (l : Ledger) (c : Call) → P l → (number l c ≡ 0 → P (accepted l c)) → P (step l c)

@@ -5,28 +5,18 @@ use mathlib.Core.Bool.{Bool, true, false, cond, _&&_}
 use mathlib.Core.List.{List}
 use lib.Dec.{eqb}
 use borrow.Author.Tests.{eqb-true}
-use Rattle.rules.specs.Ledger.{Call, Close, Phase, Fresh, Ready, Round, Between, Closed, Ledger}
-use Rattle.rules.specs.Refusals.{isClosed, number}
+use Rattle.rules.specs.Ledger.{Call, Close, Ledger}
+use Rattle.rules.specs.Refusals.{number}
 use Rattle.rules.specs.Rounds.{step, ledger, Answered, numberAlone, granted, answer}
 use Rattle.rules.specs.Preview.{Previewed, preview}
 use Rattle.reachable.specs.Steps.{ledger-snoc}
 use Rattle.auction.specs.declared.Auction.{Auction}
 use Rattle.readings.specs.declared.Preview.{Preview}
-use Rattle.auction.specs.Holds.{phaseNumber, auctionOf}
+use Rattle.auction.specs.Holds.{auctionOf}
+use Rattle.auction.specs.PhaseNumbers.{closed-is}
 use Rattle.auction.specs.Called.{Called}
 use Rattle.readings.specs.Readings.{previewIn, Previews}
 use Rattle.clock.specs.Tests.{isClosedBy}
-
-closed-number : (p : Phase) → eqb (phaseNumber p) 4 ≡ isClosed p
-closed-number Fresh = refl
-closed-number Ready = refl
-closed-number Round = refl
-closed-number Between = refl
-closed-number Closed = refl
-
-closed-held : (b : Auction) (l : Ledger) → b ≡ auctionOf l → eqb (b .phase) 4 ≡ isClosed (l .phase)
-unfolding auctionOf
-closed-held b l h = ap (λ (x : Auction). eqb (x .phase) 4) h ∙ closed-number (l .phase)
 
 -- the number that closing answers is its refusal's, or 0
 answer-number : (l : Ledger) → answer l Close .number ≡ number l Close
@@ -43,7 +33,7 @@ module _ (cs : List Call) (a b : Auction) (r : Answered) (c : Called Close a b r
   unfolding preview
   mark-is = ap₂ (λ (n : ℕ) (t : Bool). eqb n 0 && t)
       (ap (λ (x : Answered). x .number) (c .answer cs h) ∙ answer-number (ledger cs))
-      (closed-held b (step (ledger cs) Close) (c .next cs h ∙ ap auctionOf (ledger-snoc cs Close)))
+      (sym (closed-is b (step (ledger cs) Close) (c .next cs h ∙ ap auctionOf (ledger-snoc cs Close))))
 
   pub previewed : (p : Preview) → Previews a p → (previewIn p .answered ≡ r) × (p .closed ≡ isClosedBy (r .number) (b .phase))
   unfolding preview

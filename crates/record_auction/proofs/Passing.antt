@@ -4,13 +4,14 @@ use mathlib.Core.Path.{_≡_, refl, sym, ap, _∙_}
 use mathlib.Core.List.{List, [], _++_, append-nil, append-assoc}
 use native.Mathlib.Omega.{arith}
 use lib.ListN.{length, getD, drop}
+use Rattle.numbers.specs.Lists.{part}
 use Rattle.format.specs.Fields.{read}
-use Rattle.format.specs.Lines.{part, lineStart, lineEnd}
+use Rattle.format.specs.Lines.{lineStart, lineEnd}
 use Rattle.format.specs.LineLaws.{line-inside, next-line, no-line}
 use Rattle.rules.specs.Ledger.{Call}
 use Rattle.rules.specs.Rounds.{ledger}
 use Rattle.replies.specs.Orders.{Settle, orderOf, ordered, orderIn}
-use Rattle.record_calls.specs.Calls.{asked, callsOf, callsIn}
+use Rattle.record_calls.specs.Calls.{askedCalls, callsOf, callsIn}
 use Rattle.frames.specs.Decoded.{heldFrame, callIn, read-some}
 use Rattle.frames.specs.declared.Frame.{Frame}
 use Rattle.auction.specs.Holds.{auctionOf}
@@ -39,7 +40,7 @@ pub passed-first : (s : List ℕ) (a : Auction) → a ≡ auctionOf (ledger []) 
 passed-first s a e = record { calls = []; holds = e; all = refl }
 
 -- the line l stands at `at`
-module _ (s l : List ℕ) (at : ℕ) (h : at < length s) (e : l ≡ part (lineStart s at) (lineEnd s at) s) where
+module _ (s l : List ℕ) (at : ℕ) (h : at < length s) (e : l ≡ part s (lineStart s at) (lineEnd s at)) where
   pub inside : at + length l ≤ length s
   inside = rw e (line-inside s at h)
 
@@ -48,9 +49,9 @@ module _ (s l : List ℕ) (at : ℕ) (h : at < length s) (e : l ≡ part (lineSt
   passed-again a b p w =
       let first = ap callsOf (rw (sym e) at (next-line s at h)) in
       record {
-        calls = p .calls ++ asked (orderIn l);
+        calls = p .calls ++ askedCalls (orderIn l);
         holds = w .next (p .calls) (p .holds);
-        all = append-assoc (p .calls) (asked (orderIn l)) _ ∙ ap (λ (cs : List Call). p .calls ++ cs) (sym first) ∙ p .all;
+        all = append-assoc (p .calls) (askedCalls (orderIn l)) _ ∙ ap (λ (cs : List Call). p .calls ++ cs) (sym first) ∙ p .all;
       }
 
 pub passed-all : (s : List ℕ) (a : Auction) (at : ℕ) → Passed s a at → length s ≤ at → a ≡ auctionOf (ledger (callsIn s))

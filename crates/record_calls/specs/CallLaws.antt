@@ -8,7 +8,7 @@ use Rattle.rules.specs.Rounds.{stepAll, ledger}
 use Rattle.reachable.specs.Steps.{step-all-append, ledger-append}
 use Rattle.replies.specs.Orders.{Order, Malformed, Asks, Settle, orderIn}
 use Rattle.replies.specs.Replies.{ledgerAfter}
-use Rattle.record_calls.specs.Calls.{asked, callsOf, callsIn}
+use Rattle.record_calls.specs.Calls.{askedCalls, callsOf, callsIn}
 
 -- the ledger after lines, as `repliesFrom` goes
 unfoldable pub ledgerBehind : Ledger → List (List ℕ) → Ledger
@@ -16,14 +16,14 @@ ledgerBehind l [] = l
 ledgerBehind l (line ∷ rest) = ledgerBehind (ledgerAfter l (orderIn line)) rest
 
 -- the calls that an order asks give the ledger after it
-step-asked : (l : Ledger) (o : Order) → stepAll l (asked o) ≡ ledgerAfter l o
+step-asked : (l : Ledger) (o : Order) → stepAll l (askedCalls o) ≡ ledgerAfter l o
 unfolding ledgerAfter stepAll
 step-asked l Malformed = refl
 step-asked l (Asks c) = refl
 step-asked l (Settle limit) = refl
 
-pub after-asked : (cs : List Call) (o : Order) → ledger (cs ++ asked o) ≡ ledgerAfter (ledger cs) o
-after-asked cs o = ledger-append cs (asked o) ∙ step-asked (ledger cs) o
+pub after-asked : (cs : List Call) (o : Order) → ledger (cs ++ askedCalls o) ≡ ledgerAfter (ledger cs) o
+after-asked cs o = ledger-append cs (askedCalls o) ∙ step-asked (ledger cs) o
 
 behind-lines : (l : Ledger) (ls : List (List ℕ)) → ledgerBehind l ls ≡ stepAll l (callsOf ls)
 unfolding ledgerBehind callsOf stepAll

@@ -6,14 +6,14 @@ use Rattle.rules.specs.Ledger.{Call}
 use Rattle.replies.specs.Orders.{Order, Malformed, Asks, Settle, orderIn}
 
 -- the calls that an order asks: settlings and malformed lines ask none
-abbrev pub asked : Order → List Call
-asked Malformed = []
-asked (Asks c) = c ∷ []
-asked (Settle limit) = []
+abbrev pub askedCalls : Order → List Call
+askedCalls Malformed = []
+askedCalls (Asks c) = c ∷ []
+askedCalls (Settle limit) = []
 
 unfoldable pub callsOf : List (List ℕ) → List Call
 callsOf [] = []
-callsOf (line ∷ rest) = asked (orderIn line) ++ callsOf rest
+callsOf (line ∷ rest) = askedCalls (orderIn line) ++ callsOf rest
 
 unfoldable pub callsIn : List ℕ → List Call
 callsIn bytes = callsOf (lines bytes)

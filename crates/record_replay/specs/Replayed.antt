@@ -16,9 +16,9 @@ unfoldable pub hosted : List ℕ → List ℕ → ℕ
 hosted t o = cond (leb (length t) (length o)) (length t) (2 ^ 64 - 11)
 
 -- the most bytes that the program reads, and its reply buffer's
-abbrev pub longest : ℕ
-longest = 65536
+abbrev pub longestRecord : ℕ
+longestRecord = 65536
 
 -- what the program prints: the replies; FF0B and 0A alone if the record is longer than what it reads, or its replies than their buffer
 unfoldable pub printed : List ℕ → List ℕ
-printed s = cond (leb (length s) longest && leb (length (replies s)) longest) (replies s) (answerLine 255 11 [])
+printed s = cond (leb (length s) longestRecord && leb (length (replies s)) longestRecord) (replies s) (answerLine 255 11 [])

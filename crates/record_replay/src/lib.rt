@@ -5,7 +5,7 @@ ghost use Prim.Native.Nat.{_≤_};
 ghost use lib.ListN.{length};
 ghost use Rattle.numbers.specs.Tails.{laid};
 ghost use Rattle.replies.specs.Replies.{answerLine, replies};
-ghost use Rattle.record_replay.specs.Replayed.{hosted, over, printed};
+ghost use Rattle.record_replay.specs.Replayed.{hosted, over, longestRecord, printed};
 
 // What a host gets for refusal 11: 2^64 less 11.
 const REFUSAL_11: u64 = 0xffff_ffff_ffff_fff5;
@@ -36,8 +36,8 @@ fn put_refusal(out: &mut [u8]) -> usize
 
 // Writes what the program prints for a record, and gives its number of bytes.
 pub fn print(bytes: &[u8], out: &mut [u8]) -> usize
-    requires { ⌜ 65536 ≤ length (now out) ⌝ }
-    ensures { λ r. ⌜ (r ≡ length (printed (now (bytes .entry)))) × (r ≤ 65536) × (now (out .exit) ≡ laid (printed (now (bytes .entry))) (now (out .entry))) ⌝ }
+    requires { ⌜ longestRecord ≤ length (now out) ⌝ }
+    ensures { λ r. ⌜ (r ≡ length (printed (now (bytes .entry)))) × (r ≤ longestRecord) × (now (out .exit) ≡ laid (printed (now (bytes .entry))) (now (out .entry))) ⌝ }
 {
     if LONGEST < bytes.len() {
         return put_refusal(out);

@@ -8,20 +8,21 @@ use borrow.Author.Tests.{le-leb, lt-leb}
 use borrow.Rule.Slice.PartMut.{putMid, midOf}
 use lib.Dec.{leb}
 use lib.ListN.{length, take, drop, length-append, length-take, length-drop}
-use Rattle.format.specs.Lines.{lines, part, lineStart, lineEnd}
+use Rattle.numbers.specs.Lists.{part}
+use Rattle.format.specs.Lines.{lines, lineStart, lineEnd}
 use Rattle.format.specs.LineLaws.{line-inside, next-line, no-line}
 use Rattle.numbers.specs.Tails.{laid, length-laid, tail-is, Filled, filled-more, filled-all}
 use Rattle.rules.specs.Ledger.{Call, Ledger}
 use Rattle.rules.specs.Rounds.{stepAll, ledger}
 use Rattle.replies.specs.Orders.{Order, orderIn}
 use Rattle.replies.specs.Replies.{repliesFrom, replies}
-use Rattle.record_calls.specs.Calls.{asked}
+use Rattle.record_calls.specs.Calls.{askedCalls}
 use Rattle.record_calls.specs.CallLaws.{after-asked}
 use Rattle.auction.specs.Holds.{auctionOf}
 use Rattle.auction.specs.declared.Auction.{Auction}
 use Rattle.reply_sizes.specs.Texts.{textOf}
-use Rattle.turns.specs.Turns.{Takes}
-use Rattle.turns.specs.declared.Turn.{Turn}
+use Rattle.frame_turns.specs.Turns.{Takes}
+use Rattle.frame_turns.specs.declared.Turn.{Turn}
 
 -- the replies to what is left of a record behind the place `at`, once the calls cs were made
 abbrev pub left : List Call → ℕ → List ℕ → List ℕ
@@ -44,21 +45,21 @@ pub record Steps (s l : List ℕ) (at : ℕ) (cs : List Call) (t : Turn) : Type 
   pub counts : length (left cs at s) ≡ length (textOf (t .reply)) + length (left calls (at + length l + 1) s)
   pub inside : at + length l ≤ length s
 
-pub steps : (s l : List ℕ) (at : ℕ) (cs : List Call) (a : Auction) (t : Turn) → at < length s → l ≡ part (lineStart s at) (lineEnd s at) s
+pub steps : (s l : List ℕ) (at : ℕ) (cs : List Call) (a : Auction) (t : Turn) → at < length s → l ≡ part s (lineStart s at) (lineEnd s at)
     → a ≡ auctionOf (ledger cs) → Takes a (orderIn l) t → Steps s l at cs t
 unfolding repliesFrom
 steps s l at cs a t h el ea w =
     let o : Order = orderIn l in
     let first : lines (drop at s) ≡ l ∷ lines (drop (at + length l + 1) s) = rw el (next-line s at h) in
     let rest : List (List ℕ) = lines (drop (at + length l + 1) s) in
-    let adds : left cs at s ≡ textOf (t .reply) ++ left (cs ++ asked o) (at + length l + 1) s =
+    let adds : left cs at s ≡ textOf (t .reply) ++ left (cs ++ askedCalls o) (at + length l + 1) s =
     ap (repliesFrom (ledger cs)) first
     ∙ ap₂ (λ (x : List ℕ) (m : Ledger). x ++ repliesFrom m rest) (sym (w .text cs ea)) (sym (after-asked cs o)) in
     record {
-      calls = cs ++ asked o;
+      calls = cs ++ askedCalls o;
       next = w .next cs ea;
       adds = adds;
-      counts = ap length adds ∙ length-append (textOf (t .reply)) (left (cs ++ asked o) (at + length l + 1) s);
+      counts = ap length adds ∙ length-append (textOf (t .reply)) (left (cs ++ askedCalls o) (at + length l + 1) s);
       inside = rw el (line-inside s at h);
     }
 

@@ -7,9 +7,9 @@ ghost use lib.ListN.{length};
 ghost use Rattle.numbers.specs.Tails.{laid};
 ghost use Rattle.replies.specs.Orders.{orderIn};
 ghost use Rattle.replies.specs.Replies.{replies};
-ghost use Rattle.turns.specs.Turns.{Takes};
+ghost use Rattle.frame_turns.specs.Turns.{Takes};
 use auction::Auction;
-use turns::Turn;
+use frame_turns::Turn;
 
 // The next auction and the reply to a line.
 fn step(auction: Auction, line: &[u8]) -> Turn

@@ -7,7 +7,7 @@ use mathlib.Core.Bool.{Bool, true, false}
 use mathlib.Core.List.{List, [], _∷_, map, flatten}
 use Rattle.numbers.specs.Lists.{total, any, all}
 use Rattle.format.specs.Hex.{isHex, valueOf, charOf, digits, numberFrom}
-use Rattle.format.specs.Fields.{known, fixed, each, count, layout, fieldsAt, textAt, kindOf, asked, wellFormed, callOf, read}
+use Rattle.format.specs.Fields.{known, fixed, each, count, layout, fieldsAt, textAt, kindOf, askedWidths, wellFormed, callOf, read}
 use Rattle.format.specs.Written.{widthsOf, lineOf}
 use Rattle.format.specs.Example.{codes}
 use Rattle.rules.specs.Ledger.{Own, Named, Call, Register}
@@ -36,7 +36,7 @@ registrationLines =
     ∷ []
 
 registrations-asked : map (λ s. orderIn (bytes s)) registrationLines ≡ map Asks registrations
-unfolding codes any all total isHex valueOf numberFrom known fixed each count layout fieldsAt kindOf asked wellFormed callOf read orderOf ordered orderIn
+unfolding codes any all total isHex valueOf numberFrom known fixed each count layout fieldsAt kindOf askedWidths wellFormed callOf read orderOf ordered orderIn
 registrations-asked = refl
 
 registrations-written : map (λ c. lineOf (rawOf (Asks c))) registrations ≡ map bytes registrationLines

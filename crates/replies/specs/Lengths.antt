@@ -3,17 +3,17 @@ use Prim.Native.Nat.{ℕ, suc, min, _+_, _*_, _≤_, _<_}
 use mathlib.Core.Path.{_≡_, refl, sym, ap, _∙_}
 use mathlib.Core.Logic.{_⊎_, inl, inr, ⊎-elim}
 use mathlib.Core.Bool.{Bool, true, false, cond}
-use mathlib.Core.List.{List, [], _∷_, _++_, map, flatten, append-assoc, List·Memᴰ, List·Memᴰ·head, List·Memᴰ·tail, List·Memᴰ·not-nil, List·Memᴰ·cases-cons}
+use mathlib.Core.List.{List, [], _∷_, _++_, map, flatten, append-assoc, List·Memᴰ·not-nil}
 use mathlib.Core.Option.{Option, none, some}
 use native.Mathlib.Omega.{arith}
 use borrow.Author.Tests.{leb-true, ne-eqb, eqb-true, eqb-false}
 use lib.Dec.{eqb, leb}
 use lib.ListN.{length, getD, length-append}
 use Rattle.numbers.specs.Lists.{total}
-use Rattle.numbers.specs.ListLaws.{Each}
+use Rattle.numbers.specs.ListLaws.{Each, each-more, flat-length}
 use Rattle.format.specs.Hex.{valueOf, digits, numberFrom}
 use Rattle.format.specs.HexLaws.{length-digits, value-lt}
-use Rattle.format.specs.Fields.{RawCall, callOf, read}
+use Rattle.format.specs.Fields.{RawCall, rawCall, callOf, read}
 use Rattle.format.specs.Fields as fields
 use Rattle.format.specs.Lines.{lines}
 use Rattle.format.specs.WidthLaws.{length-text}
@@ -68,12 +68,6 @@ bytes-length (x ∷ xs) = omega (arith, length-append (digits 2 x) (recordDigits
 
 -- ---- award records: 6 bytes each, at most 32 in 192 bytes
 
-pub flat-length : (rs : List (List ℕ)) → Each (λ r. length r ≡ 6) rs → length (flatten rs) ≡ 6 * length rs
-unfolding flatten
-flat-length [] six = refl
-flat-length (r ∷ rs) six =
-    omega (arith, length-append r (flatten rs), six r (List·Memᴰ·head refl), flat-length rs (λ x m. six x (List·Memᴰ·tail m)))
-
 pub flat-digits : (rs : List (List ℕ)) → recordDigits (flatten rs) ≡ flatten (map recordDigits rs)
 unfolding flatten
 flat-digits [] = refl
@@ -82,12 +76,7 @@ flat-digits (r ∷ rs) = bytes-append r (flatten rs) ∙ ap (λ (l : List ℕ). 
 six-from : (l : Ledger) (p k : ℕ) (vs : List ℕ) → Each (λ r. length r ≡ 6) (recordsFrom l p k vs)
 unfolding recordsFrom
 six-from l p k [] r m = absurd (List·Memᴰ·not-nil m)
-six-from l p k (v ∷ vs) r m = go (eqb v 0) (λ j. six-from l p (suc k) vs r j) m
-  where
-    go : (b : Bool) → (List·Memᴰ r (recordsFrom l p (suc k) vs) → length r ≡ 6)
-        → List·Memᴰ r (cond b (recordsFrom l p (suc k) vs) (recordOf k (winner l p k v) v ∷ recordsFrom l p (suc k) vs)) → length r ≡ 6
-    go true rest m = rest m
-    go false rest m = ⊎-elim (λ e. ap length e) rest (List·Memᴰ·cases-cons m)
+six-from l p k (v ∷ vs) r m = each-more (λ q. length q ≡ 6) (eqb v 0) (recordOf k (winner l p k v) v) _ refl (six-from l p (suc k) vs) r m
 
 pub six : (l : Ledger) → Each (λ r. length r ≡ 6) (settlement l .records)
 unfolding records settlement settlementAt
@@ -111,7 +100,7 @@ unfolding settlingText headWidths tailWidths
 settled-length l =
     let rs : List (List ℕ) = settlement l .records in
     let n : length (flatten (map recordDigits rs)) ≡ 12 * length rs =
-    omega (arith, ap length (flat-digits rs), bytes-length (flatten rs), flat-length rs (six l)) in
+    omega (arith, ap length (flat-digits rs), bytes-length (flatten rs), flat-length 6 rs (six l)) in
     simp (length-append, length-text) (omega (arith, n))
 
 -- ---- the reply to an order
@@ -179,7 +168,7 @@ others-most : (c : RawCall) → (c .kind ≡ 5 → ⊥) → (c .kind ≡ 6 → �
 unfolding most orderOf mostOf headWidths roomOf tailWidths total
 others-most c h5 h6 = simp (cond-most, ne-eqb (c .kind) 5 h5, ne-eqb (c .kind) 6 h6, cond-same)
 
-adding-most : (k : ℕ) (ns : List ℕ) → (k ≡ 5) ⊎ (k ≡ 6) → most (orderOf (record { kind = k; fields = ns })) ≡ mostOf k
+adding-most : (k : ℕ) (ns : List ℕ) → (k ≡ 5) ⊎ (k ≡ 6) → most (orderOf (rawCall k ns)) ≡ mostOf k
 unfolding most orderOf
 adding-most k ns e = ⊎-elim (λ h. rw h) (λ h. rw h) e
 

@@ -8,20 +8,15 @@ use lib.ListN.{length}
 use Rattle.format.specs.Hex.{digits}
 use Rattle.format.specs.Fields.{textAt}
 use Rattle.format.specs.Lines.{lines}
-use Rattle.rules.specs.Ledger.{Offer, Lodge, Cancel, Own, Named, Call, SetUp, Register, Open, By, Close, Ledger, start}
+use Rattle.rules.specs.Ledger.{Call, Ledger, start}
 use Rattle.rules.specs.Rounds.{step, Answered, answer}
 use Rattle.rules.specs.Settling.{Settlement, settlement, settlingNumber}
 use Rattle.replies.specs.Orders.{Order, Malformed, Asks, Settle, orderIn}
+use Rattle.replies.specs.WrittenOrders.{rawOf}
 
+-- the kind of a call's frame
 abbrev pub callKind : Call → ℕ
-callKind (SetUp s) = 1
-callKind (Register n Own x) = 2
-callKind (Register n (Named g) x) = 8
-callKind (Open c) = 3
-callKind (By n (Offer ps qs)) = 4
-callKind (By n (Lodge ps qs)) = 7
-callKind (By n Cancel) = 9
-callKind Close = 5
+callKind c = rawOf (Asks c) .kind
 
 -- a signed number in two's complement, as a number of 64 bits
 abbrev pub twosComplement : ℤ → ℕ

@@ -19,7 +19,7 @@ use Rattle.rules.specs.Settling.{recordsFrom, records, settlingNumber, settleme
 use Rattle.curve.specs.Marked.{MarkedCases}
 use Rattle.rules.specs.Sample.{sample, SampleSettled, shown-jointly}
 use Rattle.format.specs.Hex.{isHex, valueOf, charOf, digits, numberFrom}
-use Rattle.format.specs.Fields.{known, fixed, each, count, layout, fieldsAt, textAt, kindOf, asked, wellFormed, callOf, read}
+use Rattle.format.specs.Fields.{known, fixed, each, count, layout, fieldsAt, textAt, kindOf, askedWidths, wellFormed, callOf, read}
 use Rattle.format.specs.Lines.{onFirst, lines}
 use Rattle.format.specs.Written.{widthsOf, lineOf, frameOf}
 use Rattle.format.specs.Example.{codes}
@@ -67,7 +67,7 @@ sampleReply = text (
 
 sample-asks : map orderIn (lines sampleRecord) ≡ map Asks sample ++ (Settle 100 ∷ [])
 unfolding codes line text all any total
-    isHex valueOf numberFrom known fixed each count layout fieldsAt textAt kindOf asked wellFormed callOf read onFirst lines
+    isHex valueOf numberFrom known fixed each count layout fieldsAt textAt kindOf askedWidths wellFormed callOf read onFirst lines
     firsts seconds orderOf ordered orderIn
 sample-asks = refl
 
@@ -86,7 +86,7 @@ unfolding codes line text flatten oneTo keep total greatest lastOr any all least
     lodgedApplied takenOut remaining short secondPrice
     existingPlants isSmall grantsFrom grants newAward newToSmall sufficient pricePaid
     recordsFrom records settlingNumber settlementAt settlement
-    isHex valueOf charOf digits numberFrom known fixed each count layout fieldsAt textAt kindOf asked wellFormed callOf read onFirst lines
+    isHex valueOf charOf digits numberFrom known fixed each count layout fieldsAt textAt kindOf askedWidths wellFormed callOf read onFirst lines
     firsts seconds orderOf ordered orderIn closingText settlingText answerLine replyTo ledgerAfter repliesFrom replies
 sample-replied = refl
 

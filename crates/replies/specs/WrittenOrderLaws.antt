@@ -14,14 +14,14 @@ use borrow.Author.Tests.{eqb-true, eq-eqb}
 use Rattle.numbers.specs.Cases.{and-true}
 use Rattle.numbers.specs.Lists.{all}
 use Rattle.numbers.specs.ListLaws.{any-true, all-true}
-use Rattle.format.specs.Fields.{Row, rows, known, RawCall, fixed, each, kindOf, callOf, read}
+use Rattle.format.specs.Fields.{Row, tableRows, known, RawCall, rawCall, fixed, each, kindOf, callOf, read}
 use Rattle.format.specs.FieldLaws.{WellFormed, reads, Formed, formed, as-many-at, listed-fields}
 use Rattle.format.specs.Lines.{lines}
 use Rattle.format.specs.Written.{lineOf, frameOf, writable}
 use Rattle.format.specs.WrittenLaws.{reads-back, writes-back, frame-first}
 use Rattle.rules.specs.Ledger.{Ledger, start, Move, Offer, Lodge, Cancel, Own, Named, SetUp, Register, Open, By, Close}
 use Rattle.replies.specs.Orders.{Order, Malformed, Asks, Settle, firsts, seconds, orderOf, ordered, orderIn}
-use Rattle.replies.specs.WrittenOrders.{raw, paired, rawOf, listsMatch, writableOrder, frameOfOrder}
+use Rattle.replies.specs.WrittenOrders.{paired, rawOf, listsMatch, writableOrder, frameOfOrder}
 use Rattle.replies.specs.Replies.{replyTo, ledgerAfter, repliesFrom, replies}
 
 -- ---- steps, and their prices and levels
@@ -94,32 +94,32 @@ module _ (c : RawCall) (f : Formed c) (k : ℕ) (e : c .kind ≡ k) where
   ns = c .fields
 
   -- nothing: the fixed fields are all
-  plain : each k ≡ 0 → raw k (spelled 0 (length (fixed k)) ns) ≡ c
+  plain : each k ≡ 0 → rawCall k (spelled 0 (length (fixed k)) ns) ≡ c
   plain z =
       let n : length ns ≡ length (fixed k) = as-many-at c f k e ∙ rw z (omega arith) in
       let d : drop (length (fixed k)) ns ≡ [] = drop-of-length-le ns {i = length (fixed k)} (omega arith) in
-      ap₂ raw (sym e) (rw (d, append-nil) at (front (length (fixed k)) ns (omega arith)))
+      ap₂ rawCall (sym e) (rw (d, append-nil) at (front (length (fixed k)) ns (omega arith)))
 
   -- a list behind m fields and a count of it
   module _ (m : ℕ) (z : length (fixed k) ≡ suc m) where
     as-many : length ns ≡ suc m + each k * getD ns m 0
     as-many = let p : length (fixed k) - 1 ≡ m = omega arith in rw (p, z) at (listed-fields c f k e (omega arith) .0)
 
-    counted : (n : ℕ) (rest : List ℕ) → n ≡ getD ns m 0 → rest ≡ drop (suc m) ns → raw k (spelled 0 m ns ++ (n ∷ rest)) ≡ c
+    counted : (n : ℕ) (rest : List ℕ) → n ≡ getD ns m 0 → rest ≡ drop (suc m) ns → rawCall k (spelled 0 m ns ++ (n ∷ rest)) ≡ c
     counted n rest en er =
         let d : n ∷ rest ≡ drop m ns = ap₂ _∷_ en er ∙ sym (drop-cons ns m 0 (omega (arith, as-many))) in
-        ap₂ raw (sym e) (ap (λ (l : List ℕ). spelled 0 m ns ++ l) d ∙ front m ns (omega (arith, as-many)))
+        ap₂ rawCall (sym e) (ap (λ (l : List ℕ). spelled 0 m ns ++ l) d ∙ front m ns (omega (arith, as-many)))
 
     behind : length (drop (suc m) ns) ≡ each k * getD ns m 0
     behind = omega (arith, length-drop (suc m) ns, as-many)
 
     -- one field for each
-    with-list : each k ≡ 1 → raw k (spelled 0 m ns ++ (length (drop (suc m) ns) ∷ drop (suc m) ns)) ≡ c
+    with-list : each k ≡ 1 → rawCall k (spelled 0 m ns ++ (length (drop (suc m) ns) ∷ drop (suc m) ns)) ≡ c
     with-list one = counted (length (drop (suc m) ns)) (drop (suc m) ns) (behind ∙ rw one (omega arith)) refl
 
     -- a price and a level for each
     with-steps : each k ≡ 2 → let ps = firsts (drop (suc m) ns) in let qs = seconds (drop (suc m) ns) in
-        (raw k (spelled 0 m ns ++ (length ps ∷ paired ps qs)) ≡ c) × (eqb (length ps) (length qs) ≡ true)
+        (rawCall k (spelled 0 m ns ++ (length ps ∷ paired ps qs)) ≡ c) × (eqb (length ps) (length qs) ≡ true)
     with-steps two =
         let r = paired-back (drop (suc m) ns) (getD ns m 0) (behind ∙ rw two) in
         (counted _ _ (r .prices) (r .same), eq-eqb _ _ (r .prices ∙ sym (r .levels)))
@@ -185,16 +185,16 @@ cond-asks : (b : Bool) (x y : Order) → asks (cond b x y) ≡ cond b (asks x) (
 cond-asks true x y = refl
 cond-asks false x y = refl
 
-kind-asks : (k : ℕ) (ns ms : List ℕ) → asks (orderOf (raw k ns)) ≡ asks (orderOf (raw k ms))
+kind-asks : (k : ℕ) (ns ms : List ℕ) → asks (orderOf (rawCall k ns)) ≡ asks (orderOf (rawCall k ms))
 unfolding asks orderOf
 kind-asks k ns ms = simp cond-asks
 
-known-asks : (k : ℕ) (ns : List ℕ) → known k ≡ true → asks (orderOf (raw k ns)) ≡ true
+known-asks : (k : ℕ) (ns : List ℕ) → known k ≡ true → asks (orderOf (rawCall k ns)) ≡ true
 unfolding known all asks orderOf
 known-asks k ns e =
-    let r = any-true (λ (q : Row). eqb (q .kind) k) rows .0 e in
-    let t = all-true (λ (q : Row). asks (orderOf (raw (q .kind) []))) rows refl (r .0) (r .1) in
-    kind-asks k ns [] ∙ ap (λ (j : ℕ). asks (orderOf (raw j []))) (sym (eqb-true (r .0 .kind) k (r .2))) ∙ t
+    let r = any-true (λ (q : Row). eqb (q .kind) k) tableRows .0 e in
+    let t = all-true (λ (q : Row). asks (orderOf (rawCall (q .kind) []))) tableRows refl (r .0) (r .1) in
+    kind-asks k ns [] ∙ ap (λ (j : ℕ). asks (orderOf (rawCall j []))) (sym (eqb-true (r .0 .kind) k (r .2))) ∙ t
 
 pub well-formed-asks : (l : List ℕ) → WellFormed l → orderIn l ≡ Malformed → ⊥
 unfolding orderIn ordered callOf asks

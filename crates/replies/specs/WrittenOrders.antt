@@ -4,13 +4,10 @@ use mathlib.Core.Bool.{Bool, true, _&&_}
 use mathlib.Core.List.{List, [], _∷_}
 use lib.Dec.{eqb}
 use lib.ListN.{length}
-use Rattle.format.specs.Fields.{RawCall}
+use Rattle.format.specs.Fields.{RawCall, rawCall}
 use Rattle.format.specs.Written.{frameOf, writable}
 use Rattle.rules.specs.Ledger.{Offer, Lodge, Cancel, Own, Named, SetUp, Register, Open, By, Close}
 use Rattle.replies.specs.Orders.{Order, Malformed, Asks, Settle}
-
-abbrev pub raw : ℕ → List ℕ → RawCall
-raw k ns = record { kind = k; fields = ns }
 
 -- steps of price and level, as many as both lists have
 unfoldable pub paired : List ℕ → List ℕ → List ℕ
@@ -19,17 +16,17 @@ paired (p ∷ ps) [] = []
 paired (p ∷ ps) (q ∷ qs) = p ∷ q ∷ paired ps qs
 
 -- an order's kind and fields, in the table's order; nothing that can be read has kind 0, which the table lacks
-unfoldable pub rawOf : Order → RawCall
-rawOf Malformed = raw 0 []
-rawOf (Asks (SetUp s)) = raw 1 (s .ce ∷ s .d ∷ s .m1 ∷ s .m2 ∷ s .a ∷ [])
-rawOf (Asks (Register n Own x)) = raw 2 (x .project ∷ n ∷ x .kind ∷ x .study ∷ x .day ∷ length (x .levels) ∷ x .levels)
-rawOf (Asks (Register n (Named g) x)) = raw 8 (x .project ∷ n ∷ x .kind ∷ g ∷ x .study ∷ x .day ∷ length (x .levels) ∷ x .levels)
-rawOf (Asks (Open c)) = raw 3 (c ∷ [])
-rawOf (Asks (By n (Offer ps qs))) = raw 4 (n ∷ length ps ∷ paired ps qs)
-rawOf (Asks (By n (Lodge ps qs))) = raw 7 (n ∷ length ps ∷ paired ps qs)
-rawOf (Asks (By n Cancel)) = raw 9 (n ∷ [])
-rawOf (Asks Close) = raw 5 []
-rawOf (Settle limit) = raw 6 (limit ∷ [])
+abbrev pub rawOf : Order → RawCall
+rawOf Malformed = rawCall 0 []
+rawOf (Asks (SetUp s)) = rawCall 1 (s .ce ∷ s .d ∷ s .m1 ∷ s .m2 ∷ s .a ∷ [])
+rawOf (Asks (Register n Own x)) = rawCall 2 (x .project ∷ n ∷ x .kind ∷ x .study ∷ x .day ∷ length (x .levels) ∷ x .levels)
+rawOf (Asks (Register n (Named g) x)) = rawCall 8 (x .project ∷ n ∷ x .kind ∷ g ∷ x .study ∷ x .day ∷ length (x .levels) ∷ x .levels)
+rawOf (Asks (Open c)) = rawCall 3 (c ∷ [])
+rawOf (Asks (By n (Offer ps qs))) = rawCall 4 (n ∷ length ps ∷ paired ps qs)
+rawOf (Asks (By n (Lodge ps qs))) = rawCall 7 (n ∷ length ps ∷ paired ps qs)
+rawOf (Asks (By n Cancel)) = rawCall 9 (n ∷ [])
+rawOf (Asks Close) = rawCall 5 []
+rawOf (Settle limit) = rawCall 6 (limit ∷ [])
 
 -- price and level lists are equally long
 unfoldable pub listsMatch : Order → Bool

@@ -7,9 +7,9 @@ use native.Mathlib.Omega.{arith}
 use borrow.Author.Tests.{le-leb, lt-leb}
 use lib.Dec.{leb}
 use lib.ListN.{length, drop, getD, List·getD-eq-default}
-use Rattle.numbers.specs.Lists.{total}
+use Rattle.numbers.specs.Lists.{part, total}
 use Rattle.format.specs.Hex.{valueOf}
-use Rattle.format.specs.Lines.{part, lineStart, lineEnd}
+use Rattle.format.specs.Lines.{lineStart, lineEnd}
 use Rattle.format.specs.LineLaws.{line-inside, next-line, no-line}
 use Rattle.replies.specs.Lengths.{mostOf, mostTo, mostIn}
 
@@ -32,7 +32,7 @@ pub bounded-end : (s : List ℕ) (limit at used : ℕ) → Bounded s limit at us
 unfolding mostIn total
 bounded-end s limit at used z h = sym (le-leb (mostIn s) limit (omega (arith, z .within, z .all, ap (λ ls. total (map mostTo ls)) (no-line s at h))))
 
-module _ (s l : List ℕ) (limit at used n : ℕ) (z : Bounded s limit at used) (h : at < length s) (el : l ≡ part (lineStart s at) (lineEnd s at) s)
+module _ (s l : List ℕ) (limit at used n : ℕ) (z : Bounded s limit at used) (h : at < length s) (el : l ≡ part s (lineStart s at) (lineEnd s at))
     (e : n ≡ mostTo l) where
   -- the line's bound, then those of the lines behind its 0A
   adds : mostIn (drop at s) ≡ n + mostIn (drop (at + length l + 1) s)

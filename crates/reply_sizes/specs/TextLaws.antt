@@ -9,7 +9,7 @@ use lib.Dec.{eqb}
 use lib.ListN.{length, take, length-append, length-take}
 use lib.Seq.{take-at}
 use Rattle.numbers.specs.Lists.{total, padded}
-use Rattle.numbers.specs.ListLaws.{Each}
+use Rattle.numbers.specs.ListLaws.{Each, flat-length}
 use Rattle.numbers.specs.Tails.{laid}
 use Rattle.format.specs.Fields.{textAt}
 use Rattle.format.specs.HexLaws.{length-digits}
@@ -18,7 +18,7 @@ use Rattle.rules.specs.Rounds.{Answered}
 use Rattle.rules.specs.Settling.{Settlement}
 use Rattle.replies.specs.Replies.{Field, widthsOf, valuesOf, fieldsText, closingFields, settlingHead, settlingTail, recordDigits}
 use Rattle.replies.specs.Replies.{closingText, settlingText, answerLine, awardRoom}
-use Rattle.replies.specs.Lengths.{headWidths, roomOf, tailWidths, bare, mostOf, bytes-length, flat-length, flat-digits}
+use Rattle.replies.specs.Lengths.{headWidths, roomOf, tailWidths, bare, mostOf, bytes-length, flat-digits}
 use Rattle.reply_sizes.specs.declared.Form.{Form}
 use Rattle.reply_sizes.specs.declared.Reply.{Reply}
 use Rattle.reply_sizes.specs.Texts.{FormOf, Valued, shown, sizeOf, addedText, shownText, textOf}
@@ -128,7 +128,7 @@ module _ (r : Reply) where
       let m : shown 6 (r .filled) ≡ n = omega arith in
       let h : textAt (widthsOf settlingHead) (r .values .head) ≡ fieldsText settlingHead s = fields-held settlingHead s (r .values .head) (v .head) in
       let t : textAt (widthsOf settlingTail) (r .values .tail) ≡ fieldsText settlingTail s = fields-held settlingTail s (r .values .tail) (v .tail) in
-      let a : take n (r .awards) ≡ flatten (s .records) = ap (take n) ea ∙ take-at (flatten (s .records)) _ n (flat-length (s .records) six) in
+      let a : take n (r .awards) ≡ flatten (s .records) = ap (take n) ea ∙ take-at (flatten (s .records)) _ n (flat-length 6 (s .records) six) in
       added-at 6 k ∙ rw (m, h, t, a, flat-digits (s .records))
 
 -- ---- the line of a reply

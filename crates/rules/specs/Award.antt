@@ -1,9 +1,9 @@
 -- Open levels, admissible choices, the award and its developers (document 01, Closing price and award).
 use Prim.Native.Nat.{ℕ}
-use mathlib.Core.Bool.{Bool, true, false, cond, _&&_, _||_}
+use mathlib.Core.Bool.{Bool, cond, _&&_, _||_}
 use mathlib.Core.List.{List, [], _∷_, map}
 use lib.Dec.{leb, ltb, eqb}
-use Rattle.numbers.specs.Lists.{oneTo, keep, any}
+use Rattle.numbers.specs.Lists.{oneTo, keep, isEmpty, any}
 use Rattle.rules.specs.Ledger.{declaredOrZero, Developer, Ledger}
 use Rattle.rules.specs.Clearing.{high, low, developersOf, greatestOf, demandAt}
 use Rattle.choices.specs.Choices.{choices, covering, bestOf}
@@ -38,10 +38,6 @@ declaredBy l (n ∷ ns) = insertAll (l .developers n .declared .levels) (declare
 -- the levels open to project k, rising
 unfoldable pub openLevels : Ledger → ℕ → ℕ → List ℕ
 openLevels l p k = keep (openTo l p k) (declaredBy l (developersOf l k))
-
-abbrev pub isEmpty : List ℕ → Bool
-isEmpty [] = true
-isEmpty (x ∷ xs) = false
 
 -- what a choice may give to number k: a level open to it; a number without a developer stands in every choice as 0
 unfoldable pub row : Ledger → ℕ → ℕ → List ℕ

@@ -139,11 +139,15 @@ withDevelopers l f = record { phase = l .phase; settings = l .settings; opening 
 abbrev pub withDeveloper : Ledger → ℕ → Developer → Ledger
 withDeveloper l n x = withDevelopers l (put n x (l .developers))
 
+-- a developer's course: its quantity, withdrawals, offer and lodged steps; what its registration declared stays
+abbrev pub withCourse : Developer → ℕ → List Step → Standing → List Step → Developer
+withCourse x q ws o ls = record { declared = x .declared; agent = x .agent; quantity = q; withdrawals = ws; offer = o; lodged = ls }
+
 abbrev pub withOffer : Developer → Standing → Developer
-withOffer x o = record { declared = x .declared; agent = x .agent; quantity = x .quantity; withdrawals = x .withdrawals; offer = o; lodged = x .lodged }
+withOffer x o = withCourse x (x .quantity) (x .withdrawals) o (x .lodged)
 
 abbrev pub withLodged : Developer → List Step → Developer
-withLodged x ss = record { declared = x .declared; agent = x .agent; quantity = x .quantity; withdrawals = x .withdrawals; offer = x .offer; lodged = ss }
+withLodged x ss = withCourse x (x .quantity) (x .withdrawals) (x .offer) ss
 
 -- a developer of agent g at its registration
 abbrev pub newcomer : ℕ → Declaration → Developer

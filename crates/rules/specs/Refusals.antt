@@ -51,6 +51,14 @@ isClosed Round = false
 isClosed Between = false
 isClosed Closed = true
 
+-- accepts the question who can force the price (document 02, 11): between rounds, after at least one closed round
+abbrev pub isBetween : Phase → Bool
+isBetween Fresh = false
+isBetween Ready = false
+isBetween Round = false
+isBetween Between = true
+isBetween Closed = false
+
 -- ---- set-up (document 01, Demand)
 
 -- the settings within their bounds, and CE/2 < A <= 2 CE

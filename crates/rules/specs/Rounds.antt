@@ -6,7 +6,7 @@ use mathlib.Core.List.{List, [], _∷_, _++_}
 use lib.Dec.{leb, ltb, eqb}
 use lib.IntN.{ℤ, pos, negsuc, _-ℤ_}
 use Rattle.numbers.specs.Lists.{keep}
-use Rattle.rules.specs.Ledger.{Step, Move, Offer, Lodge, Cancel, agentFor, Call, SetUp, Register, Open, By, Close, Standing, none, made, Developer, Phase, Ready, Round, Between, Closed, Ledger, start, withPhase, withSettings, withPrices, withDevelopers, withDeveloper, withOffer, withLodged, newcomer}
+use Rattle.rules.specs.Ledger.{Step, Move, Offer, Lodge, Cancel, agentFor, Call, SetUp, Register, Open, By, Close, Standing, none, made, Developer, Phase, Ready, Round, Between, Closed, Ledger, start, withPhase, withSettings, withPrices, withDevelopers, withDeveloper, withCourse, withOffer, withLodged, newcomer}
 use Rattle.rules.specs.Clearing.{supply, demandAt, remainderAt}
 use Rattle.rules.specs.Refusals.{floor, openingPrice, number}
 
@@ -46,14 +46,8 @@ lastLevel q (s ∷ ss) = lastLevel (s .level) ss
 
 -- a developer after the closing: with these withdrawals added, and the last level added, if any, as its quantity
 unfoldable pub applied : ℕ → ℕ → Developer → Developer
-applied c o x = record {
-  declared = x .declared;
-  agent = x .agent;
-  quantity = lastLevel (x .quantity) (added c o x (x .offer));
-  withdrawals = x .withdrawals ++ added c o x (x .offer);
-  offer = none;
-  lodged = unreached c o (x .lodged);
-}
+applied c o x =
+    withCourse x (lastLevel (x .quantity) (added c o x (x .offer))) (x .withdrawals ++ added c o x (x .offer)) none (unreached c o (x .lodged))
 
 -- supply after the withdrawals at C: the sum over the projects of the greatest quantity among each one's developers
 unfoldable pub supplyAfter : Ledger → ℕ

@@ -1,19 +1,14 @@
 -- The closing price for new plants (document 02, 5), beside that for existing ones, which is the closing price of document 01.
 use Prim.Native.Nat.{ℕ}
-use mathlib.Core.Bool.{Bool, true, false, cond, not, _&&_}
-use mathlib.Core.List.{List, [], _∷_}
+use mathlib.Core.Bool.{Bool, cond, not, _&&_}
 use lib.Dec.{eqb}
-use Rattle.numbers.specs.Lists.{any}
-use Rattle.rules.specs.Ledger.{Step, Developer, Ledger, nobody, withDevelopers}
+use Rattle.numbers.specs.Lists.{isEmpty, any}
+use Rattle.rules.specs.Ledger.{Developer, Ledger, nobody, withDevelopers}
 use Rattle.rules.specs.Clearing.{developersOf, covered, closingPrice}
-
-abbrev pub noSteps : List Step → Bool
-noSteps [] = true
-noSteps (s ∷ ss) = false
 
 -- an existing plant makes no offers: its withdrawals are the lodged steps that closings applied
 unfoldable pub lodgedApplied : Developer → Bool
-lodgedApplied x = eqb (x .declared .kind) 1 && not (noSteps (x .withdrawals))
+lodgedApplied x = eqb (x .declared .kind) 1 && not (isEmpty (x .withdrawals))
 
 -- project k has an applied lodged step
 unfoldable pub takenOut : Ledger → ℕ → Bool

@@ -15,15 +15,16 @@ use Rattle.sealed.specs.InWords.{ofKind}
 
 -- ---- the bounds of an offer, and of each offer of a book
 
-pub record InBounds (o : Offer) : Type 0 where
+pub record OfferInBounds (o : Offer) : Type 0 where
   pub priced : 1 ≤ o .price
   pub cheap : o .price ≤ topPrice
   pub some : 1 ≤ o .minimum
   pub within : o .minimum ≤ o .quantity
+  pub aged : o .age ≤ 20
 
-pub in-bounds : (o : Offer) → offerOk o ≡ true → InBounds o
+offer-in-bounds : (o : Offer) → offerOk o ≡ true → OfferInBounds o
 unfolding offerOk
-in-bounds o e =
+offer-in-bounds o e =
     let t5 = and-true _ _ e in
     let t4 = and-true _ _ (t5 .0) in
     let t3 = and-true _ _ (t4 .0) in
@@ -35,6 +36,7 @@ in-bounds o e =
       cheap = leb-true (o .price) topPrice (p .1);
       some = leb-true 1 (o .minimum) (t3 .1);
       within = leb-true (o .minimum) (o .quantity) (t4 .1);
+      aged = leb-true (o .age) 20 (t5 .1);
     }
 
 module _ (b : Book) (ok : bookOk b ≡ true) where
@@ -42,15 +44,15 @@ module _ (b : Book) (ok : bookOk b ≡ true) where
   unfolding bookOk
   offers-ok = and-true (longOk b) (all offerOk (offers b)) ok .1
 
-  pub bounds-at : (k : ℕ) → k < size b → InBounds (offerAt b k)
+  pub bounds-at : (k : ℕ) → k < size b → OfferInBounds (offerAt b k)
   bounds-at k h =
-      in-bounds
+      offer-in-bounds
       (offerAt b k)
       (all-true offerOk (offers b) offers-ok (offerAt b k) (map-intro (offerAt b) (places b) (numbers-in k 0 (size b) (omega arith) (omega arith))))
 
 -- ---- precedence in words
 
-module _ (x y : Offer) (bx : InBounds x) (by : InBounds y) where
+module _ (x y : Offer) (bx : OfferInBounds x) (by : OfferInBounds y) where
   pub ranks-higher : precedence y < precedence x → (y .age < x .age) ⊎ ((x .age ≡ y .age) × (x .price < y .price))
   unfolding precedence
   ranks-higher h = ⊎-elim
@@ -83,6 +85,6 @@ kind-ranks g x y d e = let a = kind g x d in let c = kind g y e in ap₂ (λ (m 
 pub kinds-apart : (g : ℕ × ℕ) (x y : Offer) → offerOk x ≡ true → offerOk y ≡ true → ofKind g x ≡ true → ofKind g y ≡ false →
     precedence x ≡ precedence y → ⊥
 kinds-apart g x y ox oy d e p =
-    let r = ranks-equal x y (in-bounds x ox) (in-bounds y oy) p in
+    let r = ranks-equal x y (offer-in-bounds x ox) (offer-in-bounds y oy) p in
     let a = kind g x d in
     clash (of-kind g y (sym (r .0) ∙ a .0) (sym (r .1) ∙ a .1)) e

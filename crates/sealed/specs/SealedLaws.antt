@@ -12,7 +12,7 @@ use Rattle.choices.specs.Falling.{map-falling, total-any}
 use Rattle.choices.specs.Pairwise.{Pairwise}
 use Rattle.exchanges.specs.Exchanges.{SameOfEach}
 use Rattle.exchanges.specs.ExchangeLaws.{exchanged}
-use Rattle.sealed.specs.Sealed.{Offer, Book, size, offerAt, places, offers, offerOk, bookOk, precedence, turns, awarded, leftAtTurn, awardAt, awards, leftOver}
+use Rattle.sealed.specs.Sealed.{Offer, Book, size, offerAt, places, offers, offerOk, bookOk, precedence, turns, leftAtTurn, awardAt, awards, leftOver}
 use Rattle.sealed.specs.InWords.{TakenBefore, InOrder, InWords, ofKind, awardedOffers, AnyListOrder}
 use Rattle.sealed.specs.Precedence.{offers-ok, bounds-at, ranks-higher, ranks-equal, of-kind, kind-once, kind-ranks, kinds-apart}
 use Rattle.sealed.specs.Sorting.{Ahead, keep-falling, falling-exchanged}

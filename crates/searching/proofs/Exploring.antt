@@ -6,14 +6,14 @@ use mathlib.Core.List.{List, [], _∷_, map, List·Memᴰ·head, List·Memᴰ·t
 use native.Mathlib.Omega.{arith}
 use lib.ListN.{drop, getD}
 use Rattle.numbers.specs.Cases.{le-or-lt}
-use Rattle.numbers.specs.Lists.{total}
+use Rattle.numbers.specs.Lists.{part, total}
 use Rattle.numbers.specs.ListLaws.{Each}
 use Rattle.choices.specs.Search.{lowest, highest}
 use Rattle.choices.specs.Kept.{Levels}
 use Rattle.choices.specs.CoveringCount.{covering-few}
 use Rattle.choices.specs.Numbered.{count}
 use Rattle.choices.specs.Through.{Strided, rowOf, eachLevel, through}
-use Rattle.table.specs.Places.{part, RowLaid, startOf, rowIn}
+use Rattle.table.specs.Places.{RowLaid, startOf, rowIn}
 use Rattle.table.specs.PlaceLaws.{part-cons, row-ends, row-laid}
 use Rattle.tally.specs.declared.Found.{Found}
 use Rattle.rows_behind.specs.Behind.{rowsBehind}

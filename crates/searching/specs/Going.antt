@@ -4,9 +4,10 @@ use mathlib.Core.Bool.{cond}
 use mathlib.Core.List.{List, _∷_, map}
 use lib.Dec.{leb}
 use lib.ListN.{drop, getD}
+use Rattle.numbers.specs.Lists.{part}
 use Rattle.choices.specs.Numbered.{count}
 use Rattle.choices.specs.Through.{Strided}
-use Rattle.table.specs.Places.{part, RowLaid, LaidOut, rowIn}
+use Rattle.table.specs.Places.{RowLaid, LaidOut, rowIn}
 use Rattle.rows_behind.specs.Behind.{Orders, rowsBehind, Behind}
 use Rattle.tally.specs.Tally.{more}
 use Rattle.tally.specs.declared.Found.{Found}

@@ -3,17 +3,18 @@
 use Prim.Native.Nat.{ℕ}
 use mathlib.Core.Path.{_≡_, refl, ap, _∙_}
 use mathlib.Core.Logic.{_⊎_, inl, inr, ⊎-elim}
-use mathlib.Core.Bool.{Bool, true, false, cond, _&&_, and-true, and-false, false≢true}
+use mathlib.Core.Bool.{Bool, true, false, cond, _&&_, and-true, and-false}
 use mathlib.Core.List.{[], _∷_}
 use lib.Dec.{eqb}
 use lib.IntN.{ℤ, pos, negsuc}
 use borrow.Author.Tests.{eqb-true, eq-eqb}
 use Rattle.rules.specs.Ledger.{Call, SetUp, Register, Open, By, Close, Phase, Fresh, Ready, Round, Between, Closed, Ledger}
-use Rattle.rules.specs.Refusals.{isFresh, number}
+use Rattle.rules.specs.Refusals.{number}
 use Rattle.rules.specs.Rounds.{phaseAfter, accepted, step, numberAlone, granted, answer}
 use Rattle.rules.specs.RoundLaws.{by-phase-after}
 use Rattle.reachable.specs.Checks.{set-up-passed, open-passed, close-passed}
-use Rattle.reachable.specs.Held.{in-round, by-may-open}
+use Rattle.reachable.specs.Held.{is-fresh, in-round, by-may-open}
+use Rattle.reachable.specs.Steps.{granted-number}
 use Rattle.seats.specs.Seats.{HallLedger, Seated, hasRight, hallAnswer, latestExcess, hallStep, Published, published}
 use Rattle.seats.specs.Views.{sameExcess, samePhase, sameValues, Changed, changes, movesClock, ClockAlone}
 
@@ -36,14 +37,6 @@ pub record Accepted (h : HallLedger) (m : Seated) : Type 0 where
   pub passes : number (h .ledger) (m .call) ≡ 0
   pub next : hallStep h m ≡ taken h (m .call)
 
-granted-zero : (l : Ledger) (c : Call) → granted l c .number ≡ 0
-unfolding granted
-granted-zero l (SetUp s) = refl
-granted-zero l (Register n w x) = refl
-granted-zero l (Open p) = refl
-granted-zero l (By n m) = refl
-granted-zero l Close = refl
-
 refused-excess : (c : Call) (k : ℕ) (e : ℤ) → eqb k 0 ≡ false → latestExcess c (numberAlone k) e ≡ e
 unfolding latestExcess
 refused-excess (SetUp s) k e z = refl
@@ -65,7 +58,7 @@ module _ (h : HallLedger) (m : Seated) where
     where
       go : (r : Bool) → hasRight m ≡ r → (t : Bool) → eqb (number l c) 0 ≡ t → Refused h m ⊎ Accepted h m
       go true e true z = inr (record {
-        is-accepted = rw (e, z) (eq-eqb (granted l c .number) 0 (granted-zero l c));
+        is-accepted = rw (e, z) (eq-eqb (granted l c .number) 0 (granted-number l c));
         right = e;
         passes = eqb-true (number l c) 0 z;
         next = rw (e, z) refl;
@@ -98,13 +91,6 @@ no-change p = rw (eq-eqb (p .opening) (p .opening) refl, eq-eqb (p .closing) (p 
 phase-change : (p q : Published) → samePhase (p .phase) (q .phase) ≡ false → changes p q ≡ Changed q ∷ []
 unfolding changes sameValues
 phase-change p q e = rw (e, and-false (eqb (p .opening) (q .opening) && eqb (p .closing) (q .closing) && sameExcess (p .excess) (q .excess))) refl
-
-pub is-fresh : (p : Phase) → isFresh p ≡ true → p ≡ Fresh
-is-fresh Fresh e = refl
-is-fresh Ready e = absurd (false≢true e)
-is-fresh Round e = absurd (false≢true e)
-is-fresh Between e = absurd (false≢true e)
-is-fresh Closed e = absurd (false≢true e)
 
 changes-accepted :
     (h : HallLedger) (c : Call) → number (h .ledger) c ≡ 0 →

@@ -13,7 +13,7 @@ use Rattle.rules.specs.Refusals.{settingsOk, numbersOk, rising, levelsOk, mayJo
 use Rattle.rules.specs.Rounds.{steps, withdrawsAll, reaches, reached, unreached, added, lastLevel, applied, supplyAfter, thousandths, clears, phaseAfter, moved, accepted, step, excess, granted, answer}
 use Rattle.cancelling.specs.TakenBack.{own}
 use Rattle.seats.specs.Seats.{Seat, Auctioneer, Auditor, At, isOfferOrCancellation, mayMake, freshHall, Seated, hallAnswer, latestExcess, hallStep, hallFrom, hallLedger, hallAnswersFrom, hallAnswers, reading}
-use Rattle.seats.specs.Views.{sameExcess, samePhase, sameValues, ownSeat, isFor, asked, madeFor, changes, shown, viewFrom, view}
+use Rattle.seats.specs.Views.{sameExcess, samePhase, sameValues, ownSeat, isFor, askedBy, madeFor, changes, shown, viewFrom, view}
 
 abbrev through : Seat → Call → Seated
 through s c = record { seat = s; call = c }
@@ -64,5 +64,5 @@ unfolding oneTo keep total greatest lastOr any all dem exactTimesCe remainder in
     settingsOk numbersOk rising levelsOk mayJoin declarationOk openingPrice closingOk startCovered isOfKind falling pricesOk lowering moveNumber number
     steps withdrawsAll reaches reached unreached added lastLevel applied supplyAfter thousandths clears phaseAfter moved accepted step excess granted answer
     own isOfferOrCancellation mayMake hallAnswer latestExcess hallStep hallFrom hallLedger hallAnswersFrom hallAnswers reading
-    sameExcess samePhase sameValues ownSeat isFor asked madeFor changes shown viewFrom view
+    sameExcess samePhase sameValues ownSeat isFor askedBy madeFor changes shown viewFrom view
 session = (refl, refl, refl, refl, refl, refl)

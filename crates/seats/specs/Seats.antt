@@ -4,7 +4,7 @@ use mathlib.Core.Bool.{Bool, true, false, cond, not, _&&_}
 use mathlib.Core.List.{List, [], _∷_}
 use lib.Dec.{eqb}
 use lib.IntN.{ℤ, pos}
-use Rattle.rules.specs.Ledger.{Offer, Lodge, Cancel, Call, SetUp, Register, Open, By, Close, Standing, none, Phase, Ledger, start}
+use Rattle.rules.specs.Ledger.{Move, Offer, Lodge, Cancel, Call, SetUp, Register, Open, By, Close, Standing, none, Phase, Ledger, start}
 use Rattle.rules.specs.Rounds.{step, Answered, numberAlone, answer}
 use Rattle.cancelling.specs.TakenBack.{own}
 
@@ -16,13 +16,17 @@ pub data Seat : Type 0 where
 
 -- ---- rights
 
+-- a move that a developer makes through its own seat: an offer, a cancellation
+abbrev pub forItself : Move → Bool
+forItself (Offer ps qs) = true
+forItself (Lodge ps qs) = false
+forItself Cancel = true
+
 unfoldable pub isOfferOrCancellation : Call → Bool
 isOfferOrCancellation (SetUp s) = false
 isOfferOrCancellation (Register n w x) = false
 isOfferOrCancellation (Open c) = false
-isOfferOrCancellation (By n (Offer ps qs)) = true
-isOfferOrCancellation (By n (Lodge ps qs)) = false
-isOfferOrCancellation (By n Cancel) = true
+isOfferOrCancellation (By n m) = forItself m
 isOfferOrCancellation Close = false
 
 -- the auctioneer makes every call except offers and cancellations; a developer offers or cancels for itself

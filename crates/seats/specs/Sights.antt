@@ -2,7 +2,7 @@
 -- accepted call makes of the sight what the event that it shows does.
 use Prim.Native.Nat.{ℕ}
 use mathlib.Core.Path.{_≡_, refl, sym, ap, subst, _∙_}
-use mathlib.Core.Bool.{Bool, true, false, cond, false≢true, true≢false}
+use mathlib.Core.Bool.{Bool, true, false, cond, not, _&&_, false≢true, true≢false}
 use mathlib.Core.List.{List, [], _∷_}
 use lib.Dec.{eqb}
 use borrow.Author.Tests.{eqb-true}
@@ -10,13 +10,13 @@ use Rattle.rules.specs.Ledger.{Move, Offer, Lodge, Cancel, Call, SetUp, Registe
 use Rattle.rules.specs.Refusals.{inRound, moveNumber, number}
 use Rattle.rules.specs.Rounds.{applied, accepted, step, Answered, numberAlone, granted, answer}
 use Rattle.reachable.specs.Checks.{set-up-passed, open-passed, close-passed}
-use Rattle.reachable.specs.Held.{by-may-open}
+use Rattle.reachable.specs.Held.{is-fresh, by-may-open}
 use Rattle.cancelling.specs.TakenBack.{own}
 use Rattle.cancelling.specs.Entries.{apart, put-beside}
-use Rattle.seats.specs.Seats.{Seat, Auctioneer, Auditor, At, isOfferOrCancellation, mayMake, HallLedger, Seated, hallAnswer, latestExcess, hallStep, Published, published, Reading, reading}
-use Rattle.seats.specs.SeatLaws.{offering}
+use Rattle.seats.specs.Seats.{Seat, Auctioneer, Auditor, At, forItself, isOfferOrCancellation, mayMake, HallLedger, Seated, hallAnswer, latestExcess, hallStep, Published, published, Reading, reading}
+use Rattle.numbers.specs.Cases.{and-true as both-true}
 use Rattle.seats.specs.Views.{Event, Asked, ForIt, Changed, ownSeat, isFor, Point, movesClock}
-use Rattle.seats.specs.Changes.{taken, is-fresh}
+use Rattle.seats.specs.Changes.{taken}
 
 pub record Sight : Type 0 where
   pub values : Published
@@ -119,13 +119,16 @@ module _ (n : ℕ) (h : HallLedger) where
       of-own : (k : ℕ) (m : Move) → number (h .ledger) (By n m) ≡ number (seen .ledger) (By n m) → eqb k n ≡ true → BySight n h (By k m)
       of-own k m e g = subst (λ (j : ℕ). BySight n h (By j m)) (sym (eqb-true k n g)) (move-by-sight m e)
 
+      by-move : (m : Move) → forItself m ≡ true → number (h .ledger) (By n m) ≡ number (seen .ledger) (By n m)
+      by-move (Offer ps qs) e = refl
+      by-move (Lodge ps qs) e = absurd (false≢true e)
+      by-move Cancel e = refl
+
       permitted : (d : Call) → mayMake (At n) d ≡ true → BySight n h d
       permitted (SetUp s) e = absurd (false≢true e)
       permitted (Register k w x) e = absurd (false≢true e)
       permitted (Open p) e = absurd (false≢true e)
-      permitted (By k (Offer ps qs)) e = of-own k (Offer ps qs) refl e
-      permitted (By k (Lodge ps qs)) e = absurd (false≢true e)
-      permitted (By k Cancel) e = of-own k Cancel refl e
+      permitted (By k m) e = let t = both-true (forItself m) (eqb k n) e in of-own k m (by-move m (t .0)) (t .1)
       permitted Close e = absurd (false≢true e)
 
       go : (b : Bool) → mayMake (At n) c ≡ b → BySight n h c
@@ -151,20 +154,18 @@ module _ (n : ℕ) (h : HallLedger) where
   by-call-for (SetUp s) e = absurd (false≢true e)
   by-call-for (Register k w x) e = refl
   by-call-for (Open p) e = absurd (false≢true e)
-  by-call-for (By k (Offer ps qs)) e = absurd (false≢true e)
-  by-call-for (By k (Lodge ps qs)) e = rw (eqb-true k n e) refl
-  by-call-for (By k Cancel) e = absurd (false≢true e)
+  by-call-for (By k m) e = rw (eqb-true k n (both-true (not (forItself m)) (eqb k n) e .1)) refl
   by-call-for Close e = absurd (false≢true e)
 
   beside : (k : ℕ) (x : Developer) → eqb k n ≡ false → sight n (record { ledger = withDeveloper l k x; excess = h .excess }) ≡ sight n h
   beside k x e = ap (λ (y : Developer). record { values = published h; entry = y }) (put-beside k n x (l .developers) (apart k n e))
 
   -- who cancels, as who offers, does it for itself
-  for-another : (s : Seat) (k : ℕ) → mayMake s (By k Cancel) ≡ true → ownSeat n s ≡ false → eqb k n ≡ false
+  for-another : (s : Seat) (k : ℕ) (m : Move) → forItself m ≡ true → mayMake s (By k m) ≡ true → ownSeat n s ≡ false → eqb k n ≡ false
   unfolding mayMake isOfferOrCancellation own ownSeat
-  for-another Auctioneer k r o = absurd (false≢true r)
-  for-another Auditor k r o = absurd (false≢true r)
-  for-another (At j) k r o = ap (λ (i : ℕ). eqb i n) (eqb-true k j r) ∙ o
+  for-another Auctioneer k m t r o = absurd (false≢true (sym (ap not t) ∙ r))
+  for-another Auditor k m t r o = absurd (false≢true r)
+  for-another (At j) k m t r o = ap (λ (i : ℕ). eqb i n) (eqb-true k j (both-true (forItself m) (eqb k j) r .1)) ∙ o
 
   pub by-others :
       (s : Seat) (c : Call) → mayMake s c ≡ true → ownSeat n s ≡ false → isFor n c ≡ false → movesClock c ≡ false →
@@ -173,7 +174,9 @@ module _ (n : ℕ) (h : HallLedger) where
   by-others s (SetUp x) r o f e = absurd (true≢false e)
   by-others s (Register k w x) r o f e = beside k _ f
   by-others s (Open p) r o f e = absurd (true≢false e)
-  by-others s (By k (Offer ps qs)) r o f e = beside k _ (for-another s k (sym (offering s k ps qs) ∙ r) o)
-  by-others s (By k (Lodge ps qs)) r o f e = beside k _ f
-  by-others s (By k Cancel) r o f e = beside k _ (for-another s k r o)
+  by-others s (By k m) r o f e = beside k _ (go (forItself m) refl)
+    where
+      go : (b : Bool) → forItself m ≡ b → eqb k n ≡ false
+      go true t = for-another s k m t r o
+      go false t = sym (ap (λ (c : Bool). not c && eqb k n) t) ∙ f
   by-others s Close r o f e = absurd (true≢false e)

@@ -6,7 +6,7 @@ use mathlib.Core.List.{List, [], _∷_, _++_, map, flatten, append-assoc}
 use lib.Dec.{eqb}
 use Rattle.rules.specs.Rounds.{Answered}
 use Rattle.seats.specs.Seats.{At, Seated, HallLedger, freshHall, hallAnswer, hallStep, hallAnswersFrom, hallAnswers, published, reading}
-use Rattle.seats.specs.Views.{sameValues, Asked, ForIt, Changed, ownSeat, isFor, asked, madeFor, changes, shown, Point, answersAt, pointOf, points, toldFrom, told, ownAnswers}
+use Rattle.seats.specs.Views.{sameValues, Asked, ForIt, Changed, ownSeat, isFor, askedBy, madeFor, changes, shown, Point, answersAt, pointOf, points, toldFrom, told, ownAnswers}
 
 abbrev answersOf : List Point → List Answered
 answersOf ps = flatten (map (λ p. p .answers) ps)
@@ -17,7 +17,7 @@ answers-append [] qs = refl
 answers-append (p ∷ ps) qs = ap (λ (rs : List Answered). p .answers ++ rs) (answers-append ps qs) ∙ sym (append-assoc (p .answers) (answersOf ps) (answersOf qs))
 
 answers-at : (n : ℕ) (h : HallLedger) (m : Seated) → answersOf (points n h m) ≡ cond (ownSeat n (m .seat)) (hallAnswer h m ∷ []) []
-unfolding points shown asked madeFor changes answersAt flatten
+unfolding points shown askedBy madeFor changes answersAt flatten
 answers-at n h m =
     go (ownSeat n (m .seat)) (isFor n (m .call) && eqb (hallAnswer h m .number) 0) (sameValues (published h) (published (hallStep h m)))
   where

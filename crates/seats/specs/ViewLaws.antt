@@ -7,12 +7,12 @@ use mathlib.Core.Bool.{Bool, true, false, cond, _&&_, and-true, and-false, false
 use mathlib.Core.List.{List, [], _∷_, _++_}
 use borrow.Author.Tests.{eqb-true, eq-eqb}
 use Rattle.numbers.specs.Cases.{and-true as both-true}
-use Rattle.rules.specs.Ledger.{Offer, Lodge, Cancel, Call, SetUp, Register, Open, By, Close}
+use Rattle.rules.specs.Ledger.{Call, SetUp, Register, Open, By, Close}
 use Rattle.rules.specs.Rounds.{Answered}
 use Rattle.cancelling.specs.TakenBack.{own}
 use Rattle.seats.specs.Seats.{Seat, Auctioneer, Auditor, At, isOfferOrCancellation, mayMake, HallLedger, freshHall, Seated, hallAnswer, hallStep, hallFrom, hallLedger, published, reading}
 use Rattle.seats.specs.SeatLaws.{hall-ledger-snoc}
-use Rattle.seats.specs.Views.{Event, Asked, ForIt, Changed, ownSeat, isFor, asked, madeFor, shown, viewFrom, view, Point, answersAt, points, toldFrom, told, ByViewAlone, StillBetween, movesClock, OthersUnseen}
+use Rattle.seats.specs.Views.{Event, Asked, ForIt, Changed, ownSeat, isFor, askedBy, madeFor, shown, viewFrom, view, Point, answersAt, points, toldFrom, told, ByViewAlone, StillBetween, movesClock, OthersUnseen}
 use Rattle.seats.specs.Changes.{isAccepted, Refused, Accepted, outcome}
 pub use Rattle.seats.specs.Changes.{clock-alone}
 use Rattle.seats.specs.Sights.{Sight, sight, readingSeen, reads-sight, through, sightAfter, sightBehind, answersSeen, pointSeen, pointsSeen, by-sight, by-clock, by-call-for, by-others}
@@ -35,12 +35,12 @@ module _ (n : ℕ) (h : HallLedger) (m : Seated) where
   accepted-first true f k = rw (and-true f, and-true k) refl
   accepted-first false f k = rw (and-false f, and-false k) refl
 
-  shown-is : shown n h m ≡ asked n m ++ othersEvents (isAccepted h m) (isFor n c) (movesClock c)
+  shown-is : shown n h m ≡ askedBy n m ++ othersEvents (isAccepted h m) (isFor n c) (movesClock c)
   unfolding shown madeFor
-  shown-is = rw (clock-alone h m) (ap (λ (es : List Event). asked n m ++ es) (accepted-first (isAccepted h m) (isFor n c) (movesClock c)))
+  shown-is = rw (clock-alone h m) (ap (λ (es : List Event). askedBy n m ++ es) (accepted-first (isAccepted h m) (isFor n c) (movesClock c)))
 
 pub others-unseen : OthersUnseen
-unfolding asked othersEvents
+unfolding askedBy othersEvents
 others-unseen n h m o f k = shown-is n h m ∙ rw (o, f, k) (go (isAccepted h m))
   where
     go : (t : Bool) → othersEvents n h m t false false ≡ []
@@ -74,14 +74,12 @@ unfolding isOfferOrCancellation isFor movesClock
 plain n (SetUp s) e = absurd (false≢true e)
 plain n (Register k w x) e = absurd (false≢true e)
 plain n (Open p) e = absurd (false≢true e)
-plain n (By k (Offer ps qs)) e = (refl, refl)
-plain n (By k (Lodge ps qs)) e = absurd (false≢true e)
-plain n (By k Cancel) e = (refl, refl)
+plain n (By k m) e = (rw e refl, refl)
 plain n Close e = absurd (false≢true e)
 
 module _ (n : ℕ) (h : HallLedger) (c : Call) where
   own-shown : shown n h (through n c) ≡ Asked c ∷ []
-  unfolding asked ownSeat othersEvents mayMake
+  unfolding askedBy ownSeat othersEvents mayMake
   own-shown = shown-is n h (through n c) ∙ rw (eq-eqb n n refl) (ap (λ (es : List Event). Asked c ∷ es) no-more)
     where
       no-more : othersEvents n h (through n c) (isAccepted h (through n c)) (isFor n c) (movesClock c) ≡ []
@@ -109,7 +107,7 @@ for-not-clock n Close e = absurd (false≢true e)
 
 module _ (n : ℕ) (h : HallLedger) (m : Seated) (o : ownSeat n (m .seat) ≡ false) where
   accepted-followed : Accepted h m → (f k : Bool) → isFor n (m .call) ≡ f → movesClock (m .call) ≡ k → Followed n h m
-  unfolding asked othersEvents answersAt answersSeen
+  unfolding askedBy othersEvents answersAt answersSeen
   accepted-followed a true k f e =
       event-followed n h m (ForIt (m .call)) (shown-is n h m ∙ rw (o, a .is-accepted, f, for-not-clock n (m .call) f) refl) refl
       (ap (sight n) (a .next) ∙ by-call-for n h (m .call) f)
@@ -120,7 +118,7 @@ module _ (n : ℕ) (h : HallLedger) (m : Seated) (o : ownSeat n (m .seat) ≡ fa
       unseen-followed n h m (others-unseen n h m o f e) (ap (sight n) (a .next) ∙ by-others n h (m .seat) (m .call) (a .right) o f e)
 
   others-followed : Followed n h m
-  unfolding asked othersEvents
+  unfolding askedBy othersEvents
   others-followed = ⊎-elim
       (λ (r : Refused h m). unseen-followed n h m (shown-is n h m ∙ rw (o, r .not-accepted) refl) (ap (sight n) (r .stays)))
       (λ (a : Accepted h m). accepted-followed a (isFor n (m .call)) (movesClock (m .call)) refl refl)

@@ -1,14 +1,14 @@
 -- What a developer can learn in the hall (document 02, 14): the view that a run gives it, and what it is told at each point of it.
 use Prim.Native.Nat.{ℕ}
 use mathlib.Core.Path.{_≡_}
-use mathlib.Core.Bool.{Bool, true, false, cond, _&&_}
+use mathlib.Core.Bool.{Bool, true, false, cond, not, _&&_}
 use mathlib.Core.List.{List, [], _∷_, _++_, map}
 use lib.Dec.{eqb}
 use lib.IntN.{ℤ, pos, negsuc}
-use Rattle.rules.specs.Ledger.{Offer, Lodge, Cancel, Call, SetUp, Register, Open, By, Close, Phase, Fresh, Ready, Round, Between, Closed}
-use Rattle.rules.specs.Refusals.{isFresh, isReady, inRound, isClosed}
+use Rattle.rules.specs.Ledger.{Call, SetUp, Register, Open, By, Close, Phase, Fresh, Ready, Round, Between, Closed}
+use Rattle.rules.specs.Refusals.{isFresh, isReady, inRound, isClosed, isBetween}
 use Rattle.rules.specs.Rounds.{Answered}
-use Rattle.seats.specs.Seats.{Seat, Auctioneer, Auditor, At, Seated, HallLedger, freshHall, hallAnswer, hallStep, hallLedger, Published, published, Reading, reading}
+use Rattle.seats.specs.Seats.{forItself, Seat, Auctioneer, Auditor, At, Seated, HallLedger, freshHall, hallAnswer, hallStep, hallLedger, Published, published, Reading, reading}
 
 -- ---- changes of published values
 
@@ -17,13 +17,6 @@ sameExcess (pos m) (pos n) = eqb m n
 sameExcess (pos m) (negsuc n) = false
 sameExcess (negsuc m) (pos n) = false
 sameExcess (negsuc m) (negsuc n) = eqb m n
-
-abbrev pub isBetween : Phase → Bool
-isBetween Fresh = false
-isBetween Ready = false
-isBetween Round = false
-isBetween Between = true
-isBetween Closed = false
 
 unfoldable pub samePhase : Phase → Phase → Bool
 samePhase Fresh q = isFresh q
@@ -53,13 +46,11 @@ unfoldable pub isFor : ℕ → Call → Bool
 isFor n (SetUp s) = false
 isFor n (Register k w x) = eqb k n
 isFor n (Open c) = false
-isFor n (By k (Offer ps qs)) = false
-isFor n (By k (Lodge ps qs)) = eqb k n
-isFor n (By k Cancel) = false
+isFor n (By k m) = not (forItself m) && eqb k n
 isFor n Close = false
 
-unfoldable pub asked : ℕ → Seated → List Event
-asked n m = cond (ownSeat n (m .seat)) (Asked (m .call) ∷ []) []
+unfoldable pub askedBy : ℕ → Seated → List Event
+askedBy n m = cond (ownSeat n (m .seat)) (Asked (m .call) ∷ []) []
 
 unfoldable pub madeFor : ℕ → HallLedger → Seated → List Event
 madeFor n h m = cond (isFor n (m .call) && eqb (hallAnswer h m .number) 0) (ForIt (m .call) ∷ []) []
@@ -69,7 +60,7 @@ changes p q = cond (sameValues p q) [] (Changed q ∷ [])
 
 -- what one call through a seat shows it
 unfoldable pub shown : ℕ → HallLedger → Seated → List Event
-shown n h m = asked n m ++ (madeFor n h m ++ changes (published h) (published (hallStep h m)))
+shown n h m = askedBy n m ++ (madeFor n h m ++ changes (published h) (published (hallStep h m)))
 
 unfoldable pub viewFrom : ℕ → HallLedger → List Seated → List Event
 viewFrom n h [] = []

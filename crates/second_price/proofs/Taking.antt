@@ -7,24 +7,25 @@ use mathlib.Core.List.{List, [], _∷_}
 use native.Mathlib.Omega.{arith}
 use lib.Dec.{eqb, eqb·suc-zero}
 use lib.ListN.{length, getD, set}
-use Rattle.numbers.specs.Cases.{not-true, le-or-lt, clash}
-use Rattle.numbers.specs.ListLaws.{any-true}
+use Rattle.numbers.specs.Cases.{never-true, le-or-lt, clash}
+use Rattle.numbers.specs.Lists.{isEmpty}
+use Rattle.numbers.specs.ListLaws.{any-true, numbered-nth}
 use Rattle.rules.specs.Ledger.{Step, Developer, Ledger, nobody}
 use Rattle.rules.specs.Clearing.{developersOf, ofEach, covered}
 use Rattle.rules.specs.Projects.{in-developers-of}
-use Rattle.rules.specs.Second.{noSteps, lodgedApplied, takenOut, remaining, short}
+use Rattle.rules.specs.Second.{lodgedApplied, takenOut, remaining, short}
 use Rattle.sound.specs.Sound.{Sound}
 use Rattle.clearing.specs.Second.{remaining-part, second-price, second-is-first, remaining-is}
 use Rattle.history.specs.declared.History.{History}
 use Rattle.auction.specs.Holds.{heldCourse, auctionOf}
-use Rattle.courses.specs.Places.{Filling, filling-next, filling-all, numbered-at, numbered-length}
+use Rattle.courses.specs.Places.{Filling, filling-next, filling-all, numbered-length}
 use Rattle.auction.specs.declared.Auction.{Auction}
 use Rattle.price.specs.Prices.{HoldsPart, CoveredAt, ClosingPrice}
 use Rattle.second_price.specs.Taken.{takenBy, NoneTaken, leftOf, Remain, SecondPrice}
 
 -- ---- one developer
 
-no-steps : (ws : List Step) → noSteps ws ≡ eqb (length ws) 0
+no-steps : (ws : List Step) → isEmpty ws ≡ eqb (length ws) 0
 no-steps [] = refl
 no-steps (w ∷ ws) = sym (eqb·suc-zero (length ws))
 
@@ -61,8 +62,8 @@ module _ (kinds : List ℕ) (histories : List History) where
   none-next i d t w e = record {
     within = omega arith;
     part = λ l k h j g.
-        let ki : getD kinds i 0 ≡ l .developers (suc i) .declared .kind = ap (λ (xs : List ℕ). getD xs i 0) k ∙ numbered-at _ i 0 w in
-        let hi : getD histories i d ≡ heldCourse (l .developers (suc i)) = ap (λ (xs : List History). getD xs i d) h ∙ numbered-at _ i d w in
+        let ki : getD kinds i 0 ≡ l .developers (suc i) .declared .kind = numbered-nth _ 32 kinds i 0 k w in
+        let hi : getD histories i d ≡ heldCourse (l .developers (suc i)) = numbered-nth _ 32 histories i d h w in
         let here : lodgedApplied (l .developers (suc i)) ≡ false =
         sym (taken-by (l .developers (suc i))) ∙ sym (ap₂ (λ (a : ℕ) (x : History). takenBy a (x .count)) ki hi) ∙ e in
         ⊎-elim (λ b. t .part l k h j b) (λ b. subst (λ (n : ℕ). lodgedApplied (l .developers (suc n)) ≡ false) (omega arith) here) (le-or-lt (suc j) i);
@@ -71,7 +72,7 @@ module _ (kinds : List ℕ) (histories : List History) where
   pub none-all : (i : ℕ) → NoneTurn i → 32 ≤ i → NoneTaken kinds histories true
   unfolding takenOut
   none-all i t w = record {
-    right = λ _ l k h n. not-true _ (λ a.
+    right = λ _ l k h n. never-true _ (λ a.
         let r = any-true (λ m. lodgedApplied (l .developers m)) (developersOf l n) .0 a in
         let b = in-developers-of l n (r .0) .0 (r .1) in
         clash (r .2) (before l k h (r .0) (b .0) (omega (arith, b .1))));
@@ -108,9 +109,9 @@ pub remain-next :
 remain-next projects kinds histories out i v d t w e = record {
   within = omega arith;
   part = λ l s p k h.
-      let pi : getD projects i 0 ≡ l .developers (suc i) .declared .project = ap (λ (xs : List ℕ). getD xs i 0) p ∙ numbered-at _ i 0 w in
-      let ki : getD kinds i 0 ≡ l .developers (suc i) .declared .kind = ap (λ (xs : List ℕ). getD xs i 0) k ∙ numbered-at _ i 0 w in
-      let hi : getD histories i d ≡ heldCourse (l .developers (suc i)) = ap (λ (xs : List History). getD xs i d) h ∙ numbered-at _ i d w in
+      let pi : getD projects i 0 ≡ l .developers (suc i) .declared .project = numbered-nth _ 32 projects i 0 p w in
+      let ki : getD kinds i 0 ≡ l .developers (suc i) .declared .kind = numbered-nth _ 32 kinds i 0 k w in
+      let hi : getD histories i d ≡ heldCourse (l .developers (suc i)) = numbered-nth _ 32 histories i d h w in
       filling-next (projectLeft l) 0 out i v (t .part l s p k h) w
       (e ∙ ap (λ (x : History). leftOf (getD projects i 0) (getD kinds i 0) (x .count)) hi
       ∙ ap₂ (λ (a b : ℕ). leftOf a b (length (l .developers (suc i) .withdrawals))) pi ki ∙ left-is l s (suc i));

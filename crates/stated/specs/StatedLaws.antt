@@ -6,8 +6,8 @@ use mathlib.Core.List.{List, flatten}
 use native.Mathlib.Omega.{arith}
 use lib.Dec.{leb}
 use lib.ListN.{length}
-use borrow.Author.Tests.{le-leb, leb-true, not-false, not-true as unmarked}
-use Rattle.numbers.specs.Cases.{clash, not-true}
+use borrow.Author.Tests.{le-leb, leb-true, not-false, not-true}
+use Rattle.numbers.specs.Cases.{clash, never-true}
 use Rattle.curve.specs.RemainderLaws.{remainder-below-ce}
 use Rattle.rules.specs.Ledger.{Call, Ledger}
 use Rattle.rules.specs.Clearing.{covered, closingPrice}
@@ -66,7 +66,7 @@ module _ (l : Ledger) (s : Sound l) (c : isClosed (l .phase) ≡ true) (old new 
     insufficient-exactly = insufficient-exactly l given;
     judged = grants-recorded l (closingPrice l);
     paid = refl;
-    paid-insufficient = λ e. paid-insufficient l given (closingPrice l) (unmarked (sufficient l given) e);
+    paid-insufficient = λ e. paid-insufficient l given (closingPrice l) (not-true (sufficient l given) e);
     paid-sufficient = λ e. paid-sufficient l given (closingPrice l) (not-false (sufficient l given) e);
     paid-at-most = paid-at-most l given (closingPrice l);
     goes = λ k low high v.
@@ -87,11 +87,11 @@ module _ (l : Ledger) (limit : ℕ) (old : List ℕ) (n : ℕ) (e : n ≡ settli
   module _ (c : isClosed (l .phase) ≡ true) where
     outnumbered : (Within l limit → ⊥) → n ≡ 10
     unfolding settlingNumber
-    outnumbered w = e ∙ simp (c, not-true (leb (length (admissible l (closingPrice l))) (min limit 65536)) (λ t. w (leb-true _ _ t)))
+    outnumbered w = e ∙ simp (c, never-true (leb (length (admissible l (closingPrice l))) (min limit 65536)) (λ t. w (leb-true _ _ t)))
 
     too-short : Within l limit → (Fit l old → ⊥) → n ≡ 11
     unfolding settlingNumber
-    too-short w f = e ∙ simp (c, le-leb _ _ w, not-true (leb (6 * length (records l (closingPrice l))) (length old)) (λ t. f (leb-true _ _ t)))
+    too-short w f = e ∙ simp (c, le-leb _ _ w, never-true (leb (6 * length (records l (closingPrice l))) (length old)) (λ t. f (leb-true _ _ t)))
 
     fitting : Within l limit → Fit l old → n ≡ 0
     unfolding settlingNumber

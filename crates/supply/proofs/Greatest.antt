@@ -1,27 +1,24 @@
 -- The greatest of each project, developer by developer: one developer more raises its project's greatest, and no other.
-use Prim.Native.Nat.{ℕ, zero, suc, _+_, _-_, max, _≤_, _<_}
+use Prim.Native.Nat.{ℕ, suc, _+_, _-_, max, _≤_, _<_}
 use mathlib.Core.Path.{_≡_, refl, sym, ap, _∙_}
 use mathlib.Core.Bool.{Bool, true, false, cond}
 use mathlib.Core.List.{List, [], _∷_, _++_, map}
 use native.Mathlib.Omega.{arith}
 use native.Mathlib.Numerals.{add-one}
 use native.Mathlib.Decide.{ℕ-discrete as decEq}
-use lib.Dec.{eqb, leb}
+use lib.Dec.{eqb}
 use lib.ListN.{length, getD, set, take, replicate, length-map, length-set}
 use lib.Seq.{ext-getD, getD-set-same, getD-set-other, set-getD, take-suc, take-all, length-take-le}
-use borrow.Author.Tests.{leb-true, le-leb, eq-eqb, ne-eqb}
-use Rattle.numbers.specs.Cases.{and-true}
+use borrow.Author.Tests.{le-leb, eq-eqb, ne-eqb}
 use Rattle.numbers.specs.Lists.{oneTo, greatest}
-use Rattle.numbers.specs.ListLaws.{greatest-append, map-same, length-one-to, one-to-nth}
+use Rattle.numbers.specs.ListLaws.{greatest-append, map-same, length-one-to, numbered-nth}
 use Rattle.rules.specs.Refusals.{isNumber}
+use Rattle.rules.specs.CheckLaws.{is-number}
 use Rattle.supply.specs.ByProject.{ofProject, greatestByProject, placeOf, countedOf}
 
 -- ---- the place and what counts there, by the tests of the code
 
 module _ (k : ℕ) where
-  pub project : isNumber k ≡ true → (1 ≤ k) × (k ≤ 32)
-  project e = let t = and-true (leb 1 k) (leb k 32) e in (leb-true 1 k (t .0), leb-true k 32 (t .1))
-
   pub placed : (b : Bool) → isNumber k ≡ b → placeOf k ≡ cond b (k - 1) 0
   unfolding placeOf
   placed b e = rw e
@@ -59,20 +56,12 @@ greatest-more k ps qs p q e = ap greatest (of-project-more k ps qs p q e) ∙ gr
 
 -- ---- the projects side by side
 
-map-nth : (f : ℕ → ℕ) (xs : List ℕ) (i : ℕ) → i < length xs → getD (map f xs) i 0 ≡ f (getD xs i 0)
-map-nth f [] i h = absurd (omega arith)
-map-nth f (x ∷ xs) zero h = refl
-map-nth f (x ∷ xs) (suc i) h = map-nth f xs i (omega arith)
-
 module _ (f : ℕ → ℕ) where
   abbrev row : List ℕ
   row = map f (oneTo 32)
 
   row-length : length row ≡ 32
   row-length = length-map (oneTo 32) f ∙ length-one-to 32
-
-  row-at : (i : ℕ) → i < 32 → getD row i 0 ≡ f (suc i)
-  row-at i h = map-nth f (oneTo 32) i (omega (arith, length-one-to 32)) ∙ ap f (one-to-nth 32 i h)
 
 -- a place of a raised row
 raised-at : (xs : List ℕ) (p q i : ℕ) → length xs ≡ 32 → i < 32 → getD (raisedAt xs p q) i 0 ≡ max (getD xs i 0) (cond (eqb p (suc i)) q 0)
@@ -83,7 +72,7 @@ raised-at xs p q i l h = go (decEq p (suc i))
 
     other : (p ≡ suc i → ⊥) → (b : Bool) → isNumber p ≡ b → getD (raisedAt xs p q) i 0 ≡ getD xs i 0
     other n true e =
-        let w = project p e .0 in
+        let w = is-number p e .0 in
         rw (placed p true e, counts p q true e) (getD-set-other xs (p - 1) i v 0 (λ d. n (omega arith)))
     other n false e =
         let same : set xs 0 (max (getD xs 0 0) 0) ≡ xs = ap (set xs 0) (omega arith) ∙ set-getD xs 0 0 in
@@ -104,7 +93,7 @@ raised-row f p q =
     let g : ℕ → ℕ = λ k. max (f k) (cond (eqb p k) q 0) in
     let l : length (row g) ≡ 32 = row-length g in
     ext-getD 0 (row g) (raisedAt (row f) p q) (l ∙ sym (length-raised (row f) p q ∙ row-length f))
-    (λ i h. row-at g i (omega arith) ∙ sym (raised-at (row f) p q i (row-length f) (omega arith) ∙ ap (λ (n : ℕ). max n (cond (eqb p (suc i)) q 0)) (row-at f i (omega arith))))
+    (λ i h. numbered-nth g 32 (row g) i 0 refl (omega arith) ∙ sym (raised-at (row f) p q i (row-length f) (omega arith) ∙ ap (λ (n : ℕ). max n (cond (eqb p (suc i)) q 0)) (numbered-nth f 32 (row f) i 0 refl (omega arith))))
 
 raised-more : (ps qs : List ℕ) (p q : ℕ) → length ps ≡ length qs → greatestByProject (ps ++ (p ∷ [])) (qs ++ (q ∷ [])) ≡ raisedAt (greatestByProject ps qs) p q
 unfolding greatestByProject

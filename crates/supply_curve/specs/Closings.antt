@@ -1,6 +1,6 @@
 -- The supply curve through the calls: what leaves it as it is; and a closing, which adds points from the round's opening price down, in front of
 -- which the curve stays.
-use Prim.Native.Nat.{ℕ, suc, _+_, _*_, _≤_, _<_, zero-le}
+use Prim.Native.Nat.{ℕ, suc, _*_, _≤_, _<_, zero-le}
 use mathlib.Core.Path.{_≡_, refl, sym, ap, ap₂, subst, fun-ext, _∙_}
 use mathlib.Core.Logic.{⊎-elim, _↔_}
 use mathlib.Core.Bool.{Bool, true, false, cond}
@@ -12,8 +12,8 @@ use lib.ListN.{length, length-map, length-append}
 use borrow.Author.Tests.{leb-true, le-leb, lt-leb, ltb-true, lt-ltb, le-ltb, eq-eqb, ne-eqb}
 use Rattle.numbers.specs.Cases.{le-or-lt}
 use Rattle.numbers.specs.Lists.{oneTo, keep, total, greatest}
-use Rattle.numbers.specs.ListLaws.{Each, in-keep, in-map, map-same, length-one-to, greatest-in, greatest-upper, total-map-bound}
-use Rattle.numbers.specs.Falling.{distinctFalling, Falls, distinct-in, distinct-length, falls-same, keep-falls, keep-all, front-next}
+use Rattle.numbers.specs.ListLaws.{Each, in-keep, keep-all, in-map, map-same, length-one-to, greatest-in, greatest-upper, total-map-bound}
+use Rattle.numbers.specs.Falling.{distinctFalling, Falls, distinct-in, distinct-length, falls-same, keep-falls, front-next}
 use Rattle.rules.specs.Ledger.{highestDeclared, Step, Declaration, Phase, Round, Ledger, withDevelopers}
 use Rattle.rules.specs.Clearing.{highest, quantityAfter, high, low, developersOf, greatestOf, supply}
 use Rattle.rules.specs.Refusals.{floor}

@@ -7,11 +7,12 @@ use native.Mathlib.Nat.{add-zero}
 use native.Mathlib.Numerals.{add-one}
 use lib.ListN.{length, drop, getD, length-take, length-drop, drop-of-length-le}
 use lib.Seq.{drop-cons, getD-take, getD-drop}
+use Rattle.numbers.specs.Lists.{part}
 use Rattle.numbers.specs.ListLaws.{map-intro, last-at}
 use Rattle.choices.specs.Search.{lowOf, highOf}
 use Rattle.placing.specs.Numbers.{numbersFrom, numbers-in}
 use Rattle.table.specs.Rows.{rowsIn, EndsRise}
-use Rattle.table.specs.Places.{part, RowLaid, LaidOut, startOf, rowIn}
+use Rattle.table.specs.Places.{RowLaid, LaidOut, startOf, rowIn}
 
 -- ---- parts of the levels
 

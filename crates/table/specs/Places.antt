@@ -1,15 +1,12 @@
 -- Tables that are laid out, and their rows by number.
-use Prim.Native.Nat.{ℕ, _-_, _≤_}
+use Prim.Native.Nat.{ℕ, _≤_}
 use mathlib.Core.Path.{_≡_}
 use mathlib.Core.List.{List, _∷_}
-use lib.ListN.{length, take, drop, getD}
+use lib.ListN.{length, getD}
+use Rattle.numbers.specs.Lists.{part}
 use Rattle.numbers.specs.ListLaws.{Each}
 use Rattle.choices.specs.Pairwise.{StrictlyRising}
 use Rattle.table.specs.Rows.{rowsIn, EndsRise}
-
--- the levels from `at` to below e
-abbrev pub part : List ℕ → ℕ → ℕ → List ℕ
-part levels at e = take (e - at) (drop at levels)
 
 abbrev pub RowLaid : List ℕ → Type 0
 RowLaid row = StrictlyRising row × Each (λ v. v ≤ 1000000000) row

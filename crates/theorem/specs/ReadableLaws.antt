@@ -5,7 +5,7 @@ use mathlib.Core.Bool.{Bool, true, false, cond, not}
 use mathlib.Core.List.{List, [], _∷_, _++_, flatten, List·Memᴰ·head, List·Memᴰ·tail, List·Memᴰ·not-nil}
 use native.Mathlib.Omega.{arith}
 use lib.ListN.{length}
-use Rattle.numbers.specs.ListLaws.{Each}
+use Rattle.numbers.specs.ListLaws.{Each, flat-length}
 use Rattle.format.specs.Fields.{fieldsAt, textAt}
 use Rattle.rules.specs.Ledger.{Call, Close, Ledger}
 use Rattle.rules.specs.Refusals.{number}
@@ -18,7 +18,7 @@ use Rattle.sound.specs.Sound.{Sound}
 use Rattle.reachable.specs.Reachable.{sound}
 use Rattle.replies.specs.Orders.{Asks, Settle}
 use Rattle.replies.specs.Replies.{twosComplement, widthsOf, valuesOf, closingFields, settlingHead, settlingTail, recordDigits, closingText, settlingText, answerLine, awardRoom, replyTo}
-use Rattle.replies.specs.Lengths.{flat-length, flat-digits, six, few}
+use Rattle.replies.specs.Lengths.{flat-digits, six, few}
 use Rattle.theorem.specs.Readable.{signed, twos, Awarded, Readable}
 use Rattle.theorem.specs.Reading.{Fit, fit-append, text-append, line-reads, Bytes, fit-bytes, text-bytes, bytes-cons, bytes-join}
 use Rattle.theorem.specs.Figures.{Passed, passed, excess-small, excess-back, closing-remainder-small, price-small, demand-small, remainder-small, second-small, paid-small, total-small, covering-small, awarded}
@@ -127,7 +127,7 @@ module _ (l : Ledger) (s : Sound l) where
         let ns : List ℕ = front ++ valuesOf settlingTail (settlement l) in
         let fit : Fit ws ns = fit-append frontWidths front (widthsOf settlingTail) (valuesOf settlingTail (settlement l)) front-fit tail-fit in
         ap (λ (n : ℕ). fieldsAt (2 ∷ 2 ∷ widthsOf settlingHead ++ twos n ++ widthsOf settlingTail) (replyTo l (Settle limit)))
-        (sym (flat-length (settlement l .records) (six l)))
+        (sym (flat-length 6 (settlement l .records) (six l)))
         ∙ ap₂ (λ (n : ℕ) (t : List ℕ). fieldsAt (2 ∷ 2 ∷ ws) (answerLine 6 n t)) e text-is
         ∙ line-reads 6 ws ns (omega arith) fit
 

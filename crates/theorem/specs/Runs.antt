@@ -14,7 +14,7 @@ use Rattle.rules.specs.Refusals.{number}
 use Rattle.rules.specs.Rounds.{step, ledger, Answered, numberAlone, granted, answer, answersFrom, answers}
 use Rattle.rules.specs.Sample.{sample, shown-jointly}
 use Rattle.reachable.specs.Reachable.{sound}
-use Rattle.reachable.specs.Steps.{ledger-snoc, step-refused, answer-refused, answer-accepted, answers-snoc}
+use Rattle.reachable.specs.Steps.{ledger-snoc, step-refused, answer-refused, answer-accepted, granted-number, answers-snoc}
 use Rattle.auction.specs.Holds.{phaseNumber, auctionOf}
 use Rattle.auction.specs.Called.{Called}
 use Rattle.auction.specs.declared.Auction.{Auction}
@@ -22,14 +22,6 @@ use Rattle.theorem.specs.EveryList.{Made, sets-up, registers-one, regist
 use Rattle.theorem.specs.ReadBack.{auction-determines}
 
 -- ---- every call as its contract says
-
-granted-number : (l : Ledger) (c : Call) → granted l c .number ≡ 0
-unfolding granted
-granted-number l (SetUp s) = refl
-granted-number l (Register n w x) = refl
-granted-number l (Open c) = refl
-granted-number l (By n m) = refl
-granted-number l Close = refl
 
 same-ledger : (cs ds : List Call) → auctionOf (ledger cs) ≡ auctionOf (ledger ds) → ledger cs ≡ ledger ds
 same-ledger cs ds = auction-determines (ledger cs) (ledger ds) (sound cs) (sound ds)

@@ -3,9 +3,9 @@
 ghost use mathlib.Core.Path.{_≡_};
 ghost use lib.ListN.{length};
 use auction::Auction;
+use frame_turns::Turn;
 use reply_sizes::Reply;
 use trace_text::PreviewShown;
-use turns::Turn;
 
 // The most bytes of a record (document 01, Frames).
 const LONGEST: usize = 65_536;

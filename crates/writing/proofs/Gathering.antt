@@ -9,8 +9,9 @@ use lib.Dec.{eqb}
 use lib.ListN.{length, take, getD, set, length-set}
 use lib.Seq.{take-suc, take-suc-set, take-all}
 use borrow.Author.Tests.{eq-eqb, ne-eqb}
+use Rattle.format.specs.Fields.{rawCall}
 use Rattle.format.specs.Written.{writable}
-use Rattle.replies.specs.WrittenOrders.{raw, paired}
+use Rattle.replies.specs.WrittenOrders.{paired}
 use Rattle.frame_writing.specs.declared.Written.{Written}
 use Rattle.frame_writing.specs.Lodged.{Encodes}
 use Rattle.frame_writing.specs.LodgedLaws.{not-writable}
@@ -105,14 +106,14 @@ module _ (ps qs : List ℕ) where
 -- ---- what is written
 
 module _ (k : ℕ) (old new : List ℕ) (r : Written) where
-  pub same-fields : (ns ms : List ℕ) → ns ≡ ms → Encodes (raw k ns) old new r → Encodes (raw k ms) old new r
-  same-fields ns ms e w = subst (λ (l : List ℕ). Encodes (raw k l) old new r) e w
+  pub same-fields : (ns ms : List ℕ) → ns ≡ ms → Encodes (rawCall k ns) old new r → Encodes (rawCall k ms) old new r
+  same-fields ns ms e w = subst (λ (l : List ℕ). Encodes (rawCall k l) old new r) e w
 
   module _ (n : ℕ) (ps qs : List ℕ) where
-    pub equal-lists : length ps ≡ length qs → Encodes (raw k (n ∷ (length ps ∷ paired ps qs))) old new r → WritesSteps k n ps qs old new r
+    pub equal-lists : length ps ≡ length qs → Encodes (rawCall k (n ∷ (length ps ∷ paired ps qs))) old new r → WritesSteps k n ps qs old new r
     equal-lists e w = rw (eq-eqb (length ps) (length qs) e) w
 
     pub unequal-lists : (r .number ≡ 14) × (r .bytes ≡ 0) → (length ps ≡ length qs → ⊥) → new ≡ old → WritesSteps k n ps qs old new r
     unequal-lists z h same =
-        let e : eqb (length ps) (length qs) && writable (raw k (n ∷ (length ps ∷ paired ps qs))) ≡ false = rw (ne-eqb (length ps) (length qs) h) in
+        let e : eqb (length ps) (length qs) && writable (rawCall k (n ∷ (length ps ∷ paired ps qs))) ≡ false = rw (ne-eqb (length ps) (length qs) h) in
         not-writable _ _ _ _ _ z e same

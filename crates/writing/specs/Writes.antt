@@ -4,10 +4,11 @@ use mathlib.Core.Bool.{_&&_}
 use mathlib.Core.List.{List, _∷_}
 use lib.Dec.{eqb}
 use lib.ListN.{length}
+use Rattle.format.specs.Fields.{rawCall}
 use Rattle.format.specs.Written.{frameOf, writable}
 use Rattle.rules.specs.Ledger.{Agency, Own, Named, Register}
 use Rattle.replies.specs.Orders.{Order, Asks}
-use Rattle.replies.specs.WrittenOrders.{raw, paired, writableOrder, frameOfOrder}
+use Rattle.replies.specs.WrittenOrders.{paired, writableOrder, frameOfOrder}
 use Rattle.frame_writing.specs.declared.Written.{Written}
 use Rattle.frame_writing.specs.Lodged.{Lodges}
 
@@ -18,7 +19,7 @@ Writes o old new r = Lodges (writableOrder o) (frameOfOrder o) old new r
 -- of a developer's steps, in a frame of a kind
 abbrev pub WritesSteps : ℕ → ℕ → List ℕ → List ℕ → List ℕ → List ℕ → Written → Type 0
 WritesSteps k n ps qs old new r =
-    let c = raw k (n ∷ length ps ∷ paired ps qs) in
+    let c = rawCall k (n ∷ length ps ∷ paired ps qs) in
     Lodges (eqb (length ps) (length qs) && writable c) (frameOf c) old new r
 
 -- a registration by its numbers: with an agent either way, with the developer's own (02), and with one that is named (08; document 02, 10)

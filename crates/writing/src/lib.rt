@@ -5,8 +5,9 @@ ghost use mathlib.Core.List.{_++_};
 ghost use Prim.Native.Nat.{_+_, _*_, _≤_};
 ghost use lib.ListN.{length, take};
 ghost use Rattle.rules.specs.Ledger.{settingsOf, Offer, Lodge, Cancel, SetUp, Open, By, Close};
+ghost use Rattle.format.specs.Fields.{rawCall};
 ghost use Rattle.replies.specs.Orders.{Asks, Settle};
-ghost use Rattle.replies.specs.WrittenOrders.{raw, paired};
+ghost use Rattle.replies.specs.WrittenOrders.{paired};
 ghost use Rattle.frame_writing.specs.Lodged.{Encodes};
 ghost use Rattle.writing.specs.Writes.{registration, registrationFor, Writes, WritesSteps};
 use frame_writing::Written;
@@ -45,7 +46,7 @@ fn steps_of(prices: &[u64], levels: &[u64]) -> [u64; 32]
 // Writes a frame whose fields are a few, then a list; more than 32 are not writable.
 fn write_list(kind: usize, head: &[u64], list: &[u64], frame: &mut [u8]) -> Written
     requires { ⌜ length (now head) ≤ 8 ⌝ }
-    ensures { λ r. ⌜ Encodes (raw kind (now (head .entry) ++ now (list .entry))) (now (frame .entry)) (now (frame .exit)) r ⌝ }
+    ensures { λ r. ⌜ Encodes (rawCall kind (now (head .entry) ++ now (list .entry))) (now (frame .entry)) (now (frame .exit)) r ⌝ }
 {
     let few = head.len();
     if 32 - few < list.len() {

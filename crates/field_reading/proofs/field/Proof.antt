@@ -4,7 +4,7 @@ use mathlib.Core.Path.{_≡_, ap, _∙_}
 use native.Mathlib.Omega.{arith}
 use borrow.Author.Needs.{needs}
 use lib.ListN.{take, drop}
-use Rattle.format.specs.Hex.{number}
+use Rattle.format.specs.Hex.{hexNumber}
 use Rattle.field_reading.proofs.field.Statement.{statement}
 use Rattle.field_reading.proofs.field.Tie as tie
 
@@ -27,7 +27,7 @@ returns : tie.Need-returns
 returns c =
     let a = c .before .before .before .args in
     let e : a .start + a .width - a .start ≡ a .width = omega arith in
-    c .number-of .ensures ∙ ap (λ (n : ℕ). number (take n (drop (a .start) (a .line .now)))) e
+    c .number-of .ensures ∙ ap (λ (n : ℕ). hexNumber (take n (drop (a .start) (a .line .now)))) e
 
 pub field-spec : {M : Type 1} → statement M
 field-spec =

@@ -4,13 +4,13 @@ use mathlib.Core.Path.{_≡_, refl, ap, sym, _∙_}
 use native.Mathlib.Omega.{arith}
 use borrow.Author.Needs.{needs}
 use lib.ListN.{length, drop, getD, drop-of-length-le}
-use Rattle.format.specs.Hex.{number, numberFrom, valueOf}
+use Rattle.format.specs.Hex.{hexNumber, numberFrom, valueOf}
 use Rattle.format.specs.HexLaws.{number-step, number-from-le, number-fits}
 use Rattle.field_reading.proofs.number_of.Statement.{statement}
 use Rattle.field_reading.proofs.number_of.Tie as tie
 
 abbrev Inv-loop : tie.InvT-loop
-Inv-loop digits n₀ i₀ n i = (i ≤ length digits) × (numberFrom n (drop i digits) ≡ number digits)
+Inv-loop digits n₀ i₀ n i = (i ≤ length digits) × (numberFrom n (drop i digits) ≡ hexNumber digits)
 
 abbrev μ-loop : tie.MeasureT-loop
 μ-loop digits n₀ i₀ n i = length digits - i
@@ -21,13 +21,13 @@ turn :
     let s = c .before .before .before .args .digits .now in
     let i = c .before .loop .i in
     let m = c .before .loop .n * 16 + valueOf (getD s i 0) in
-    (numberFrom m (drop (i + 1) s) ≡ number s) × (m < 2 ^ 64)
+    (numberFrom m (drop (i + 1) s) ≡ hexNumber s) × (m < 2 ^ 64)
 turn c =
     let s = c .before .before .before .args .digits .now in
     let l = c .before .loop in
     let m : ℕ = l .n * 16 + valueOf (getD s (l .i) 0) in
-    let e : numberFrom m (drop (l .i + 1) s) ≡ number s = sym (number-step s (l .i) (l .n) (c .loop-test .taken)) ∙ l .inv .1 in
-    let f : number s < 2 ^ 64 = number-fits 16 s (c .before .before .before .pre) in
+    let e : numberFrom m (drop (l .i + 1) s) ≡ hexNumber s = sym (number-step s (l .i) (l .n) (c .loop-test .taken)) ∙ l .inv .1 in
+    let f : hexNumber s < 2 ^ 64 = number-fits 16 s (c .before .before .before .pre) in
     (e, omega (arith, e, f, number-from-le (drop (l .i + 1) s) m))
 
 loop-holds : tie.Need-loop-holds Inv-loop μ-loop

@@ -8,13 +8,12 @@ use borrow.Author.Tests.{not-true, not-false}
 use lib.ListN.{length, take}
 use lib.Seq.{length-take-le}
 use Rattle.numbers.specs.Cases.{clash}
-use Rattle.format.specs.Fields.{listed, known, fixed, repeats}
+use Rattle.format.specs.Fields.{listed, known, fixed, repeats, rawCall}
 use Rattle.format.specs.Written.{fit, lineOf}
 use Rattle.format.specs.WrittenLaws.{Writable, length-line, length-frame}
 use Rattle.field_table.specs.Shapes.{Shaped}
 use Rattle.field_table.specs.Fitting.{fitting-kind}
 use Rattle.field_table.specs.ShapeLaws.{shape-kind, shape-unknown}
-use Rattle.frame_sizes.specs.FrameSizes.{call}
 use Rattle.frame_sizes.specs.FrameSizeLaws.{as-many, few-fields, line-long, no-size, the-size, widths-are, fit-few}
 use Rattle.frame_sizes.proofs.frame_size.Statement.{statement}
 use Rattle.frame_sizes.proofs.frame_size.Tie as tie
@@ -76,7 +75,7 @@ long :
     (c : tie.After-repeated) →
     let a = start (shaped (counted (c .before .before))) .args in
     let s = shaped (counted (c .before .before)) .shape-of .result in
-    (length (lineOf (call (a .kind) (a .fields .now))) ≡ 2 + s .span + listed * c .repeated .result) × (s .span ≤ 128) × (s .fixed ≤ 8)
+    (length (lineOf (rawCall (a .kind) (a .fields .now))) ≡ 2 + s .span + listed * c .repeated .result) × (s .span ≤ 128) × (s .fixed ≤ 8)
 long c =
     let s = shaped (counted (c .before .before)) in
     let a = start s .args in
@@ -153,12 +152,12 @@ returns-7 c =
     let a = start s .args in
     let q : length (a .fields .now) ≡ length (fixed (a .kind)) + repeats (a .kind) (a .fields .now) =
     omega (arith, s .shape-of .ensures .many, more r .0, c .before .before .if5 .left) in
-    let w : Writable (call (a .kind) (a .fields .now)) = record {
+    let w : Writable (rawCall (a .kind) (a .fields .now)) = record {
       kind-known = of-kind (n .before .before .before) .1;
       fields-fit = rw (widths-are _ _ _ (s .shape-of .ensures) _ refl (many n .0) q) at (fits (r .before) .0);
       short = omega (arith, long r .0, c .if6 .left);
     } in
-    omega (arith, long r .0, length-line (call (a .kind) (a .fields .now)), length-frame (call (a .kind) (a .fields .now)), the-size _ _ w)
+    omega (arith, long r .0, length-line (rawCall (a .kind) (a .fields .now)), length-frame (rawCall (a .kind) (a .fields .now)), the-size _ _ w)
 
 pub frame-size-spec : {M : Type 1} → statement M
 frame-size-spec =

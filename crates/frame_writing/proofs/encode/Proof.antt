@@ -6,8 +6,8 @@ use native.Mathlib.Omega.{arith}
 use borrow.Author.Needs.{needs}
 use lib.ListN.{length}
 use Rattle.numbers.specs.Tails.{length-laid}
+use Rattle.format.specs.Fields.{rawCall}
 use Rattle.format.specs.Written.{lineOf, frameOf, writable}
-use Rattle.frame_sizes.specs.FrameSizes.{call}
 use Rattle.frame_writing.specs.LodgedLaws.{encode-refused, encode-room, encode-written}
 use Rattle.frame_writing.proofs.Lines.{tail-room, frame-there}
 use Rattle.frame_writing.proofs.encode.Statement.{statement}
@@ -20,7 +20,7 @@ start c = c .before .before .before .before .before
 room :
     (c : tie.Else1) →
     let a = start c .args in
-    let k = call (a .kind) (a .fields .now) in
+    let k = rawCall (a .kind) (a .fields .now) in
     let size = c .before .before .frame-size .result in
     (writable k ≡ true) × (size ≡ length (frameOf k)) × (size ≡ length (lineOf k) + 1) × (size ≤ length (a .out .now))
 room c = encode-room _ _ _ _ (start c .args .out .now) (c .before .before .frame-size .ensures) (c .before .refusal-of .ensures) (c .if1 .left)
@@ -30,7 +30,7 @@ same : (c : tie.After-put-line) → length (c .put-line .last .1 .1 .0) ≡ leng
 same c =
     let a = start (c .before .before) .args in
     let r = room (c .before .before) in
-    ap length (c .put-line .ensures) ∙ length-laid (lineOf (call (a .kind) (a .fields .now))) (a .out .now) (omega (arith, r .2, r .3))
+    ap length (c .put-line .ensures) ∙ length-laid (lineOf (rawCall (a .kind) (a .fields .now))) (a .out .now) (omega (arith, r .2, r .3))
 
 frame-size-requires : tie.Need-frame-size-requires
 frame-size-requires c κs = search needs
@@ -77,7 +77,7 @@ returns-2 c =
     let t = p .before .before in
     let r = room t in
     let a = start t .args in
-    let e : t .before .before .frame-size .result - 1 ≡ length (lineOf (call (a .kind) (a .fields .now))) = omega (arith, r .2) in
+    let e : t .before .before .frame-size .result - 1 ≡ length (lineOf (rawCall (a .kind) (a .fields .now))) = omega (arith, r .2) in
     encode-written _ _ _ _ _ (t .before .before .frame-size .ensures) (t .before .refusal-of .ensures) _ _ (t .if1 .left) refl refl
     (frame-there _ _ _ _ _ _ e (p .put-line .ensures) (b .put-byte .ensures))
 

@@ -5,7 +5,7 @@ use mathlib.Core.Logic.{inl, inr}
 use native.Mathlib.Omega.{arith}
 use borrow.Author.Needs.{needs}
 use lib.ListN.{length, length-map}
-use Rattle.levels.proofs.Reading.{Sought, sought-first, sought-again, sought-found, sought-end}
+use Rattle.levels.specs.Sought.{Sought, sought-first, sought-again, sought-found, sought-end}
 use Rattle.levels.proofs.Levels.declares.Statement.{statement}
 use Rattle.levels.proofs.Levels.declares.Tie as tie
 

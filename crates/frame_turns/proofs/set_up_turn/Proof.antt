@@ -1,10 +1,10 @@
 -- The fields of a set-up are its settings.
 use Rattle.frame_fields.specs.FrameFields.{fieldsOf}
-use Rattle.turns.proofs.Taking.{takes-call, set-up-is}
+use Rattle.frame_turns.proofs.Taking.{takes-call, set-up-is}
 use native.Mathlib.Omega.{arith}
 use borrow.Author.Needs.{needs}
-use Rattle.turns.proofs.set_up_turn.Statement.{statement}
-use Rattle.turns.proofs.set_up_turn.Tie as tie
+use Rattle.frame_turns.proofs.set_up_turn.Statement.{statement}
+use Rattle.frame_turns.proofs.set_up_turn.Tie as tie
 
 field-requires : tie.Need-field-requires
 field-requires c κs = search needs

@@ -6,9 +6,9 @@ use borrow.Author.Needs.{needs}
 use Rattle.rules.specs.Ledger.{Offer}
 use Rattle.frame_fields.specs.FrameFields.{fieldsOf}
 use Rattle.frame_fields.specs.Stepping.{offer-stepped}
-use Rattle.turns.proofs.Taking.{takes-call, move-is}
-use Rattle.turns.proofs.offer_turn.Statement.{statement}
-use Rattle.turns.proofs.offer_turn.Tie as tie
+use Rattle.frame_turns.proofs.Taking.{takes-call, move-is}
+use Rattle.frame_turns.proofs.offer_turn.Statement.{statement}
+use Rattle.frame_turns.proofs.offer_turn.Tie as tie
 
 steps-in-requires : tie.Need-steps-in-requires
 steps-in-requires c κs = offer-stepped _ (c .pre)

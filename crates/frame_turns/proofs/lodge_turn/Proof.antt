@@ -6,9 +6,9 @@ use borrow.Author.Needs.{needs}
 use Rattle.rules.specs.Ledger.{Lodge}
 use Rattle.frame_fields.specs.FrameFields.{fieldsOf}
 use Rattle.frame_fields.specs.Stepping.{lodge-stepped}
-use Rattle.turns.proofs.Taking.{takes-call, move-is}
-use Rattle.turns.proofs.lodge_turn.Statement.{statement}
-use Rattle.turns.proofs.lodge_turn.Tie as tie
+use Rattle.frame_turns.proofs.Taking.{takes-call, move-is}
+use Rattle.frame_turns.proofs.lodge_turn.Statement.{statement}
+use Rattle.frame_turns.proofs.lodge_turn.Tie as tie
 
 steps-in-requires : tie.Need-steps-in-requires
 steps-in-requires c κs = lodge-stepped _ (c .pre)

@@ -4,11 +4,11 @@ use mathlib.Core.Path.{refl, ap}
 use Rattle.format.specs.Fields.{fixed}
 use Rattle.rules.specs.Ledger.{Cancel, By}
 use Rattle.frame_fields.specs.FieldColumns.{below}
-use Rattle.turns.proofs.Taking.{takes-call}
+use Rattle.frame_turns.proofs.Taking.{takes-call}
 use native.Mathlib.Omega.{arith}
 use borrow.Author.Needs.{needs}
-use Rattle.turns.proofs.cancel_turn.Statement.{statement}
-use Rattle.turns.proofs.cancel_turn.Tie as tie
+use Rattle.frame_turns.proofs.cancel_turn.Statement.{statement}
+use Rattle.frame_turns.proofs.cancel_turn.Tie as tie
 
 byte-requires : tie.Need-byte-requires
 unfolding fixed

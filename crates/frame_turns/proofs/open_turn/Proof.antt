@@ -3,11 +3,11 @@ use mathlib.Core.Path.{refl, ap}
 use Rattle.format.specs.Fields.{fixed}
 use Rattle.rules.specs.Ledger.{Open}
 use Rattle.frame_fields.specs.FieldColumns.{below}
-use Rattle.turns.proofs.Taking.{takes-call}
+use Rattle.frame_turns.proofs.Taking.{takes-call}
 use native.Mathlib.Omega.{arith}
 use borrow.Author.Needs.{needs}
-use Rattle.turns.proofs.open_turn.Statement.{statement}
-use Rattle.turns.proofs.open_turn.Tie as tie
+use Rattle.frame_turns.proofs.open_turn.Statement.{statement}
+use Rattle.frame_turns.proofs.open_turn.Tie as tie
 
 word-requires : tie.Need-word-requires
 unfolding fixed

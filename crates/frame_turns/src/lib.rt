@@ -3,7 +3,7 @@ ghost use lib.ListN.{getD};
 ghost use Rattle.replies.specs.Orders.{Asks, setUpOf, registrationOf, registrationForOf, moveOf};
 ghost use Rattle.rules.specs.Ledger.{Offer, Lodge, Cancel, Open, By};
 ghost use Rattle.frame_fields.specs.FrameFields.{fieldsOf, Framed};
-ghost use Rattle.turns.specs.Turns.{Answers, Takes};
+ghost use Rattle.frame_turns.specs.Turns.{Answers, Takes};
 use auction::Answer;
 use auction::Auction;
 use frames::Frame;

@@ -13,8 +13,8 @@ use Rattle.replies.specs.Replies.{callKind, closingText, answerLine, replyTo}
 use Rattle.auction.specs.Called.{Called, setsUp, registers, registersFor}
 use Rattle.auction.specs.declared.Auction.{Auction}
 use Rattle.reply_sizes.specs.TextLaws.{Bare, plain-text}
-use Rattle.turns.specs.Turns.{Answers, Takes}
-use Rattle.turns.specs.declared.Turn.{Turn}
+use Rattle.frame_turns.specs.Turns.{Answers, Takes}
+use Rattle.frame_turns.specs.declared.Turn.{Turn}
 
 -- the engine's call is the order's
 pub takes-call : (c d : Call) (a next : Auction) (n : ℕ) (t : Turn) → c ≡ d → Bare (callKind d) → Called c a next (numberAlone n) → Answers (callKind d) next n t

@@ -6,11 +6,11 @@ use Rattle.rules.specs.Ledger.{Call}
 use Rattle.rules.specs.Rounds.{ledger}
 use Rattle.replies.specs.Orders.{Order}
 use Rattle.replies.specs.Replies.{replyTo}
-use Rattle.record_calls.specs.Calls.{asked}
+use Rattle.record_calls.specs.Calls.{askedCalls}
 use Rattle.auction.specs.Holds.{auctionOf}
 use Rattle.auction.specs.declared.Auction.{Auction}
 use Rattle.reply_sizes.specs.Texts.{textOf}
-use Rattle.turns.specs.declared.Turn.{Turn}
+use Rattle.frame_turns.specs.declared.Turn.{Turn}
 
 -- a turn that answers with a number alone
 pub record Answers (k : ℕ) (next : Auction) (n : ℕ) (t : Turn) : Type 0 where
@@ -20,4 +20,4 @@ pub record Answers (k : ℕ) (next : Auction) (n : ℕ) (t : Turn) : Type 0 wher
 
 pub record Takes (a : Auction) (o : Order) (t : Turn) : Type 0 where
   pub text : (cs : List Call) → a ≡ auctionOf (ledger cs) → textOf (t .reply) ≡ replyTo (ledger cs) o
-  pub next : (cs : List Call) → a ≡ auctionOf (ledger cs) → t .auction ≡ auctionOf (ledger (cs ++ asked o))
+  pub next : (cs : List Call) → a ≡ auctionOf (ledger cs) → t .auction ≡ auctionOf (ledger (cs ++ askedCalls o))
