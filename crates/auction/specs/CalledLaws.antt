@@ -5,5 +5,8 @@ use Rattle.rules.specs.Rounds.{Answered, numberAlone}
 use Rattle.auction.specs.declared.Auction.{Auction}
 use Rattle.auction.specs.Called.{Called}
 
-pub refused-stays : {c : Call} {a b : Auction} {r : Answered} → Called c a b r → (r .number ≡ 0 → ⊥) → (b ≡ a) × (r ≡ numberAlone (r .number))
-refused-stays s z = (s .same z, s .zero z)
+pub refused-stays : {c : Call} {a b : Auction} {r : Answered} → Called c a b r → (r .number ≡ 0 → ⊥) → b ≡ a
+refused-stays s = s .same
+
+pub refused-by-number : {c : Call} {a b : Auction} {r : Answered} → Called c a b r → (r .number ≡ 0 → ⊥) → r ≡ numberAlone (r .number)
+refused-by-number s = s .zero

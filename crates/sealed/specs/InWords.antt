@@ -1,9 +1,9 @@
 -- What the sealed auction's awards are, in the request's words (document 02, 13).
-use Prim.Native.Nat.{ℕ, _+_, _≤_, _<_}
+use Prim.Native.Nat.{ℕ, _+_, _≤_, _<_, min}
 use mathlib.Core.Path.{_≡_}
 use mathlib.Core.Logic.{_⊎_}
 use mathlib.Core.Bool.{Bool, true, _&&_}
-use mathlib.Core.List.{List, [], _∷_, map, List·Memᴰ}
+use mathlib.Core.List.{List, [], _∷_, _++_, map, List·Memᴰ}
 use lib.Dec.{eqb}
 use Rattle.numbers.specs.Lists.{total}
 use Rattle.numbers.specs.ListLaws.{Each}
@@ -29,6 +29,12 @@ pub record InWords (demand : ℕ) (b : Book) : Type 0 where
   pub order : InOrder b (turns b)
   -- the awards and what is left sum to the demand
   pub sum : total (awards demand b) + leftOver demand b ≡ demand
+  -- what is left at a turn, and the awards of those before it, sum to the demand
+  pub left :
+      (front : List ℕ) (k : ℕ) (behind : List ℕ) → turns b ≡ front ++ (k ∷ behind) → leftAtTurn demand b k + total (map (awardAt demand b) front) ≡ demand
+  -- each gets the lesser of its quantity and what is left, unless that is below its minimum
+  pub lesser :
+      (k : ℕ) → k < size b → offerAt b k .minimum ≤ leftAtTurn demand b k → awardAt demand b k ≡ min (offerAt b k .quantity) (leftAtTurn demand b k)
   -- an offer gets nothing exactly when less than its minimum is left at its turn
   pub nothing :
       (k : ℕ) → k < size b →

@@ -10,7 +10,7 @@ use Rattle.numbers.specs.Cases.{three-way, and-true, clash}
 use Rattle.numbers.specs.Lists.{all}
 use Rattle.numbers.specs.ListLaws.{all-true, map-intro}
 use Rattle.placing.specs.Numbers.{numbers-in}
-use Rattle.sealed.specs.Sealed.{Offer, Book, size, offerAt, places, offers, topPrice, longOk, offerOk, bookOk, precedence}
+use Rattle.sealed.specs.Sealed.{Offer, Book, size, offerAt, places, offers, topPrice, oldest, longOk, offerOk, bookOk, precedence}
 use Rattle.sealed.specs.InWords.{ofKind}
 
 -- ---- the bounds of an offer, and of each offer of a book
@@ -20,7 +20,7 @@ pub record OfferInBounds (o : Offer) : Type 0 where
   pub cheap : o .price ≤ topPrice
   pub some : 1 ≤ o .minimum
   pub within : o .minimum ≤ o .quantity
-  pub aged : o .age ≤ 20
+  pub aged : o .age ≤ oldest
 
 offer-in-bounds : (o : Offer) → offerOk o ≡ true → OfferInBounds o
 unfolding offerOk
@@ -36,7 +36,7 @@ offer-in-bounds o e =
       cheap = leb-true (o .price) topPrice (p .1);
       some = leb-true 1 (o .minimum) (t3 .1);
       within = leb-true (o .minimum) (o .quantity) (t4 .1);
-      aged = leb-true (o .age) 20 (t5 .1);
+      aged = leb-true (o .age) oldest (t5 .1);
     }
 
 module _ (b : Book) (ok : bookOk b ≡ true) where

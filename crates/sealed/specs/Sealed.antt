@@ -45,21 +45,29 @@ offers b = map (offerAt b) (places b)
 abbrev pub topPrice : ℕ
 topPrice = 1000000
 
+-- the most offers in a list
+abbrev pub mostOffers : ℕ
+mostOffers = 16
+
+-- the greatest age, in years
+abbrev pub oldest : ℕ
+oldest = 20
+
 abbrev pub isPrice : ℕ → Bool
 isPrice p = leb 1 p && leb p topPrice
 
--- one list's length for all four, at most 16
+-- one length for all four lists, within its bound
 unfoldable pub longOk : Book → Bool
-longOk b = leb (size b) 16 && eqb (length (b .quantities)) (size b) && eqb (length (b .minimums)) (size b) && eqb (length (b .ages)) (size b)
+longOk b = leb (size b) mostOffers && eqb (length (b .quantities)) (size b) && eqb (length (b .minimums)) (size b) && eqb (length (b .ages)) (size b)
 
--- quantities of 1 to 10^9, minimums of 1 to the quantity, ages of 0 to 20
+-- quantities of 1 to 10^9, minimums of 1 to the quantity, ages of 0 to the greatest
 unfoldable pub offerOk : Offer → Bool
-offerOk o = isPrice (o .price) && leb 1 (o .quantity) && leb (o .quantity) 1000000000 && leb 1 (o .minimum) && leb (o .minimum) (o .quantity) && leb (o .age) 20
+offerOk o = isPrice (o .price) && leb 1 (o .quantity) && leb (o .quantity) 1000000000 && leb 1 (o .minimum) && leb (o .minimum) (o .quantity) && leb (o .age) oldest
 
 unfoldable pub bookOk : Book → Bool
 bookOk b = longOk b && all offerOk (offers b)
 
--- 18 for more than 16 offers or a field out of bounds, the ceiling price and a demand over 10^11 among them; then 19 for an offered price above
+-- 18 for too many offers or a field out of bounds, the ceiling price and a demand over 10^11 among them; then 19 for an offered price above
 -- the ceiling
 unfoldable pub sealedNumber : ℕ → ℕ → Book → ℕ
 sealedNumber ceiling demand b =

@@ -1,22 +1,22 @@
 -- The sealed auction's awards are as the request says them, and they depend on the order in the list only among offers equal in age and price.
-use Prim.Native.Nat.{ℕ, _<_}
-use mathlib.Core.Path.{_≡_, refl, sym, ap, _∙_}
+use Prim.Native.Nat.{ℕ, _+_, _<_}
+use mathlib.Core.Path.{_≡_, refl, sym, ap, subst, _∙_}
 use mathlib.Core.Logic.{inl, inr, ⊎-elim}
 use mathlib.Core.Bool.{true}
-use mathlib.Core.List.{List, [], _∷_, map, map-map, List·Memᴰ·head, List·Memᴰ·tail}
+use mathlib.Core.List.{List, [], _∷_, _++_, map, map-map, List·Memᴰ·head, List·Memᴰ·tail}
 use native.Mathlib.Omega.{arith}
 use Rattle.numbers.specs.Lists.{keep, total}
 use Rattle.numbers.specs.ListLaws.{Each}
 use Rattle.choices.specs.Search.{byFalling}
 use Rattle.choices.specs.Falling.{map-falling, total-any}
-use Rattle.choices.specs.Pairwise.{Pairwise}
+use Rattle.choices.specs.Pairwise.{Pairwise, Distinct}
 use Rattle.exchanges.specs.Exchanges.{SameOfEach}
 use Rattle.exchanges.specs.ExchangeLaws.{exchanged}
-use Rattle.sealed.specs.Sealed.{Offer, Book, size, offerAt, places, offers, offerOk, bookOk, precedence, turns, leftAtTurn, awardAt, awards, leftOver}
+use Rattle.sealed.specs.Sealed.{Offer, Book, size, offerAt, places, offers, offerOk, bookOk, precedence, turns, awarded, leftBefore, leftAtTurn, awardAt, awards, leftOver}
 use Rattle.sealed.specs.InWords.{TakenBefore, InOrder, InWords, ofKind, awardedOffers, AnyListOrder}
 use Rattle.sealed.specs.Precedence.{offers-ok, bounds-at, ranks-higher, ranks-equal, of-kind, kind-once, kind-ranks, kinds-apart}
 use Rattle.sealed.specs.Sorting.{Ahead, keep-falling, falling-exchanged}
-use Rattle.sealed.specs.Taken.{taken, remaining, awarded-range, awarded-nothing, taken-sum, behind-is, taken-is}
+use Rattle.sealed.specs.Taken.{taken, remaining, awarded-range, awarded-lesser, awarded-nothing, taken-sum, behind-is, taken-is, before-sum}
 use Rattle.sealed.specs.ServedLaws.{rank, turns-any, turns-within, turns-all, turns-order, turns-distinct}
 
 -- ---- the offers as they are taken
@@ -46,6 +46,15 @@ module _ (demand : ℕ) (b : Book) where
       turns-any b (total-any (awardAt demand b))
       ∙ ap total (sym (map-map (λ (t : Offer × ℕ). t .1) awardedAt (turns b)) ∙ ap (map (λ (t : Offer × ℕ). t .1)) taken-turns)
 
+  left-before :
+      (front : List ℕ) (k : ℕ) (behind : List ℕ) → turns b ≡ front ++ (k ∷ behind) → leftAtTurn demand b k + total (map (awardAt demand b) front) ≡ demand
+  unfolding awardAt leftAtTurn
+  left-before front k behind e =
+      subst
+      (λ (ks : List ℕ). leftBefore (offerAt b) demand k ks + total (map (λ j. awarded (leftBefore (offerAt b) demand j ks) (offerAt b j)) front) ≡ demand)
+      (sym e)
+      (before-sum (offerAt b) demand front k behind (subst Distinct e (turns-distinct b)))
+
 -- ---- in words
 
 module _ (b : Book) (ok : bookOk b ≡ true) where
@@ -69,6 +78,8 @@ in-words demand b ok = record {
   every = λ k. (turns-all b k, turns-within b k);
   order = in-order b ok (turns b) (turns-within b) (turns-order b);
   sum = omega (arith, total-is demand b, left-is demand b, taken-sum demand (queue b));
+  left = left-before demand b;
+  lesser = λ k h. awarded-lesser (leftAtTurn demand b k) (offerAt b k) (bounds-at b ok k h .within);
   nothing = λ k h. let i = bounds-at b ok k h in awarded-nothing (leftAtTurn demand b k) (offerAt b k) (i .some) (i .within);
   range = λ k h. awarded-range (leftAtTurn demand b k) (offerAt b k);
 }

@@ -14,7 +14,7 @@ use Rattle.numbers.specs.ListLaws.{Each}
 use Rattle.choices.specs.Falling.{AnyOrder, falling-any, each-any}
 use Rattle.choices.specs.Pairwise.{Pairwise, Distinct, pairwise-weaken}
 use Rattle.placing.specs.Numbers.{in-numbers, numbers-in, numbers-long, numbers-rise, map-numbers-nth}
-use Rattle.sealed.specs.Sealed.{Offer, Book, size, offerAt, places, precedence, turns, awarded, leftBefore, leftAtTurn, awardAt, awards}
+use Rattle.sealed.specs.Sealed.{Offer, Book, size, offerAt, places, mostOffers, precedence, turns, awarded, leftBefore, leftAtTurn, awardAt, awards}
 use Rattle.sealed.specs.Served.{served}
 use Rattle.sealed.specs.Sorting.{Ahead, falling-order}
 
@@ -129,5 +129,5 @@ module _ (w demand : ℕ) (b : Book) (fits : size b ≤ w) where
       (entered-long ∙ sym (padded-long w (awards demand b) (omega (arith, awards-long demand b))))
       (λ i l. ⊎-elim (λ h. entered-behind i h (omega (arith, entered-long))) (λ h. entered-at i h) (le-or-lt (size b) i))
 
-pub served-awards : (demand : ℕ) (b : Book) → size b ≤ 16 → served (offerAt b) demand (turns b) (replicate 16 0) ≡ padded 16 (awards demand b)
-served-awards demand b h = served-padded 16 demand b h
+pub served-awards : (demand : ℕ) (b : Book) → size b ≤ mostOffers → served (offerAt b) demand (turns b) (replicate mostOffers 0) ≡ padded mostOffers (awards demand b)
+served-awards demand b h = served-padded mostOffers demand b h

@@ -2,7 +2,7 @@
 use Prim.Native.Nat.{ℕ, _+_, _-_, _≤_, _<_, min}
 use mathlib.Core.Path.{_≡_, refl, ap₂, _∙_}
 use mathlib.Core.Logic.{_⊎_, inl, inr, ⊎-elim}
-use mathlib.Core.List.{List, [], _∷_, map}
+use mathlib.Core.List.{List, [], _∷_, _++_, map, List·Memᴰ·head, Memᴰ·append-left, Memᴰ·append-right}
 use native.Mathlib.Omega.{arith}
 use borrow.Author.Tests.{lt-ltb, le-ltb, eq-eqb, ne-eqb}
 use Rattle.numbers.specs.Cases.{le-or-lt}
@@ -40,6 +40,9 @@ module _ (left : ℕ) (o : Offer) where
   pub awarded-range : (awarded left o ≡ 0) ⊎ ((o .minimum ≤ awarded left o) × (awarded left o ≤ o .quantity))
   awarded-range = ⊎-elim (λ h. inl (h .0)) (λ h. inr (omega (arith, h .0, h .1), omega (arith, h .0))) awarded-cases
 
+  pub awarded-lesser : o .minimum ≤ o .quantity → o .minimum ≤ left → awarded left o ≡ min (o .quantity) left
+  awarded-lesser w l = ⊎-elim (λ h. absurd (omega (arith, h .1))) (λ h. h .0) awarded-cases
+
   module _ (some : 1 ≤ o .minimum) (within : o .minimum ≤ o .quantity) where
     pub awarded-nothing : (awarded left o ≡ 0 → left < o .minimum) × (left < o .minimum → awarded left o ≡ 0)
     awarded-nothing = (
@@ -74,3 +77,17 @@ module _ (f : ℕ → Offer) where
       ks
       (λ j m. rw (ne-eqb k j (d .0 j m)))
       ∙ taken-is (left - awarded left (f k)) ks (d .1))
+
+  -- what is left at a turn, and the awards of those before it, sum to what there was
+  pub before-sum :
+      (left : ℕ) (front : List ℕ) (k : ℕ) (behind : List ℕ) → Distinct (front ++ (k ∷ behind)) →
+      let ks = front ++ (k ∷ behind) in
+      leftBefore f left k ks + total (map (λ j. awarded (leftBefore f left j ks) (f j)) front) ≡ left
+  unfolding leftBefore total
+  before-sum left [] k behind d = rw (eq-eqb k k refl) (omega arith)
+  before-sum left (j ∷ front) k behind d =
+      let ks = front ++ (k ∷ behind) in
+      let later = left - awarded left (f j) in
+      let e : map (λ i. awarded (leftBefore f left i (j ∷ ks)) (f i)) front ≡ map (λ i. awarded (leftBefore f later i ks) (f i)) front =
+      map-same _ _ front (λ i m. rw (ne-eqb j i (d .0 i (Memᴰ·append-left (k ∷ behind) m)))) in
+      rw (ne-eqb j k (d .0 k (Memᴰ·append-right front (List·Memᴰ·head refl))), eq-eqb j j refl, e) (omega (arith, before-sum later front k behind (d .1), awarded-le left (f j)))

@@ -9,7 +9,7 @@ use Rattle.rules.specs.Rounds.{ledger, Answered, answersFrom, answers}
 use Rattle.cancelling.specs.TakenBack.{others, answersToOthers, passage, TakenBack, taken, neverMade}
 use Rattle.cancelling.specs.TakenBackLaws.{as-if-never-made}
 use Rattle.auction.specs.declared.Auction.{Auction}
-use Rattle.theorem.specs.EveryList.{Run, reached}
+use Rattle.theorem.specs.EveryList.{Run, run-reached}
 use Rattle.theorem.specs.EqualAuctions.{EqualAuctions, equal-auctions, in-three}
 
 -- what was answered before the offer, to others from the offer to the cancellation, and behind it
@@ -28,17 +28,19 @@ pub record Cancelled (n : ℕ) (ds : List Call) (ps qs : List ℕ) (between rest
       {rs rs′ : List Answered} {a a′ : Auction} → Run (taken n ds ps qs between rest) rs a → Run (neverMade n ds ps qs between rest) rs′ a′ →
       (rs ≡ heard n ds ps qs between rest) × (rs′ ≡ heardByOthers n ds ps qs between rest)
 
-pub cancelled :
-    (n : ℕ) (ds : List Call) (ps qs : List ℕ) (between : List Call) → TakenBack n ds ps qs between →
-    (rest : List Call) → Cancelled n ds ps qs between rest
+abbrev pub CancellingStated : Type 1
+CancellingStated =
+    (n : ℕ) (ds : List Call) (ps qs : List ℕ) (between : List Call) → TakenBack n ds ps qs between → (rest : List Call) → Cancelled n ds ps qs between rest
+
+pub cancelled : CancellingStated
 cancelled n ds ps qs between t rest =
     let k = as-if-never-made n ds ps qs between t rest in
     let all = passage n ps qs between in
     record {
       equal = equal-auctions _ _ (k .ledgers);
       answered = λ w v. (
-        reached w .1 ∙ in-three ds all rest,
-        reached v .1
+        run-reached w .1 ∙ in-three ds all rest,
+        run-reached v .1
             ∙ in-three ds (others n all) rest
             ∙ ap₂ (λ (xs ys : List Answered). answers ds ++ (xs ++ ys)) (sym (k .meanwhile)) (sym (k .later)),
       );

@@ -6,12 +6,13 @@ pub mod ReadBack
 pub mod Runs
 pub mod Untouched
 pub mod SealedStated
+pub mod FramesStated
 pub mod HallRuns
 pub mod SeatsStated
 pub mod HallRunsExist
 pub mod Settling
 pub mod Readable
-pub mod Reading
+pub mod ReplyDigits
 pub mod Figures
 pub mod ReadableLaws
 pub mod EqualAuctions

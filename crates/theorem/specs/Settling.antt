@@ -11,15 +11,26 @@ use denote.Triple.Clauses.{AtExit}
 use borrow.Fn.World.{ArgsD}
 use borrow.Fn.Kinds.{endedOf}
 use Rattle.rules.specs.Ledger.{Call, Ledger}
-use Rattle.rules.specs.Rounds.{ledger, Answered}
+use Rattle.rules.specs.Rounds.{ledger, Answered, answers}
 use Rattle.reachable.specs.AcceptedCalls.{acceptedCalls}
+use Rattle.seats.specs.Seats.{Seated, hallLedger, hallAnswers}
+use Rattle.auction.specs.Holds.{auctionOf}
+use Rattle.hall.specs.Through.{hallOf}
 use Rattle.settling.specs.declared.Settled.{Settled}
 use Rattle.settling.proofs.settle.{signature}
 use Rattle.settling.proofs.settle.Kinds as kinds
 use Rattle.settling.proofs.settle.Reads as settle
 use Rattle.settling.proofs.settle.Statement as settle-states
 use Rattle.settling.proofs.settle.Met as settle-met
-use Rattle.theorem.specs.EveryList.{Run, reached, EveryList, every-list}
+use Rattle.theorem.specs.EveryList.{Run, run-reached, EveryList, every-list}
+use Rattle.theorem.specs.Untouched.{Untouched, untouched}
+use Rattle.theorem.specs.Runs.{runs}
+use Rattle.theorem.specs.HallRuns.{HallRun}
+use Rattle.theorem.specs.HallRunsExist.{hall-runs}
+use Rattle.theorem.specs.Readable.{Readable}
+use Rattle.theorem.specs.ReadableLaws.{readable}
+use Rattle.theorem.specs.FramesStated.{FramesStated, frames-stated}
+use Rattle.theorem.specs.Cancelled.{CancellingStated, cancelled}
 use Rattle.theorem.specs.Previewed.{PreviewStated, preview-stated}
 use Rattle.theorem.specs.SupplyCurves.{CurveStated, curve-stated}
 use Rattle.theorem.specs.PriceForced.{ForcingStated, forcing-stated}
@@ -50,6 +61,17 @@ pub record Settling (M : Type 1) : Type 2 where
       acceptedCalls cs ≡ acceptedCalls cs′ → x .1 .0 ≡ x′ .1 .0 → now (x .1 .1 .0) ≡ now (x′ .1 .1 .0) →
       Run cs rs (x .0) → settle.Post κs x r y → Run cs′ rs′ (x′ .0) → settle.Post κs′ x′ r′ y′ →
       (r ≡ r′) × (now (y .1 .1 .0) ≡ now (y′ .1 .1 .0))
+  -- WHAT NO CALL TOUCHES (demand 1), on every value of the struct, reached or not
+  pub untouched : Untouched
+  -- for every list of calls, and of calls through seats, there is a run
+  pub runs : (cs : List Call) → Run cs (answers cs) (auctionOf (ledger cs))
+  pub hall-runs : (ms : List Seated) → HallRun ms (hallAnswers ms) (hallOf (hallLedger ms))
+  -- REPLIES CAN BE READ (document 01, Frames) and FRAMES OUT AS WELL AS IN (document 02, 2): no figure of a reply is cut to its width, and what is
+  -- written reads back
+  pub readable : (cs : List Call) → Readable (ledger cs)
+  pub frames : FramesStated M
+  -- TAKING BACK AN OFFER (document 02, 7): a cancelled offer is as if never made
+  pub cancelling : CancellingStated
   -- LOOKING BEFORE CLOSING (document 02, 6), SUPPLY CURVE BESIDE THE BOOK (document 02, 9) and WHO CAN FORCE THE PRICE (document 02, 11): what a
   -- preview, a reading and the outcome forced from the auction that the list reaches say is the ledger's
   pub preview : PreviewStated
@@ -64,7 +86,7 @@ pub record Settling (M : Type 1) : Type 2 where
 
 module _ {cs : List Call} {rs : List Answered} (κs : Lfts 1) (x : ArgsD signature κs) (r : Settled) (y : AtExit (endedOf 1 kinds.ps kinds.r) κs) where
   as-stated : Run cs rs (x .0) → settle.Post κs x r y → Stated (ledger cs) (x .1 .0) (now (x .1 .1 .0)) (now (y .1 .1 .0)) r
-  as-stated w s = stated cs (x .0) (x .1 .0) (now (x .1 .1 .0)) (now (y .1 .1 .0)) r (reached w .0) s
+  as-stated w s = stated cs (x .0) (x .1 .0) (now (x .1 .1 .0)) (now (y .1 .1 .0)) r (run-reached w .0) s
 
 pub settling : {M : Type 1} → Settling M
 settling = record {
@@ -74,6 +96,12 @@ settling = record {
   determines = determined;
   by-accepted-calls = λ {cs} {cs′} κs κs′ x x′ r r′ y y′ e f g w s w′ s′.
       by-accepted cs cs′ _ _ _ _ _ _ r r′ e f g (as-stated κs x r y w s) (as-stated κs′ x′ r′ y′ w′ s′);
+  untouched = untouched;
+  runs = runs;
+  hall-runs = hall-runs;
+  readable = readable;
+  frames = frames-stated;
+  cancelling = cancelled;
   preview = preview-stated;
   curve = curve-stated;
   forcing = forcing-stated;

@@ -15,7 +15,7 @@ use borrow.Fn.Kinds.{endedOf}
 use Rattle.rules.specs.Ledger.{Call}
 use Rattle.rules.specs.Rounds.{Answered, numberAlone}
 use Rattle.auction.specs.declared.Auction.{Auction}
-use Rattle.auction.specs.CalledLaws.{refused-stays}
+use Rattle.auction.specs.CalledLaws.{refused-stays, refused-by-number}
 use Rattle.settling.specs.Settles.{refusedWith}
 use Rattle.settling.specs.declared.Settled.{Settled}
 use Rattle.settling.proofs.settle.{signature}
@@ -56,7 +56,7 @@ module _ (s : seats.Seat) (c : Call) (h k : Hall) (r : Answered) (w : CalledThro
       go true e =
           let q = refused-stays (w .made e) z in
           let o : k .excess ≡ h .excess = w .excess e ∙ refused-excess c r (h .excess) z in
-          ((λ i. record { auction = q .0 i; excess = o i }), q .1)
+          ((λ i. record { auction = q i; excess = o i }), refused-by-number (w .made e) z)
       go false e = let q = w .barred e in (q .0, q .1 ∙ ap (λ (y : Answered). numberAlone (y .number)) (sym (q .1)))
 
 module _ (s : seats.Seat) (h : Hall) (limit : ℕ) (old new : List ℕ) (r : Settled) (w : SettlesThrough s h limit old new r) (z : r .number ≡ 0 → ⊥) where
@@ -69,7 +69,7 @@ module _ (s : seats.Seat) (h : Hall) (limit : ℕ) (old new : List ℕ) (r : Set
 
 pub untouched : Untouched
 untouched = record {
-  calls = λ m. refused-stays (by-contract m);
+  calls = λ m z. (refused-stays (by-contract m) z, refused-by-number (by-contract m) z);
   refused-settling = λ κs x r y s. s .same;
   behind-records = λ κs x r y s. s .behind;
   hall-calls = λ m z. hall-stays _ _ _ _ _ (by-hall-contract m) z;
