@@ -11,6 +11,7 @@ use Rattle.numbers.specs.Lists.{padded}
 use Rattle.rules.specs.Ledger.{Call, Close, Ledger}
 use Rattle.rules.specs.Rounds.{ledger, Answered}
 use Rattle.rules.specs.Settling.{Settlement, settlingNumber, settlement}
+use Rattle.format.specs.Fields.{rawCall}
 use Rattle.replies.specs.Orders.{Malformed, Asks, Settle, orderOf, ordered}
 use Rattle.replies.specs.Lengths.{six, few}
 use Rattle.replies.specs.Replies.{valuesOf, closingFields, closingText, settlingText, answerLine, awardRoom, replyTo}
@@ -75,7 +76,7 @@ takes-settling a limit old s t room w ea holds = record {
 
 module _ (a : Auction) (f : Frame) (t : Turn) where
   -- by its kind
-  pub ordered-as : (k : ℕ) → (k ≡ 0 → ⊥) → f .kind ≡ k → Takes a (orderOf (record { kind = k; fields = fieldsOf f })) t → Takes a (ordered (callIn f)) t
+  pub ordered-as : (k : ℕ) → (k ≡ 0 → ⊥) → f .kind ≡ k → Takes a (orderOf (rawCall k (fieldsOf f))) t → Takes a (ordered (callIn f)) t
   unfolding ordered fieldsOf
   ordered-as k z e w =
       let o : Takes a (orderOf (heldFrame f)) t = rw (sym e) at w in

@@ -7,8 +7,8 @@ ghost use Rattle.frame_fields.specs.FrameFields.{fieldsOf, Framed, Reads};
 ghost use Rattle.frame_turns.specs.Turns.{Takes};
 use auction::Auction;
 use frame_turns::Turn;
-use frame_turns::UNSETTLED;
 use frames::Frame;
+use settling::UNSETTLED;
 
 fn malformed(auction: Auction) -> Turn
     ensures { λ r. ⌜ Takes auction Malformed r ⌝ }

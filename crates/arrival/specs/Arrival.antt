@@ -15,9 +15,9 @@ use Rattle.replies.specs.Orders.{Order, Malformed, Asks, Settle, orderIn}
 use Rattle.replies.specs.Replies.{replyTo, ledgerAfter, replies}
 
 -- each with what it is answered, one behind the other
-unfoldable pub told : {S A B : Type 0} → (S → A → S) → (S → A → B) → S → List A → List (A × B)
-told next says s [] = []
-told next says s (x ∷ xs) = (x, says s x) ∷ told next says (next s x) xs
+unfoldable pub withAnswers : {S A B : Type 0} → (S → A → S) → (S → A → B) → S → List A → List (A × B)
+withAnswers next says s [] = []
+withAnswers next says s (x ∷ xs) = (x, says s x) ∷ withAnswers next says (next s x) xs
 
 -- ---- calls
 
@@ -35,18 +35,18 @@ pub record Reordered (ds es : List Call) : Type 0 where
   pub moves′ : all isMove es ≡ true
   pub each : SameOfEach own ds es
 
-abbrev pub toldFrom : Ledger → List Call → List (Call × Answered)
-toldFrom l cs = told step answer l cs
+abbrev pub answeredFrom : Ledger → List Call → List (Call × Answered)
+answeredFrom l cs = withAnswers step answer l cs
 
 -- all of the calls are accepted, from the ledger l on
 abbrev pub allAccepted : Ledger → List Call → Bool
-allAccepted l cs = all (λ t. eqb (t .1 .number) 0) (toldFrom l cs)
+allAccepted l cs = all (λ t. eqb (t .1 .number) 0) (answeredFrom l cs)
 
 -- from the ledger l on, both lists lead to one ledger; each developer's calls get the same answers; and all of the one are accepted exactly
 -- when all of the other are
 pub record Alike (l : Ledger) (ds es : List Call) : Type 0 where
   pub ledgers : stepAll l ds ≡ stepAll l es
-  pub answered : SameOfEach (λ n t. own n (t .0)) (toldFrom l ds) (toldFrom l es)
+  pub answered : SameOfEach (λ n t. own n (t .0)) (answeredFrom l ds) (answeredFrom l es)
   pub accepted : allAccepted l ds ≡ allAccepted l es
 
 -- ---- lines of a record
@@ -73,7 +73,7 @@ pub record ReorderedLines (ds es : List (List ℕ)) : Type 0 where
 
 -- each line with its reply
 abbrev pub repliedFrom : Ledger → List (List ℕ) → List (List ℕ × List ℕ)
-repliedFrom l ls = told (λ m line. ledgerAfter m (orderIn line)) (λ m line. replyTo m (orderIn line)) l ls
+repliedFrom l ls = withAnswers (λ m line. ledgerAfter m (orderIn line)) (λ m line. replyTo m (orderIn line)) l ls
 
 abbrev pub replied : List ℕ → List (List ℕ × List ℕ)
 replied bytes = repliedFrom start (lines bytes)

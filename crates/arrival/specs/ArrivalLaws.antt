@@ -15,7 +15,7 @@ use Rattle.cancelling.specs.Entries.{apart, same-number, move-beside}
 use Rattle.exchanges.specs.Exchanges.{Exchanged}
 use Rattle.exchanges.specs.ExchangeLaws.{exchanged, exchanged-same, exchanged-all}
 use Rattle.arrival.specs.Arrival.{isMove, Reordered, Alike}
-use Rattle.arrival.specs.Told.{ending, Free, exchanged-ending, exchanged-told}
+use Rattle.arrival.specs.WithAnswers.{ending, Free, exchanged-ending, exchanged-with-answers}
 
 -- ---- two neighbours
 
@@ -90,7 +90,7 @@ ending-steps l (c ∷ cs) = ending-steps (step l c) cs
 pub arrival : (l : Ledger) (ds es : List Call) → Reordered ds es → Alike l ds es
 arrival l ds es h =
     let x : Exchanged own ds es = exchanged own own-once isMove someones ds es (h .moves) (h .moves′) (h .each) in
-    let t = exchanged-told step answer own own-once calls-free l x in
+    let t = exchanged-with-answers step answer own own-once calls-free l x in
     record {
       ledgers = sym (ending-steps l ds) ∙ exchanged-ending step answer own own-once calls-free l x ∙ ending-steps l es;
       answered = exchanged-same (λ n p. own n (p .0)) (λ p. own-once (p .0)) t;

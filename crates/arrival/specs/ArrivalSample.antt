@@ -6,16 +6,14 @@ use mathlib.Core.List.{List, [], _∷_, map}
 use lib.ListN.{length, getD}
 use native.Mathlib.Omega.{arith}
 use borrow.Author.Tests.{ne-eqb}
-use Rattle.numbers.specs.Lists.{oneTo, keep, total, greatest, lastOr, any, all}
-use Rattle.curve.specs.Demand.{dem, inBounds}
+use Rattle.numbers.specs.Lists.{keep, all}
 use Rattle.rules.specs.Ledger.{Offer, Cancel, Own, Call, SetUp, Register, Open, By, Close, made}
-use Rattle.rules.specs.Clearing.{quantityAfter, high, developersOf, greatestOf, supply, covered}
-use Rattle.rules.specs.Refusals.{settingsOk, numbersOk, rising, levelsOk, mayJoin, declarationOk, openingPrice, closingOk, startCovered, isOfKind, falling, pricesOk, lowering, moveNumber, number}
-use Rattle.rules.specs.Rounds.{steps, moved, accepted, step, stepAll, ledger, granted, answer}
+use Rattle.rules.specs.Rounds.{stepAll, ledger}
+use Rattle.rules.specs.Computing.{callNumbers}
 use Rattle.cancelling.specs.TakenBack.{own}
 use Rattle.replies.specs.Orders.{Asks}
 use Rattle.replies.specs.WrittenOrders.{paired, rawOf}
-use Rattle.arrival.specs.Arrival.{told, isMove, Reordered, toldFrom}
+use Rattle.arrival.specs.Arrival.{withAnswers, isMove, Reordered, answeredFrom}
 
 -- developer 1 an existing plant, 2 and 3 new ones; a round is open
 abbrev opened : List Call
@@ -53,7 +51,7 @@ both = record { moves = refl; moves′ = refl; each = each }
         rw (ne-eqb 1 m (λ e. omega arith), ne-eqb 2 m (λ e. omega arith), ne-eqb 3 m (λ e. omega arith)) refl
 
 abbrev numbers : List Call → List ℕ
-numbers cs = map (λ t. t .1 .number) (toldFrom (ledger opened) cs)
+numbers cs = map (λ t. t .1 .number) (answeredFrom (ledger opened) cs)
 
 abbrev Orders : Type 0
 Orders =
@@ -64,10 +62,7 @@ Orders =
     × (stepAll (ledger opened) (nothing 2 ∷ partly ∷ []) .developers 2 .offer ≡ made [])
 
 pub orders : Orders
-unfolding oneTo keep total greatest lastOr any all dem inBounds
-    quantityAfter high developersOf greatestOf supply covered
-    settingsOk numbersOk rising levelsOk mayJoin declarationOk openingPrice closingOk startCovered isOfKind falling pricesOk lowering moveNumber number
-    steps moved accepted step stepAll ledger granted answer told
+unfolding callNumbers withAnswers
 orders = (refl, refl, refl, refl, refl)
 
 -- the number of a call's steps

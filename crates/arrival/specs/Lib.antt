@@ -1,5 +1,5 @@
 pub mod Arrival
-pub mod Told
+pub mod WithAnswers
 pub mod ArrivalLaws
 pub mod LineLaws
 pub mod ArrivalSample

@@ -13,8 +13,8 @@ use Rattle.replies.specs.Orders.{Order, Malformed, Asks, Settle, orderIn}
 use Rattle.replies.specs.Replies.{callKind, closingText, answerLine, replyTo, ledgerAfter, repliesFrom, replies}
 use Rattle.exchanges.specs.Exchanges.{Exchanged, unchanged, neighbours, behind, further}
 use Rattle.exchanges.specs.ExchangeLaws.{exchanged, exchanged-same}
-use Rattle.arrival.specs.Arrival.{told, orderIsMove, orderOwn, lineOwn, ReorderedLines, repliedFrom, replied, RepliedAlike}
-use Rattle.arrival.specs.Told.{ending, told-append, Free, exchanged-ending, exchanged-told}
+use Rattle.arrival.specs.Arrival.{withAnswers, orderIsMove, orderOwn, lineOwn, ReorderedLines, repliedFrom, replied, RepliedAlike}
+use Rattle.arrival.specs.WithAnswers.{ending, with-answers-append, Free, exchanged-ending, exchanged-with-answers}
 use Rattle.arrival.specs.ArrivalLaws.{own-once, someones, calls-free}
 
 -- ---- the replies are those of the lines, one behind the other
@@ -23,7 +23,7 @@ abbrev repliesOf : List (List ℕ × List ℕ) → List ℕ
 repliesOf ts = flatten (map (λ t. t .1) ts)
 
 from-replied : (l : Ledger) (ls : List (List ℕ)) → repliesFrom l ls ≡ repliesOf (repliedFrom l ls)
-unfolding repliesFrom told flatten
+unfolding repliesFrom withAnswers flatten
 from-replied l [] = refl
 from-replied l (line ∷ rest) = ap (λ (bytes : List ℕ). replyTo l (orderIn line) ++ bytes) (from-replied (ledgerAfter l (orderIn line)) rest)
 
@@ -31,10 +31,10 @@ pub replies-replied : (bytes : List ℕ) → replies bytes ≡ flatten (map (λ 
 unfolding replies
 replies-replied bytes = from-replied start (lines bytes)
 
-asked-told : {S A B : Type 0} (next : S → A → S) (says : S → A → B) (s : S) (xs : List A) → map (λ t. t .0) (told next says s xs) ≡ xs
-unfolding told
-asked-told next says s [] = refl
-asked-told next says s (x ∷ xs) = ap (λ (ys : List _). x ∷ ys) (asked-told next says (next s x) xs)
+asked-with-answers : {S A B : Type 0} (next : S → A → S) (says : S → A → B) (s : S) (xs : List A) → map (λ t. t .0) (withAnswers next says s xs) ≡ xs
+unfolding withAnswers
+asked-with-answers next says s [] = refl
+asked-with-answers next says s (x ∷ xs) = ap (λ (ys : List _). x ∷ ys) (asked-with-answers next says (next s x) xs)
 
 -- ---- two neighbours
 
@@ -75,7 +75,7 @@ in-three : (l : Ledger) (bs ds rest : List (List ℕ)) →
     repliedFrom l (bs ++ (ds ++ rest))
     ≡ repliedFrom l bs ++ (repliedFrom (ending next says l bs) ds ++ repliedFrom (ending next says (ending next says l bs) ds) rest)
 in-three l bs ds rest =
-    told-append next says l bs (ds ++ rest) ∙ ap (λ (ts : List (List ℕ × List ℕ)). repliedFrom l bs ++ ts) (told-append next says (ending next says l bs) ds rest)
+    with-answers-append next says l bs (ds ++ rest) ∙ ap (λ (ts : List (List ℕ × List ℕ)). repliedFrom l bs ++ ts) (with-answers-append next says (ending next says l bs) ds rest)
 
 -- exchanging keeps the length
 three-long : (a b c : List ℕ) → length (a ++ (b ++ c)) ≡ length (b ++ (a ++ c))
@@ -111,8 +111,8 @@ module _ (bytes bytes′ : List ℕ) (bs ds es rest : List (List ℕ)) (p : line
   swapped : Exchanged lineOwn ds es
   swapped = exchanged lineOwn (λ line. order-once (orderIn line)) (λ line. orderIsMove (orderIn line)) (λ line. order-someones (orderIn line)) ds es (h .moves) (h .moves′) (h .each)
 
-  swapped-told : Exchanged (λ n t. lineOwn n (t .0)) (heard ds) (heard es)
-  swapped-told = exchanged-told next says lineOwn (λ line. order-once (orderIn line)) lines-free l swapped
+  swapped-answers : Exchanged (λ n t. lineOwn n (t .0)) (heard ds) (heard es)
+  swapped-answers = exchanged-with-answers next says lineOwn (λ line. order-once (orderIn line)) lines-free l swapped
 
   abbrev later : List (List ℕ × List ℕ)
   later = repliedFrom (ending next says l ds) rest
@@ -133,10 +133,10 @@ module _ (bytes bytes′ : List ℕ) (bs ds es rest : List (List ℕ)) (p : line
     behind = later;
     parts = first-parts;
     parts′ = second-parts;
-    asked = (asked-told next says l ds, asked-told next says l es);
-    each = exchanged-same (λ n t. lineOwn n (t .0)) (λ t. order-once (orderIn (t .0))) swapped-told;
+    asked = (asked-with-answers next says l ds, asked-with-answers next says l es);
+    each = exchanged-same (λ n t. lineOwn n (t .0)) (λ t. order-once (orderIn (t .0))) swapped-answers;
     long =
         ap length (replies-replied bytes ∙ ap repliesOf first-parts)
-        ∙ midst-long (repliedFrom start bs) (heard ds) (heard es) later (exchanged-long swapped-told)
+        ∙ midst-long (repliedFrom start bs) (heard ds) (heard es) later (exchanged-long swapped-answers)
         ∙ sym (ap length (replies-replied bytes′ ∙ ap repliesOf second-parts));
   }

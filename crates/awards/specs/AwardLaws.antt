@@ -11,7 +11,7 @@ use Rattle.numbers.specs.ListLaws.{Each, in-keep, in-map, length-one-to, map-sa
 use Rattle.rules.specs.Ledger.{Ledger}
 use Rattle.rules.specs.Clearing.{high, low, greatestOf, supply, demandAt, covered, closingPrice}
 use Rattle.choices.specs.Choices.{covering, IsBest}
-use Rattle.choices.specs.Search.{lowOf, lowest}
+use Rattle.choices.specs.Search.{lowOf, lowestTotal}
 use Rattle.rules.specs.Award.{row, rows, admissible, coveringChoices, keptChoices, award}
 use Rattle.sound.specs.Sound.{started, Sound}
 use Rattle.clearing.specs.ClosingPrice.{closing-price}
@@ -45,9 +45,9 @@ module _ (l : Ledger) (p : ℕ) (s : Sound l) where
   unfolding admissible rows
   lows-admissible = in-choices (rows l p) _ .1 (one-of-each-map (row l p) (greatestOf (low p) l) (oneTo 32) (λ k m. low-in-row l p k s))
 
-  lowest-is : lowest (rows l p) ≡ supply (low p) l
-  unfolding lowest rows supply
-  lowest-is = ap total (map-map lowOf (row l p) (oneTo 32) ∙ map-same _ _ (oneTo 32) (λ k m. row-first l p k s))
+  lowest-total-is : lowestTotal (rows l p) ≡ supply (low p) l
+  unfolding lowestTotal rows supply
+  lowest-total-is = ap total (map-map lowOf (row l p) (oneTo 32) ∙ map-same _ _ (oneTo 32) (λ k m. row-first l p k s))
 
   rows-levels : Each Levels (rows l p)
   unfolding rows
@@ -62,7 +62,7 @@ module _ (l : Ledger) (p : ℕ) (s : Sound l) where
 
   pub kept-at-lows : demandAt l p ≤ supply (low p) l → keptChoices l p ≡ 1
   unfolding keptChoices
-  kept-at-lows h = kept-one (demandAt l p) (rows l p) rows-levels (subst (λ n. demandAt l p ≤ n) (sym lowest-is) h)
+  kept-at-lows h = kept-one (demandAt l p) (rows l p) rows-levels (subst (λ n. demandAt l p ≤ n) (sym lowest-total-is) h)
 
   module _ (e : covered l p ≡ true) where
     -- and where p is covered, it covers

@@ -8,15 +8,15 @@ use Rattle.numbers.specs.Lists.{total, lastOr}
 use Rattle.numbers.specs.ListLaws.{Each}
 use Rattle.choices.specs.Count.{OneOfEach}
 use Rattle.choices.specs.Pairwise.{StrictlyRising}
-use Rattle.choices.specs.Search.{lowOf, highOf, lowest, highest}
+use Rattle.choices.specs.Search.{lowOf, highOf, lowestTotal, highestTotal}
 
-pub lowest-cons : (row : List ℕ) (rows : List (List ℕ)) → lowest (row ∷ rows) ≡ lowOf row + lowest rows
-unfolding lowest total
-lowest-cons row rows = refl
+pub lowest-total-cons : (row : List ℕ) (rows : List (List ℕ)) → lowestTotal (row ∷ rows) ≡ lowOf row + lowestTotal rows
+unfolding lowestTotal total
+lowest-total-cons row rows = refl
 
-pub highest-cons : (row : List ℕ) (rows : List (List ℕ)) → highest (row ∷ rows) ≡ highOf row + highest rows
-unfolding highest total
-highest-cons row rows = refl
+pub highest-total-cons : (row : List ℕ) (rows : List (List ℕ)) → highestTotal (row ∷ rows) ≡ highOf row + highestTotal rows
+unfolding highestTotal total
+highest-total-cons row rows = refl
 
 -- ---- the last of a rising row is its greatest, the first its least
 
@@ -36,8 +36,8 @@ row-between v (x ∷ vs) r m = (⊎-elim (λ e. omega arith) (λ k. omega (arith
 
 -- ---- choices
 
-pub total-between : (rows : List (List ℕ)) (c : List ℕ) → Each StrictlyRising rows → OneOfEach rows c → (lowest rows ≤ total c) × (total c ≤ highest rows)
-unfolding lowest highest total
+pub total-between : (rows : List (List ℕ)) (c : List ℕ) → Each StrictlyRising rows → OneOfEach rows c → (lowestTotal rows ≤ total c) × (total c ≤ highestTotal rows)
+unfolding lowestTotal highestTotal total
 total-between [] c r o = rw o (zero-le, zero-le)
 total-between (row ∷ rows) [] r o = absurd o
 total-between (row ∷ rows) (v ∷ c) r o =
@@ -45,8 +45,8 @@ total-between (row ∷ rows) (v ∷ c) r o =
     let k = total-between rows c (λ s m. r s (List·Memᴰ·tail m)) (o .1) in
     (omega arith, omega arith)
 
-pub lows-below : (rows : List (List ℕ)) → Each StrictlyRising rows → lowest rows ≤ highest rows
-unfolding lowest highest total lastOr
+pub lows-below : (rows : List (List ℕ)) → Each StrictlyRising rows → lowestTotal rows ≤ highestTotal rows
+unfolding lowestTotal highestTotal total lastOr
 lows-below [] r = zero-le
 lows-below ([] ∷ rows) r = omega (arith, lows-below rows (λ s m. r s (List·Memᴰ·tail m)))
 lows-below ((v ∷ vs) ∷ rows) r = omega (arith, last-above v vs (r (v ∷ vs) (List·Memᴰ·head refl)), lows-below rows (λ s m. r s (List·Memᴰ·tail m)))

@@ -14,7 +14,7 @@ use Rattle.numbers.specs.Sums.{total-add}
 use Rattle.choices.specs.Choices.{spread, choices, covering}
 use Rattle.choices.specs.Count.{product, choices-count, in-choices}
 use Rattle.choices.specs.Pairwise.{StrictlyRising}
-use Rattle.choices.specs.Search.{lowest}
+use Rattle.choices.specs.Search.{lowestTotal}
 use Rattle.choices.specs.Between.{total-between}
 use Rattle.choices.specs.Falling.{AnyOrder}
 
@@ -65,7 +65,7 @@ pub covering-few : (d : ℕ) (rows : List (List ℕ)) (t : ℕ) → coveringFrom
 covering-few d rows t = rw (covering-listed d rows t) (keep-le (λ c. leb d (t + total c)) (choices rows))
 
 -- where the lows cover, all choices do
-pub covering-all : (d : ℕ) (rows : List (List ℕ)) (t : ℕ) → Each StrictlyRising rows → d ≤ t + lowest rows → coveringFrom d rows t ≡ length (choices rows)
+pub covering-all : (d : ℕ) (rows : List (List ℕ)) (t : ℕ) → Each StrictlyRising rows → d ≤ t + lowestTotal rows → coveringFrom d rows t ≡ length (choices rows)
 covering-all d rows t h l =
     covering-listed d rows t
     ∙ ap length (keep-all (λ c. leb d (t + total c)) (choices rows) (λ c m. le-leb d (t + total c) (omega (arith, total-between rows c h (in-choices rows c .0 m) .0))))

@@ -11,7 +11,7 @@ use Rattle.numbers.specs.ListLaws.{Each}
 use Rattle.choices.specs.Choices.{choices, covering, bestOf, IsBest}
 use Rattle.choices.specs.Pairwise.{StrictlyRising}
 use Rattle.choices.specs.Best.{best-choice}
-use Rattle.choices.specs.Search.{byFalling, lowOf, highOf, lowest, highest, aboveBest, searched, found, kept}
+use Rattle.choices.specs.Search.{byFalling, lowOf, highOf, lowestTotal, highestTotal, aboveBest, searched, found, kept}
 use Rattle.choices.specs.Falling.{falling-any, map-falling, each-any, total-any}
 use Rattle.choices.specs.Searched.{rankOf, inOrder, found-in-order, lows-found}
 use Rattle.choices.specs.CoveringCount.{coveringFrom, covering-count, covering-any}
@@ -25,10 +25,10 @@ Levels row = (0 < length row) × StrictlyRising row
 
 -- above all highs
 abbrev top : List (List ℕ) → ℕ
-top rows = suc (highest rows)
+top rows = suc (highestTotal rows)
 
 below-top : (rows : List (List ℕ)) → Each (λ row. highOf row < top rows) rows
-unfolding highest total
+unfolding highestTotal total
 below-top [] row m = absurd (List·Memᴰ·not-nil m)
 below-top (r ∷ rows) row m = ⊎-elim (λ e. rw e (omega arith)) (λ k. omega (arith, below-top rows row k)) (List·Memᴰ·cases-cons m)
 
@@ -60,10 +60,10 @@ module _ (d : ℕ) (rows : List (List ℕ)) (levels : Each Levels rows) where
 
   -- ---- 1 where all lows cover
 
-  pub kept-one : d ≤ lowest rows → kept d rows ≡ 1
-  unfolding kept lowest aboveBest any
+  pub kept-one : d ≤ lowestTotal rows → kept d rows ≡ 1
+  unfolding kept lowestTotal aboveBest any
   kept-one h =
-      let same : lowest rows ≡ lowest (inOrder (top rows) rows) = falling-any (total-any lowOf) (rankOf (top rows)) rows in
+      let same : lowestTotal rows ≡ lowestTotal (inOrder (top rows) rows) = falling-any (total-any lowOf) (rankOf (top rows)) rows in
       let all : Each Levels (inOrder (top rows) rows) = falling-any (each-any Levels) (rankOf (top rows)) rows levels in
       ap length (found-is ∙ lows-found d (inOrder (top rows) rows) 0 [] (λ row m. all row m .0) (λ row m. all row m .1) (omega arith) refl)
 

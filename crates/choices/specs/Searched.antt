@@ -14,7 +14,7 @@ use Rattle.numbers.specs.Lists.{keep, total, lastOr, any}
 use Rattle.numbers.specs.ListLaws.{Each, in-keep}
 use Rattle.choices.specs.Pairwise.{StrictlyRising}
 use Rattle.choices.specs.Between.{lows-below}
-use Rattle.choices.specs.Search.{byFalling, lowOf, highOf, several, order, lowest, highest, aboveBest, setAside, inTurn, searched, given, found}
+use Rattle.choices.specs.Search.{byFalling, lowOf, highOf, several, order, lowestTotal, highestTotal, aboveBest, setAside, inTurn, searched, given, found}
 use Rattle.choices.specs.Falling.{ranked, falling-ranked}
 
 -- ---- what is set aside
@@ -24,16 +24,16 @@ unfolding searched
 aside-found d [] t bs e = rw e
 aside-found d (row ∷ rest) t bs e = rw e
 
-not-aside : (d : ℕ) (rest : List (List ℕ)) (t : ℕ) (bs : List ℕ) → d ≤ t + highest rest → aboveBest (t + lowest rest) bs ≡ false →
+not-aside : (d : ℕ) (rest : List (List ℕ)) (t : ℕ) (bs : List ℕ) → d ≤ t + highestTotal rest → aboveBest (t + lowestTotal rest) bs ≡ false →
     setAside d rest t bs ≡ false
 unfolding setAside
-not-aside d rest t bs h e = rw (le-ltb (t + highest rest) d h, e)
+not-aside d rest t bs h e = rw (le-ltb (t + highestTotal rest) d h, e)
 
 -- ---- rows with one level, in front of the order
 
 searched-one : (d v : ℕ) (rest : List (List ℕ)) (t : ℕ) (bs : List ℕ) → searched d ((v ∷ []) ∷ rest) t bs ≡ searched d rest (t + v) bs
-unfolding searched setAside inTurn lowest highest total lastOr
-searched-one d v rest t bs = rw (← add-assoc t v (highest rest), ← add-assoc t v (lowest rest)) (go (setAside d rest (t + v) bs) refl)
+unfolding searched setAside inTurn lowestTotal highestTotal total lastOr
+searched-one d v rest t bs = rw (← add-assoc t v (highestTotal rest), ← add-assoc t v (lowestTotal rest)) (go (setAside d rest (t + v) bs) refl)
   where
     go : (b : Bool) → setAside d rest (t + v) bs ≡ b → cond b bs (searched d rest (t + v) bs) ≡ searched d rest (t + v) bs
     go true e = sym (aside-found d rest (t + v) bs e)
@@ -45,14 +45,14 @@ one-level (v ∷ []) h e = refl
 one-level (v ∷ w ∷ vs) h e = absurd (omega (arith, ltb-false 1 (length (v ∷ w ∷ vs)) e))
 
 searched-ones : (d : ℕ) (ones rest : List (List ℕ)) (t : ℕ) (bs : List ℕ) → Each (λ row. row ≡ lowOf row ∷ []) ones →
-    searched d (ones ++ rest) t bs ≡ searched d rest (t + lowest ones) bs
-unfolding lowest total
+    searched d (ones ++ rest) t bs ≡ searched d rest (t + lowestTotal ones) bs
+unfolding lowestTotal total
 searched-ones d [] rest t bs h = rw add-zero
 searched-ones d (row ∷ ones) rest t bs h =
     ap (λ r. searched d (r ∷ ones ++ rest) t bs) (h row (List·Memᴰ·head refl))
     ∙ searched-one d (lowOf row) (ones ++ rest) t bs
     ∙ searched-ones d ones rest (t + lowOf row) bs (λ r m. h r (List·Memᴰ·tail m))
-    ∙ rw (add-assoc t (lowOf row) (lowest ones))
+    ∙ rw (add-assoc t (lowOf row) (lowestTotal ones))
 
 -- the rows with one level in front, then the order: by falling rank, which is the high, and the top for one level
 abbrev pub rankOf : ℕ → List ℕ → ℕ
@@ -83,28 +83,28 @@ unfolding aboveBest any
 above-cons t b bs h = rw (lt-ltb b t h)
 
 -- the other levels of a row, each above the first one that was found
-rest-aside : (d : ℕ) (rest : List (List ℕ)) (t b : ℕ) (bs vs : List ℕ) → Each (λ v. b < t + v + lowest rest) vs →
+rest-aside : (d : ℕ) (rest : List (List ℕ)) (t b : ℕ) (bs vs : List ℕ) → Each (λ v. b < t + v + lowestTotal rest) vs →
     inTurn (searched d rest) vs t (b ∷ bs) ≡ b ∷ bs
 unfolding inTurn setAside
 rest-aside d rest t b bs [] h = refl
 rest-aside d rest t b bs (v ∷ vs) h =
-    let u : ℕ = t + v + lowest rest in
+    let u : ℕ = t + v + lowestTotal rest in
     let a : setAside d rest (t + v) (b ∷ bs) ≡ true =
-    or-right (ltb (t + v + highest rest) d) (aboveBest u (b ∷ bs)) (above-cons u b bs (h v (List·Memᴰ·head refl))) in
+    or-right (ltb (t + v + highestTotal rest) d) (aboveBest u (b ∷ bs)) (above-cons u b bs (h v (List·Memᴰ·head refl))) in
     ap (inTurn (searched d rest) vs t) (aside-found d rest (t + v) (b ∷ bs) a)
     ∙ rest-aside d rest t b bs vs (λ w m. h w (List·Memᴰ·tail m))
 
 pub lows-found :
     (d : ℕ) (rest : List (List ℕ)) (t : ℕ) (bs : List ℕ) →
-    Each (λ row. 0 < length row) rest → Each StrictlyRising rest → d ≤ t + lowest rest → aboveBest (t + lowest rest) bs ≡ false →
-    searched d rest t bs ≡ (t + lowest rest) ∷ bs
-unfolding searched inTurn lowest total
+    Each (λ row. 0 < length row) rest → Each StrictlyRising rest → d ≤ t + lowestTotal rest → aboveBest (t + lowestTotal rest) bs ≡ false →
+    searched d rest t bs ≡ (t + lowestTotal rest) ∷ bs
+unfolding searched inTurn lowestTotal total
 lows-found d [] t bs some rise h e = rw (not-aside d [] t bs (omega (arith, lows-below [] rise)) e, add-zero)
 lows-found d ([] ∷ rest) t bs some rise h e = absurd (omega (arith, some [] (List·Memᴰ·head refl)))
 lows-found d ((v ∷ vs) ∷ rest) t bs some rise h e =
     let later : Each StrictlyRising rest = λ r m. rise r (List·Memᴰ·tail m) in
-    let b : ℕ = t + v + lowest rest in
-    let s : t + lowest ((v ∷ vs) ∷ rest) ≡ b = omega arith in
+    let b : ℕ = t + v + lowestTotal rest in
+    let s : t + lowestTotal ((v ∷ vs) ∷ rest) ≡ b = omega arith in
     rw (not-aside d ((v ∷ vs) ∷ rest) t bs (omega (arith, lows-below ((v ∷ vs) ∷ rest) rise)) e)
     (ap (inTurn (searched d rest) vs t) (lows-found d rest (t + v) bs (λ r m. some r (List·Memᴰ·tail m)) later (omega arith) (rw s at e))
     ∙ rest-aside d rest t b bs vs (λ w m. omega (arith, rise (v ∷ vs) (List·Memᴰ·head refl) .0 w m))

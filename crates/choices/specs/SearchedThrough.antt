@@ -13,7 +13,7 @@ use Rattle.numbers.specs.Cases.{or-true, or-left, or-right}
 use Rattle.numbers.specs.Lists.{total}
 use Rattle.numbers.specs.ListLaws.{Each, any-intro, any-true}
 use Rattle.choices.specs.Pairwise.{StrictlyRising}
-use Rattle.choices.specs.Search.{lowest, highest, aboveBest, setAside, inTurn, searched}
+use Rattle.choices.specs.Search.{lowestTotal, highestTotal, aboveBest, setAside, inTurn, searched}
 use Rattle.choices.specs.Searched.{aside-found}
 use Rattle.choices.specs.CoveringCount.{coveringFrom}
 use Rattle.choices.specs.Through.{Strided, rowOf, eachLevel, through, Among, through-relates, through-keeps, through-meets, among-between}
@@ -31,15 +31,15 @@ unfolding aboveBest
 above-more t u bs h e = let r = above-some t bs e in any-intro (λ b. ltb b u) bs (r .1) (lt-ltb (r .0) u (omega (arith, r .2)))
 
 -- what sets a part aside sets each complete choice of it aside
-aside-complete : (d : ℕ) (rest : List (List ℕ)) (t u : ℕ) (bs : List ℕ) → t + lowest rest ≤ u → u ≤ t + highest rest → setAside d rest t bs ≡ true →
+aside-complete : (d : ℕ) (rest : List (List ℕ)) (t u : ℕ) (bs : List ℕ) → t + lowestTotal rest ≤ u → u ≤ t + highestTotal rest → setAside d rest t bs ≡ true →
     setAside d [] u bs ≡ true
-unfolding setAside lowest highest total
+unfolding setAside lowestTotal highestTotal total
 aside-complete d rest t u bs lo hi e =
     rw (add-zero u)
     (⊎-elim
-    (λ k. or-left (ltb u d) (aboveBest u bs) (lt-ltb u d (omega (arith, ltb-true (t + highest rest) d k))))
-    (λ k. or-right (ltb u d) (aboveBest u bs) (above-more (t + lowest rest) u bs lo k))
-    (or-true (ltb (t + highest rest) d) (aboveBest (t + lowest rest) bs) e))
+    (λ k. or-left (ltb u d) (aboveBest u bs) (lt-ltb u d (omega (arith, ltb-true (t + highestTotal rest) d k))))
+    (λ k. or-right (ltb u d) (aboveBest u bs) (above-more (t + lowestTotal rest) u bs lo k))
+    (or-true (ltb (t + highestTotal rest) d) (aboveBest (t + lowestTotal rest) bs) e))
 
 in-turn-each : (f : ℕ → List ℕ → List ℕ) (h : ℕ → ℕ → List ℕ → List ℕ) → ((t i : ℕ) (bs : List ℕ) → f t bs ≡ h t i bs) →
     (s : ℕ) (vs : List ℕ) (t i : ℕ) (bs : List ℕ) → inTurn f vs t bs ≡ eachLevel h s vs t i bs
@@ -83,7 +83,7 @@ through-counted d (r ∷ rs) t i n = each-counted (through (counted d) rs) (cove
 -- a complete choice is found exactly where it covers and is not above the best: what holds in each case holds of what is found
 pub tried-case : (d u j : ℕ) (bs : List ℕ) (P : List ℕ → Type 0) → (u < d → P bs) → (aboveBest u bs ≡ true → P bs) →
     (d ≤ u → aboveBest u bs ≡ false → P (u ∷ bs)) → P (tried d u j bs)
-unfolding searched setAside lowest highest total
+unfolding searched setAside lowestTotal highestTotal total
 tried-case d u j bs P short above new = rw (add-zero u) (go (ltb u d) refl (aboveBest u bs) refl)
   where
     go : (a : Bool) → ltb u d ≡ a → (b : Bool) → aboveBest u bs ≡ b → P (cond (a || b) bs (u ∷ bs))

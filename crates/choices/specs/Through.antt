@@ -10,7 +10,7 @@ use lib.ListN.{length, getD}
 use Rattle.numbers.specs.Lists.{total}
 use Rattle.numbers.specs.ListLaws.{Each}
 use Rattle.choices.specs.Pairwise.{StrictlyRising}
-use Rattle.choices.specs.Search.{lowest, highest}
+use Rattle.choices.specs.Search.{lowestTotal, highestTotal}
 use Rattle.choices.specs.Between.{row-between}
 use Rattle.choices.specs.Falling.{AnyOrder}
 
@@ -128,8 +128,8 @@ among-any = record {
 -- ---- their totals lie between the lows and the highs
 
 pub among-between : (rs : List Strided) (t i u j : ℕ) → Each StrictlyRising (map rowOf rs) → Among rs t i u j →
-    (t + lowest (map rowOf rs) ≤ u) × (u ≤ t + highest (map rowOf rs))
-unfolding lowest highest total
+    (t + lowestTotal (map rowOf rs) ≤ u) × (u ≤ t + highestTotal (map rowOf rs))
+unfolding lowestTotal highestTotal total
 among-between [] t i u j h a = (omega (arith, a .0), omega (arith, a .0))
 among-between (r ∷ rs) t i u j h (k, m, a) =
     let b = row-between (getD (r .1) k 0) (r .1) (h (r .1) (List·Memᴰ·head refl)) (nth-in 0 (r .1) k m) in

@@ -26,7 +26,7 @@ const ROWS: [Row; 9] = [
 pub const LISTED: usize = 8;
 
 // The most characters of a line.
-pub const LONGEST: usize = 160;
+pub const LONGEST_LINE: usize = 160;
 
 // The row of a kind; where the table has none, one of kind 0 and no fields.
 fn row_of(kind: usize) -> Row

@@ -1,7 +1,7 @@
 -- The game over the ledger and the game that is played go in step: supply with a rival's quantity or 0 at its place is supply by the quantities that are left.
 use Prim.Native.Nat.{ℕ, _-_, _≤_, _<_}
 use mathlib.Core.Path.{_≡_, refl, sym, ap, ap₂, _∙_}
-use mathlib.Core.Bool.{Bool, true, false, cond, false≢true}
+use mathlib.Core.Bool.{Bool, true, false, cond}
 use mathlib.Core.List.{List, map, _++_}
 use native.Mathlib.Omega.{arith}
 use lib.Dec.{leb, ltb}
@@ -10,11 +10,12 @@ use lib.Seq.{set-getD, getD-set-other, take-append-seam}
 use borrow.Author.Tests.{ne-eqb}
 use Rattle.numbers.specs.ListLaws.{Each}
 use Rattle.curve.specs.Demand.{InRange}
-use Rattle.rules.specs.Ledger.{Developer, Phase, Fresh, Ready, Round, Between, Closed, Ledger, withDeveloper}
+use Rattle.rules.specs.Ledger.{Developer, Ledger, withDeveloper}
 use Rattle.rules.specs.Clearing.{ofEach, supply, demandAt}
 use Rattle.rules.specs.Refusals.{isFresh, isBetween, floor}
 use Rattle.rules.specs.CheckLaws.{in-settings}
 use Rattle.sound.specs.Sound.{started, Sound}
+use Rattle.reachable.specs.Held.{is-between}
 use Rattle.reachable.specs.Bounds.{closing-in-range}
 use Rattle.supply.specs.ByProject.{supplyOf}
 use Rattle.supply.specs.ByProjectLaws.{supply-of}
@@ -101,13 +102,6 @@ module _ (l : Ledger) (m n : ℕ) (b : Pair m n) where
       go false false = ap (supplyOf projects) (sym (second-stays (l .developers m .quantity) ∙ first-stays))
 
 -- ---- the listed prices
-
-is-between : (p : Phase) → isBetween p ≡ true → p ≡ Between
-is-between Fresh e = absurd (false≢true e)
-is-between Ready e = absurd (false≢true e)
-is-between Round e = absurd (false≢true e)
-is-between Between e = refl
-is-between Closed e = absurd (false≢true e)
 
 pub list-is : (l : Ledger) (ps : List ℕ) → listOkBy (floor l) (l .closing) ps ≡ listOk l ps
 unfolding listOk listOkBy

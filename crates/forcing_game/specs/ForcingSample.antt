@@ -3,12 +3,10 @@
 use Prim.Native.Nat.{ℕ}
 use mathlib.Core.Path.{_≡_, refl}
 use mathlib.Core.List.{List, [], _∷_, _++_, map}
-use Rattle.numbers.specs.Lists.{oneTo, keep, total, greatest, lastOr, any, all}
-use Rattle.curve.specs.Demand.{dem, inBounds}
+use Rattle.numbers.specs.Lists.{oneTo}
 use Rattle.rules.specs.Ledger.{Offer, Own, Call, SetUp, Register, Open, By, Close, Ledger}
-use Rattle.rules.specs.Clearing.{quantityAfter, high, developersOf, greatestOf, supply, covered}
-use Rattle.rules.specs.Refusals.{settingsOk, numbersOk, rising, levelsOk, mayJoin, declarationOk, openingPrice, closingOk, startCovered, isOfKind, falling, pricesOk, lowering, moveNumber, number}
-use Rattle.rules.specs.Rounds.{steps, withdrawsAll, reaches, reached, unreached, added, lastLevel, applied, supplyAfter, thousandths, clears, phaseAfter, moved, accepted, step, stepAll, ledger}
+use Rattle.rules.specs.Rounds.{ledger}
+use Rattle.rules.specs.Computing.{callNumbers}
 use Rattle.forcing_game.specs.Game.{Choice, Keep, Withdraw, value, best}
 use Rattle.forcing_game.specs.Forcing.{mayWithdraw, withdrawing, lowestOr, outcomeOf, pairOk, listOk, forcingNumber, forcedOutcome, firstMove}
 
@@ -79,11 +77,7 @@ pub sample :
     ((between .closing ≡ 30000) × (map (λ n. between .developers n .quantity) (oneTo 7) ≡ 400000 ∷ 300000 ∷ 100000 ∷ 200000 ∷ 0 ∷ 0 ∷ 0 ∷ []))
     × Games
     × Numbers
-unfolding oneTo keep total greatest lastOr any all dem inBounds
-    quantityAfter high developersOf greatestOf supply covered
-    settingsOk numbersOk rising levelsOk mayJoin declarationOk openingPrice closingOk startCovered isOfKind falling pricesOk lowering moveNumber number
-    steps withdrawsAll reaches reached unreached added lastLevel applied supplyAfter thousandths clears phaseAfter moved accepted step stepAll ledger
-    value best mayWithdraw withdrawing lowestOr outcomeOf pairOk listOk forcingNumber forcedOutcome firstMove
+unfolding callNumbers value best mayWithdraw withdrawing lowestOr outcomeOf pairOk listOk forcingNumber forcedOutcome firstMove
 sample = (
   (refl, refl),
   ((refl, refl), (refl, refl), (refl, refl), (refl, refl), (refl, refl), (refl, refl), (refl, refl), (refl, refl), (refl, refl)),

@@ -12,7 +12,7 @@ use Rattle.numbers.specs.Lists.{total, any, all}
 use Rattle.numbers.specs.Tails.{laid}
 use Rattle.format.specs.Hex.{isHex, valueOf, charOf, digits, numberFrom}
 use Rattle.format.specs.Fields.{known, fixed, each, count, layout, RawCall, rawCall, fieldsAt, textAt, kindOf, askedWidths, wellFormed, callOf, read}
-use Rattle.format.specs.Written.{widthsOf, lineOf, fit, writable, refusal, lodged}
+use Rattle.format.specs.Written.{writtenWidths, lineOf, fit, writable, refusal, lentFrame}
 
 -- n characters of a text from place i on, as bytes
 unfoldable pub codes : String → ℕ → ℕ → List ℕ
@@ -53,7 +53,7 @@ unfolding codes any all total isHex valueOf numberFrom known fixed each count la
 sample-lines = refl
 
 sample-lines-written : map lineOf sampleCalls ≡ map bytes sampleLines
-unfolding codes charOf digits fixed each count layout textAt widthsOf lineOf
+unfolding codes charOf digits fixed each count layout textAt writtenWidths lineOf
 sample-lines-written = refl
 
 -- ---- what is just writable, and what is not (document 02, 2)
@@ -79,18 +79,18 @@ edges :
     ∷ rawCall 10 []  -- a kind that the table lacks
     ∷ [])
     ≡ true ∷ false ∷ true ∷ false ∷ true ∷ false ∷ false ∷ false ∷ false ∷ false ∷ []
-unfolding any charOf digits known fixed each count layout textAt widthsOf lineOf fit writable
+unfolding any charOf digits known fixed each count layout textAt writtenWidths lineOf fit writable
 edges = refl
 
 -- read, a line of 17 levels is malformed
 edges-read : map (λ c. wellFormed (lineOf c)) (levels 16 ∷ levels 17 ∷ agentAndLevels 16 ∷ agentAndLevels 17 ∷ []) ≡ true ∷ false ∷ true ∷ false ∷ []
-unfolding any all total isHex valueOf charOf digits numberFrom known fixed each count layout fieldsAt textAt kindOf askedWidths wellFormed widthsOf lineOf
+unfolding any all total isHex valueOf charOf digits numberFrom known fixed each count layout fieldsAt textAt kindOf askedWidths wellFormed writtenWidths lineOf
 edges-read = refl
 
 -- 14 comes before 13; a buffer of exactly the frame's length is enough, and what stands behind the frame stays
 answers :
     (map (λ b. refusal b (48 ∷ 10 ∷ []) 1) (false ∷ true ∷ []) ≡ 14 ∷ 13 ∷ [])
-    × (lodged true (48 ∷ 10 ∷ []) (7 ∷ 8 ∷ []) ≡ 48 ∷ 10 ∷ [])
-    × (lodged true (48 ∷ 10 ∷ []) (7 ∷ 8 ∷ 9 ∷ []) ≡ 48 ∷ 10 ∷ 9 ∷ [])
-unfolding refusal lodged laid
+    × (lentFrame true (48 ∷ 10 ∷ []) (7 ∷ 8 ∷ []) ≡ 48 ∷ 10 ∷ [])
+    × (lentFrame true (48 ∷ 10 ∷ []) (7 ∷ 8 ∷ 9 ∷ []) ≡ 48 ∷ 10 ∷ 9 ∷ [])
+unfolding refusal lentFrame laid
 answers = (refl, refl, refl)

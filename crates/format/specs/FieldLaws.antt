@@ -12,13 +12,13 @@ use Rattle.numbers.specs.Cases.{and-true, never-true}
 use Rattle.numbers.specs.Lists.{total}
 use Rattle.numbers.specs.ListLaws.{total-append}
 use Rattle.format.specs.Hex.{allHex}
-use Rattle.format.specs.Fields.{listed, known, longest, fixed, each, count, repeats, layout, RawCall, fieldsAt, kindOf, askedWidths, wellFormed, callOf, read}
+use Rattle.format.specs.Fields.{listed, known, longestLine, fixed, each, count, repeats, layout, RawCall, fieldsAt, kindOf, askedWidths, wellFormed, callOf, read}
 use Rattle.format.specs.WidthLaws.{behind, length-fields, fields-front, take-fields, fields-fit}
 
 -- ---- which lines are read
 
 pub record WellFormed (l : List ℕ) : Type 0 where
-  pub short : length l ≤ longest
+  pub short : length l ≤ longestLine
   pub hex : allHex l ≡ true
   pub kind-known : known (kindOf l) ≡ true
   pub exact : length l ≡ 2 + total (askedWidths l)
@@ -31,7 +31,7 @@ module _ (l : List ℕ) where
       let t2 = and-true _ _ (t3 .0) in
       let t1 = and-true _ _ (t2 .0) in
       record {
-        short = leb-true (length l) longest (t1 .0);
+        short = leb-true (length l) longestLine (t1 .0);
         hex = t1 .1;
         kind-known = t2 .1;
         exact = eqb-true (length l) (2 + total (askedWidths l)) (t3 .1);
@@ -39,7 +39,7 @@ module _ (l : List ℕ) where
 
   well-formed-test : WellFormed l → wellFormed l ≡ true
   unfolding wellFormed
-  well-formed-test w = rw (le-leb (length l) longest (w .short), w .hex, w .kind-known, eq-eqb (length l) (2 + total (askedWidths l)) (w .exact))
+  well-formed-test w = rw (le-leb (length l) longestLine (w .short), w .hex, w .kind-known, eq-eqb (length l) (2 + total (askedWidths l)) (w .exact))
 
   pub reads : WellFormed l → read l ≡ some (callOf l)
   unfolding read
@@ -86,7 +86,7 @@ count-front k n cs = rw (fields-front (fixed k) (replicate n listed) cs, take-fi
 pub record Formed (c : RawCall) : Type 0 where
   pub kind-known : known (c .kind) ≡ true
   pub as-many : length (c .fields) ≡ length (fixed (c .kind)) + repeats (c .kind) (c .fields)
-  pub short : 2 + (total (fixed (c .kind)) + listed * repeats (c .kind) (c .fields)) ≤ longest
+  pub short : 2 + (total (fixed (c .kind)) + listed * repeats (c .kind) (c .fields)) ≤ longestLine
   pub below : (j : ℕ) → getD (c .fields) j 0 < 16 ^ getD (fixed (c .kind)) j listed
 
 call-formed : (l : List ℕ) → WellFormed l → Formed (callOf l)
@@ -118,13 +118,13 @@ module _ (c : RawCall) (f : Formed c) where
   pub as-many-at : (k : ℕ) → c .kind ≡ k → length (c .fields) ≡ length (fixed k) + repeats k (c .fields)
   as-many-at k e = subst (λ (j : ℕ). length (c .fields) ≡ length (fixed j) + repeats j (c .fields)) e (f .as-many)
 
-  short-at : (k : ℕ) → c .kind ≡ k → 2 + (total (fixed k) + listed * repeats k (c .fields)) ≤ longest
-  short-at k e = subst (λ (j : ℕ). 2 + (total (fixed j) + listed * repeats j (c .fields)) ≤ longest) e (f .short)
+  short-at : (k : ℕ) → c .kind ≡ k → 2 + (total (fixed k) + listed * repeats k (c .fields)) ≤ longestLine
+  short-at k e = subst (λ (j : ℕ). 2 + (total (fixed j) + listed * repeats j (c .fields)) ≤ longestLine) e (f .short)
 
   -- a list of fields: as many as the last fixed field counts, in a line that is not too long; at a kind of the table these are numerals
   pub listed-fields : (k : ℕ) → c .kind ≡ k → 0 < length (fixed k) →
       let n = each k * getD (c .fields) (length (fixed k) - 1) 0 in
-      (length (c .fields) ≡ length (fixed k) + n) × (2 + (total (fixed k) + listed * n) ≤ longest)
+      (length (c .fields) ≡ length (fixed k) + n) × (2 + (total (fixed k) + listed * n) ≤ longestLine)
   unfolding count
   listed-fields k e h =
       let g = getD-take (length (fixed k)) (c .fields) (length (fixed k) - 1) 0 (omega arith) in

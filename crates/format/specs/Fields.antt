@@ -95,12 +95,12 @@ kindOf l = hexNumber (take 2 l)
 unfoldable pub askedWidths : List ℕ → List ℕ
 askedWidths l = layout (kindOf l) (repeats (kindOf l) (fieldsAt (fixed (kindOf l)) (drop 2 l)))
 
-abbrev pub longest : ℕ
-longest = 160
+abbrev pub longestLine : ℕ
+longestLine = 160
 
 -- at most 160 characters, all digits, a kind of the table, and as long as kind and count ask
 unfoldable pub wellFormed : List ℕ → Bool
-wellFormed l = leb (length l) longest && allHex l && known (kindOf l) && eqb (length l) (2 + total (askedWidths l))
+wellFormed l = leb (length l) longestLine && allHex l && known (kindOf l) && eqb (length l) (2 + total (askedWidths l))
 
 unfoldable pub callOf : List ℕ → RawCall
 callOf l = rawCall (kindOf l) (fieldsAt (askedWidths l) (drop 2 l))

@@ -6,17 +6,17 @@ use lib.Dec.{leb, ltb, eqb}
 use lib.ListN.{length}
 use Rattle.numbers.specs.Tails.{laid}
 use Rattle.format.specs.Hex.{digits}
-use Rattle.format.specs.Fields.{RawCall, known, repeats, layout, textAt, longest}
+use Rattle.format.specs.Fields.{RawCall, known, repeats, layout, textAt, longestLine}
 
 -- ---- the frame
 
 -- the widths that a call's own kind and count ask
-unfoldable pub widthsOf : RawCall → List ℕ
-widthsOf c = layout (c .kind) (repeats (c .kind) (c .fields))
+unfoldable pub writtenWidths : RawCall → List ℕ
+writtenWidths c = layout (c .kind) (repeats (c .kind) (c .fields))
 
 -- the kind in 2 digits, then the fields at their widths, by the table that the reader uses
 unfoldable pub lineOf : RawCall → List ℕ
-lineOf c = digits 2 (c .kind) ++ textAt (widthsOf c) (c .fields)
+lineOf c = digits 2 (c .kind) ++ textAt (writtenWidths c) (c .fields)
 
 -- the line with its 0A
 unfoldable pub frameOf : RawCall → List ℕ
@@ -33,7 +33,7 @@ fit (w ∷ ws) (n ∷ ns) = ltb n (16 ^ w) && fit ws ns
 
 -- a kind of the table, fields that fit, and at most 160 characters
 unfoldable pub writable : RawCall → Bool
-writable c = known (c .kind) && fit (widthsOf c) (c .fields) && leb (length (lineOf c)) longest
+writable c = known (c .kind) && fit (writtenWidths c) (c .fields) && leb (length (lineOf c)) longestLine
 
 -- ---- what writing answers
 
@@ -45,6 +45,6 @@ refusal ok frame room = cond ok (cond (leb (length frame) room) 0 13) 14
 unfoldable pub written : Bool → List ℕ → ℕ → ℕ
 written ok frame room = cond (eqb (refusal ok frame room) 0) (length frame) 0
 
--- the buffer afterwards: the frame, then its old bytes; a refusal leaves every byte
-unfoldable pub lodged : Bool → List ℕ → List ℕ → List ℕ
-lodged ok frame old = cond (eqb (refusal ok frame (length old)) 0) (laid frame old) old
+-- the lent buffer afterwards: the frame, then its old bytes; a refusal leaves every byte
+unfoldable pub lentFrame : Bool → List ℕ → List ℕ → List ℕ
+lentFrame ok frame old = cond (eqb (refusal ok frame (length old)) 0) (laid frame old) old

@@ -17,39 +17,39 @@ use Rattle.numbers.specs.Tails.{laid}
 use Rattle.format.specs.Hex.{isHex, allHex, digits, hexNumber}
 use Rattle.format.specs.HexLaws.{power-pos, field-fits, length-digits, hex-digits, hex-append, hex-parts, number-digits, digits-number}
 use Rattle.format.specs.Lines.{lines, onFirst}
-use Rattle.format.specs.Fields.{Row, tableRows, listed, known, longest, fixed, each, count, repeats, layout, RawCall, rawCall, fieldsAt, textAt, kindOf, askedWidths, callOf, read}
+use Rattle.format.specs.Fields.{Row, tableRows, listed, known, longestLine, fixed, each, count, repeats, layout, RawCall, rawCall, fieldsAt, textAt, kindOf, askedWidths, callOf, read}
 use Rattle.format.specs.WidthLaws.{length-text, hex-text, fields-text, text-fields}
 use Rattle.format.specs.FieldLaws.{WellFormed, reads, was-read, count-front}
-use Rattle.format.specs.Written.{widthsOf, lineOf, frameOf, fit, writable, refusal, written, lodged}
+use Rattle.format.specs.Written.{writtenWidths, lineOf, frameOf, fit, writable, refusal, written, lentFrame}
 
 -- ---- what writing answers, and what it leaves
 
 module _ (ok : Bool) (frame old : List ℕ) where
   -- the number of a refusal or 0, the bytes written, the buffer afterwards
   abbrev pub Answers : ℕ → ℕ → List ℕ → Type 0
-  Answers n bytes after = (refusal ok frame (length old) ≡ n) × (written ok frame (length old) ≡ bytes) × (lodged ok frame old ≡ after)
+  Answers n bytes after = (refusal ok frame (length old) ≡ n) × (written ok frame (length old) ≡ bytes) × (lentFrame ok frame old ≡ after)
 
   pub not-writable : ok ≡ false → Answers 14 0 old
-  unfolding refusal written lodged
+  unfolding refusal written lentFrame
   not-writable e = (rw e, rw e, rw e)
 
   pub too-short : ok ≡ true → length old < length frame → Answers 13 0 old
-  unfolding refusal written lodged
+  unfolding refusal written lentFrame
   too-short e h = let t = lt-leb (length frame) (length old) h in (rw (e, t), rw (e, t), rw (e, t))
 
   pub is-written : ok ≡ true → length frame ≤ length old → Answers 0 (length frame) (laid frame old)
-  unfolding refusal written lodged
+  unfolding refusal written lentFrame
   is-written e h = let t = le-leb (length frame) (length old) h in (rw (e, t), rw (e, t), rw (e, t))
 
 -- ---- how long a frame is
 
 module _ (c : RawCall) where
-  pub length-line : length (lineOf c) ≡ 2 + total (widthsOf c)
+  pub length-line : length (lineOf c) ≡ 2 + total (writtenWidths c)
   unfolding lineOf
   length-line = rw (length-append, length-digits, length-text)
 
   -- kind, fields and 0A
-  pub length-frame : length (frameOf c) ≡ 3 + total (widthsOf c)
+  pub length-frame : length (frameOf c) ≡ 3 + total (writtenWidths c)
   unfolding frameOf
   length-frame = rw length-append (omega (arith, length-line))
 
@@ -86,8 +86,8 @@ known-two-digits k e =
 
 pub record Writable (c : RawCall) : Type 0 where
   pub kind-known : known (c .kind) ≡ true
-  pub fields-fit : fit (widthsOf c) (c .fields) ≡ true
-  pub short : length (lineOf c) ≤ longest
+  pub fields-fit : fit (writtenWidths c) (c .fields) ≡ true
+  pub short : length (lineOf c) ≤ longestLine
 
 module _ (c : RawCall) where
   pub is-writable : writable c ≡ true → Writable c
@@ -95,35 +95,35 @@ module _ (c : RawCall) where
   is-writable e =
       let t2 = and-true _ _ e in
       let t1 = and-true _ _ (t2 .0) in
-      record { kind-known = t1 .0; fields-fit = t1 .1; short = leb-true (length (lineOf c)) longest (t2 .1) }
+      record { kind-known = t1 .0; fields-fit = t1 .1; short = leb-true (length (lineOf c)) longestLine (t2 .1) }
 
   pub writable-test : Writable c → writable c ≡ true
   unfolding writable
-  writable-test w = rw (w .kind-known, w .fields-fit, le-leb (length (lineOf c)) longest (w .short))
+  writable-test w = rw (w .kind-known, w .fields-fit, le-leb (length (lineOf c)) longestLine (w .short))
 
   pub hex-line : allHex (lineOf c) ≡ true
   unfolding lineOf
-  hex-line = hex-append (digits 2 (c .kind)) (textAt (widthsOf c) (c .fields)) (hex-digits 2 (c .kind)) (hex-text (widthsOf c) (c .fields))
+  hex-line = hex-append (digits 2 (c .kind)) (textAt (writtenWidths c) (c .fields)) (hex-digits 2 (c .kind)) (hex-text (writtenWidths c) (c .fields))
 
-  line-behind-kind : drop 2 (lineOf c) ≡ textAt (widthsOf c) (c .fields)
+  line-behind-kind : drop 2 (lineOf c) ≡ textAt (writtenWidths c) (c .fields)
   unfolding lineOf
-  line-behind-kind = drop-at (digits 2 (c .kind)) (textAt (widthsOf c) (c .fields)) 2 (length-digits 2 (c .kind))
+  line-behind-kind = drop-at (digits 2 (c .kind)) (textAt (writtenWidths c) (c .fields)) 2 (length-digits 2 (c .kind))
 
   module _ (w : Writable c) where
     line-kind : kindOf (lineOf c) ≡ c .kind
     unfolding kindOf lineOf
     line-kind =
-        ap hexNumber (take-at (digits 2 (c .kind)) (textAt (widthsOf c) (c .fields)) 2 (length-digits 2 (c .kind)))
+        ap hexNumber (take-at (digits 2 (c .kind)) (textAt (writtenWidths c) (c .fields)) 2 (length-digits 2 (c .kind)))
         ∙ number-digits 2 (c .kind) (known-two-digits (c .kind) (w .kind-known))
 
-    line-fields : fieldsAt (widthsOf c) (drop 2 (lineOf c)) ≡ c .fields
+    line-fields : fieldsAt (writtenWidths c) (drop 2 (lineOf c)) ≡ c .fields
     line-fields =
-        let f = fitting (widthsOf c) (c .fields) (w .fields-fit) in
-        ap (fieldsAt (widthsOf c)) (line-behind-kind ∙ sym (append-nil (textAt (widthsOf c) (c .fields))))
-        ∙ fields-text (widthsOf c) (c .fields) [] (f .0) (f .1)
+        let f = fitting (writtenWidths c) (c .fields) (w .fields-fit) in
+        ap (fieldsAt (writtenWidths c)) (line-behind-kind ∙ sym (append-nil (textAt (writtenWidths c) (c .fields))))
+        ∙ fields-text (writtenWidths c) (c .fields) [] (f .0) (f .1)
 
-    line-asks : askedWidths (lineOf c) ≡ widthsOf c
-    unfolding askedWidths widthsOf
+    line-asks : askedWidths (lineOf c) ≡ writtenWidths c
+    unfolding askedWidths writtenWidths
     line-asks =
         let k : ℕ = c .kind in
         let r : List ℕ = drop 2 (lineOf c) in
@@ -149,8 +149,8 @@ module _ (c : RawCall) where
 -- ---- lines that are read
 
 module _ (l : List ℕ) (w : WellFormed l) where
-  call-widths : widthsOf (callOf l) ≡ askedWidths l
-  unfolding widthsOf callOf askedWidths
+  call-widths : writtenWidths (callOf l) ≡ askedWidths l
+  unfolding writtenWidths callOf askedWidths
   call-widths =
       let k : ℕ = kindOf l in
       ap (λ (m : ℕ). layout k (each k * m)) (count-front k (repeats k (fieldsAt (fixed k) (drop 2 l))) (drop 2 l))
@@ -169,7 +169,7 @@ module _ (l : List ℕ) (w : WellFormed l) where
   call-writable = record {
     kind-known = w .kind-known;
     fields-fit = ap (λ (ws : List ℕ). fit ws (callOf l .fields)) call-widths ∙ read-fitting (askedWidths l) (drop 2 l);
-    short = subst (λ (s : List ℕ). length s ≤ longest) (sym call-line) (w .short);
+    short = subst (λ (s : List ℕ). length s ≤ longestLine) (sym call-line) (w .short);
   }
 
 -- each well-formed line read and then written is the same bytes

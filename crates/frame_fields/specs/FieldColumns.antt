@@ -7,7 +7,7 @@ use native.Mathlib.Numerals.{add-one}
 use lib.ListN.{length, take, drop, getD, set, length-take, length-set, drop-of-length-le, List·getD-eq-default}
 use lib.Seq.{drop-cons, getD-take, take-suc-set}
 use Rattle.numbers.specs.Lists.{total}
-use Rattle.format.specs.Fields.{listed, longest, fixed, each}
+use Rattle.format.specs.Fields.{listed, longestLine, fixed, each}
 use Rattle.format.specs.FieldLaws.{field-below, repeated-below, listed-fields}
 use Rattle.replies.specs.Orders.{firsts, seconds}
 use Rattle.frames.specs.Decoded.{heldFrame}
@@ -39,7 +39,7 @@ below-behind k f w j h = repeated-below (heldFrame f) (w .formed) k j (w .kind) 
 -- a list of fields behind the fixed ones: as many as the last of those counts, in a line that is not too long
 pub listed-count : (k : ℕ) (f : Frame) → Framed k f → 0 < length (fixed k) →
     let n = each k * getD (fieldsOf f) (length (fixed k) - 1) 0 in
-    (length (fieldsOf f) ≡ length (fixed k) + n) × (2 + (total (fixed k) + listed * n) ≤ longest)
+    (length (fieldsOf f) ≡ length (fixed k) + n) × (2 + (total (fixed k) + listed * n) ≤ longestLine)
 unfolding fieldsOf
 listed-count k f w h = listed-fields (heldFrame f) (w .formed) k (w .kind) h
 

@@ -12,7 +12,7 @@ use Rattle.numbers.specs.Lists.{total}
 use Rattle.format.specs.HexLaws.{power-pos}
 use Rattle.format.specs.Fields.{RawCall, rawCall, listed, fixed, count, repeats, layout}
 use Rattle.format.specs.FieldLaws.{total-layout, length-layout, layout-at}
-use Rattle.format.specs.Written.{widthsOf, lineOf, frameOf, fit, writable}
+use Rattle.format.specs.Written.{writtenWidths, lineOf, frameOf, fit, writable}
 use Rattle.format.specs.WrittenLaws.{Writable, is-writable, writable-test, fitting, length-line, length-frame}
 use Rattle.field_table.specs.Fitting.{fitting-kind, repeats-few}
 use Rattle.field_table.specs.declared.Shape.{Shape}
@@ -24,11 +24,11 @@ use Rattle.frame_sizes.specs.FrameSizes.{frameSize}
 
 module _ (k : ℕ) (ns : List ℕ) where
   pub line-long : length (lineOf (rawCall k ns)) ≡ 2 + total (fixed k) + listed * repeats k ns
-  unfolding widthsOf
+  unfolding writtenWidths
   line-long = omega (arith, length-line (rawCall k ns), total-layout k (repeats k ns))
 
   pub as-many : Writable (rawCall k ns) → length ns ≡ length (fixed k) + repeats k ns
-  unfolding widthsOf
+  unfolding writtenWidths
   as-many w = fitting (layout k (repeats k ns)) ns (w .fields-fit) .0 ∙ length-layout k (repeats k ns)
 
   -- a line of more fields is over 160 characters, whatever their widths
@@ -79,8 +79,8 @@ module _ (k : ℕ) (ns : List ℕ) (s : Shape) (w : Shaped k s) (n : ℕ) (e : n
       let m : s .fixed + (n - s .fixed) ≡ n = omega arith in
       subst (λ (i : ℕ). take i (s .widths) ≡ layout k (n - s .fixed)) m (shape-layout k s w (n - s .fixed) (omega arith))
 
-  pub widths-are : length ns ≡ length (fixed k) + repeats k ns → take n (s .widths) ≡ widthsOf (rawCall k ns)
-  unfolding widthsOf
+  pub widths-are : length ns ≡ length (fixed k) + repeats k ns → take n (s .widths) ≡ writtenWidths (rawCall k ns)
+  unfolding writtenWidths
   widths-are q =
       let m : n - s .fixed ≡ repeats k ns = omega (arith, w .many) in
       widths-layout (omega (arith, w .many)) ∙ ap (layout k) m

@@ -7,7 +7,7 @@ ghost use Rattle.format.specs.Fields.{rawCall};
 ghost use Rattle.format.specs.Written.{fit};
 ghost use Rattle.frame_sizes.specs.FrameSizes.{frameSize};
 use field_table::LISTED;
-use field_table::LONGEST;
+use field_table::LONGEST_LINE;
 
 // Whether a number has at most so many hexadecimal digits.
 fn fits_width(value: u64, width: usize) -> bool
@@ -61,7 +61,7 @@ pub fn frame_size(kind: usize, fields: &[u64]) -> usize
         return 0;
     }
     let length = 2 + shape.span + LISTED * more;
-    if LONGEST < length {
+    if LONGEST_LINE < length {
         return 0;
     }
     length + 1

@@ -9,6 +9,7 @@ use auction::Auction;
 use frames::Frame;
 use reply_sizes::Reply;
 use settling::Settled;
+use settling::UNSETTLED;
 
 // What a frame leads to: the next auction and the reply, and for those who want to see more than the reply says the answer itself: the excess of
 // a closing in two's complement with its remainder, and what a settling answered.
@@ -19,23 +20,6 @@ pub struct Turn {
     pub remainder: u32,
     pub settled: Settled,
 }
-
-// Nothing is settled.
-pub const UNSETTLED: Settled = Settled {
-    number: 0,
-    price: 0,
-    demand: 0,
-    remainder: 0,
-    total: 0,
-    choices: 0,
-    covering: 0,
-    kept: 0,
-    second: 0,
-    short: false,
-    insufficient: false,
-    paid: 0,
-    records: 0,
-};
 
 // The turn of a call that answers with a number alone.
 fn answered(kind: u8, answer: Answer) -> Turn

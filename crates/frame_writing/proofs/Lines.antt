@@ -10,7 +10,7 @@ use Rattle.numbers.specs.Tails.{laid, length-laid, tail-is, grow}
 use Rattle.format.specs.Hex.{digits}
 use Rattle.format.specs.HexLaws.{length-digits}
 use Rattle.format.specs.Fields.{textAt, rawCall}
-use Rattle.format.specs.Written.{widthsOf, lineOf, frameOf}
+use Rattle.format.specs.Written.{writtenWidths, lineOf, frameOf}
 use Rattle.format.specs.WrittenLaws.{length-line}
 
 -- in a buffer that the line fits
@@ -23,7 +23,7 @@ module _ (k : ℕ) (ns old : List ℕ) (room : length (lineOf (rawCall k ns)) �
     pub kind-same : length xs ≡ length old
     kind-same = ap length there ∙ length-laid (digits 2 k) old (omega (arith, length-digits 2 k, kind-room))
 
-    module _ (ws : List ℕ) (e : ws ≡ widthsOf (rawCall k ns)) where
+    module _ (ws : List ℕ) (e : ws ≡ writtenWidths (rawCall k ns)) where
       pub fields-room : total ws ≤ length (midOf 2 (length xs - 2) xs)
       fields-room = rw tail-is (omega (arith, length-line (rawCall k ns), ap total e, kind-same, length-drop 2 xs))
 

@@ -1,2 +1,2 @@
-pub mod Lodged
-pub mod LodgedLaws
+pub mod Encodes
+pub mod EncodesLaws

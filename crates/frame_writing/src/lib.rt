@@ -7,7 +7,7 @@ ghost use lib.ListN.{length};
 ghost use Rattle.numbers.specs.Tails.{laid};
 ghost use Rattle.format.specs.Fields.{rawCall};
 ghost use Rattle.format.specs.Written.{lineOf, writable};
-ghost use Rattle.frame_writing.specs.Lodged.{Refuses, Encodes};
+ghost use Rattle.frame_writing.specs.Encodes.{Refuses, Encodes};
 
 // What writing answers: 0 and how many bytes were written, or a refusal's number and 0.
 pub struct Written {

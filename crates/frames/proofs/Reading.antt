@@ -1,6 +1,6 @@
 -- Reading a line by the table: its fields one by one, and what the tests of `decode` say of the line.
 use Prim.Native.Nat.{ℕ, _+_, _-_, _*_, _≤_, _<_}
-use mathlib.Core.Path.{_≡_, refl, sym, ap, _∙_}
+use mathlib.Core.Path.{_≡_, refl, sym, ap, ap₂, _∙_}
 use mathlib.Core.Bool.{true}
 use mathlib.Core.List.{List, [], _∷_, _++_, append-assoc, append-nil}
 use mathlib.Core.Option.{some}
@@ -10,7 +10,7 @@ use lib.ListN.{length, take, drop, getD, set, replicate, length-set, length-repl
 use lib.Seq.{drop-cons, drop-drop, take-suc-set}
 use Rattle.numbers.specs.Lists.{total}
 use Rattle.format.specs.Hex.{allHex, hexNumber}
-use Rattle.format.specs.Fields.{listed, known, longest, RawCall, fixed, each, count, repeats, layout, fieldsAt, kindOf, askedWidths, callOf, read}
+use Rattle.format.specs.Fields.{listed, known, longestLine, rawCall, fixed, each, count, repeats, layout, fieldsAt, kindOf, askedWidths, callOf, read}
 use Rattle.format.specs.WidthLaws.{take-fields, fields-fit}
 use Rattle.format.specs.FieldLaws.{WellFormed, reads, reads-none, total-layout}
 use Rattle.field_table.specs.Fitting.{repeats-few}
@@ -89,14 +89,11 @@ module _ (l : List ℕ) (f : Frame) where
   pub refused : Zero f → (WellFormed l → ⊥) → Decodes
   refused z h = (call-none f (z .0) ∙ sym (reads-none l h), λ e. z)
 
-  pub accepted : (k n : ℕ) → k ≡ kindOf l → n ≡ repeats k (fieldsAt (fixed k) (drop 2 l)) → length l ≤ longest → allHex l ≡ true → known k ≡ true
+  pub accepted : (k n : ℕ) → k ≡ kindOf l → n ≡ repeats k (fieldsAt (fixed k) (drop 2 l)) → length l ≤ longestLine → allHex l ≡ true → known k ≡ true
       → length l ≡ 2 + total (fixed k) + listed * n → (f .kind ≡ 0 → ⊥) → f .kind ≡ k → take (f .count) (f .fields) ≡ fieldsAt (layout k n) (drop 2 l)
       → Decodes
   unfolding askedWidths callOf
   accepted k n e q short hex there exact fz fk ff =
       let a : askedWidths l ≡ layout k n = rw (q, e) in
       let w : WellFormed l = record { short = short; hex = hex; kind-known = rw e at there; exact = exact ∙ omega (arith, ap total a, total-layout k n) } in
-      (call-some f fz ∙ ap some (same (fk ∙ e) (ff ∙ ap (λ (ws : List ℕ). fieldsAt ws (drop 2 l)) (sym a))) ∙ sym (reads l w), λ z. absurd (fz z))
-    where
-      same : {i j : ℕ} {a b : List ℕ} → i ≡ j → a ≡ b → _≡_ {A = RawCall} (record { kind = i; fields = a }) (record { kind = j; fields = b })
-      same p q = λ i. record { kind = p i; fields = q i }
+      (call-some f fz ∙ ap some (ap₂ rawCall (fk ∙ e) (ff ∙ ap (λ (ws : List ℕ). fieldsAt ws (drop 2 l)) (sym a))) ∙ sym (reads l w), λ z. absurd (fz z))

@@ -7,12 +7,12 @@ use mathlib.Core.Option.{Option, none, some}
 use borrow.Author.Tests.{eq-eqb, ne-eqb}
 use lib.Dec.{eqb}
 use lib.ListN.{take, replicate}
-use Rattle.format.specs.Fields.{RawCall, read}
+use Rattle.format.specs.Fields.{RawCall, rawCall, read}
 use Rattle.format.specs.FieldLaws.{Formed, formed}
 use Rattle.frames.specs.declared.Frame.{Frame}
 
 abbrev pub heldFrame : Frame → RawCall
-heldFrame f = record { kind = f .kind; fields = take (f .count) (f .fields) }
+heldFrame f = rawCall (f .kind) (take (f .count) (f .fields))
 
 unfoldable pub callIn : Frame → Option RawCall
 callIn f = cond (eqb (f .kind) 0) none (some (heldFrame f))

@@ -8,7 +8,7 @@ ghost use Rattle.format.specs.Fields.{fixed, repeats, fieldsAt, read};
 ghost use Rattle.field_table.specs.Shapes.{Shaped};
 ghost use Rattle.frames.specs.Decoded.{callIn, Zero};
 use field_table::LISTED;
-use field_table::LONGEST;
+use field_table::LONGEST_LINE;
 use field_table::Shape;
 
 // A frame that was read: its kind, or 0 of a malformed line, and its fields, of which there are `count`.
@@ -66,7 +66,7 @@ pub fn decode(line: &[u8]) -> Frame
     ensures { λ r. ⌜ (callIn r ≡ read (now (line .entry))) × (r .kind ≡ 0 → Zero r) ⌝ }
 {
     let len = line.len();
-    if LONGEST < len {
+    if LONGEST_LINE < len {
         return malformed();
     }
     if len < 2 {

@@ -1,18 +1,13 @@
 -- A call through a seat, by the test of its right: barred, or the auction's own.
-use mathlib.Core.Path.{_≡_, refl, sym, _∙_}
+use mathlib.Core.Path.{_≡_, refl}
 use mathlib.Core.Bool.{Bool, true, false, not}
 use Rattle.rules.specs.Ledger.{Call}
 use Rattle.rules.specs.Rounds.{Answered, numberAlone}
-use Rattle.seats.specs.Seats.{Seat, isOfferOrCancellation, mayMake, mayLook, latestExcess}
-use Rattle.seats.specs.SeatLaws.{conducted}
+use Rattle.seats.specs.Seats.{Seat, mayMake, latestExcess}
 use Rattle.seat_rights.specs.RightLaws.{no-right, has-right}
 use Rattle.auction.specs.Called.{Called}
 use Rattle.hall.specs.Through.{CalledThrough}
 use Rattle.hall.specs.declared.Hall.{Hall}
-
--- one test serves all calls but offers and cancellations
-pub conducts : (s : Seat) (c : Call) {b : Bool} → b ≡ mayLook s → isOfferOrCancellation c ≡ false → b ≡ mayMake s c
-conducts s c e f = e ∙ sym (conducted s c f)
 
 module _ (s : Seat) (c : Call) (h : Hall) (b : Bool) (e : b ≡ mayMake s c) where
   pub barred-call : not b ≡ true → CalledThrough s c h h (numberAlone 20)

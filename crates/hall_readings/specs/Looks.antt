@@ -4,7 +4,7 @@ use mathlib.Core.Path.{_≡_}
 use mathlib.Core.Bool.{true, false}
 use mathlib.Core.List.{List}
 use Rattle.rules.specs.Preview.{previewAlone}
-use Rattle.seats.specs.Seats.{Seat, maySettle, mayLook}
+use Rattle.seats.specs.Seats.{Seat, maySettle, mayConduct}
 use Rattle.readings.specs.Readings.{previewIn, Previews, ReadsCurve}
 use Rattle.readings.specs.declared.Preview.{Preview}
 use Rattle.readings.specs.declared.SupplyPoint.{SupplyPoint}
@@ -15,7 +15,7 @@ use Rattle.settling.specs.declared.Settled.{Settled}
 use Rattle.seat_readings.specs.Shown.{ReadsFrom}
 use Rattle.seat_readings.specs.declared.Reading.{Reading}
 use Rattle.hall.specs.declared.Hall.{Hall}
-use Rattle.hall_readings.specs.declared.CurvePoint.{CurvePoint}
+use Rattle.hall_readings.specs.declared.SupplyPointThrough.{SupplyPointThrough}
 
 -- settling: without the right refused by 20, every other number 0, the buffer as it was; with it, as settling the auction
 pub record SettlesThrough (s : Seat) (h : Hall) (limit : ℕ) (old new : List ℕ) (r : Settled) : Type 0 where
@@ -24,22 +24,22 @@ pub record SettlesThrough (s : Seat) (h : Hall) (limit : ℕ) (old new : List �
 
 -- the other calls: likewise
 pub record PreviewsThrough (s : Seat) (h : Hall) (r : Preview) : Type 0 where
-  pub barred : mayLook s ≡ false → previewIn r ≡ previewAlone 20
-  pub made : mayLook s ≡ true → Previews (h .auction) r
+  pub barred : mayConduct s ≡ false → previewIn r ≡ previewAlone 20
+  pub made : mayConduct s ≡ true → Previews (h .auction) r
 
-abbrev pub noCurvePoint : ℕ → CurvePoint
-noCurvePoint n = record { number = n; entries = 0; price = 0; before = 0; after = 0 }
+abbrev pub noSupplyPoint : ℕ → SupplyPointThrough
+noSupplyPoint n = record { number = n; entries = 0; price = 0; before = 0; after = 0 }
 
-abbrev pub curvePointIn : CurvePoint → SupplyPoint
-curvePointIn r = record { entries = r .entries; price = r .price; before = r .before; after = r .after }
+abbrev pub supplyPointOf : SupplyPointThrough → SupplyPoint
+supplyPointOf r = record { entries = r .entries; price = r .price; before = r .before; after = r .after }
 
-pub record ReadsCurveThrough (s : Seat) (h : Hall) (place : ℕ) (r : CurvePoint) : Type 0 where
-  pub barred : mayLook s ≡ false → r ≡ noCurvePoint 20
-  pub made : mayLook s ≡ true → (r .number ≡ 0) × ReadsCurve (h .auction) place (curvePointIn r)
+pub record ReadsCurveThrough (s : Seat) (h : Hall) (place : ℕ) (r : SupplyPointThrough) : Type 0 where
+  pub barred : mayConduct s ≡ false → r ≡ noSupplyPoint 20
+  pub made : mayConduct s ≡ true → (r .number ≡ 0) × ReadsCurve (h .auction) place (supplyPointOf r)
 
 pub record ForcesThrough (s : Seat) (h : Hall) (m n : ℕ) (ps : List ℕ) (r : Forced) : Type 0 where
-  pub barred : mayLook s ≡ false → r ≡ refusedForcing 20
-  pub made : mayLook s ≡ true → ForcesPrice (h .auction) m n ps r
+  pub barred : mayConduct s ≡ false → r ≡ refusedForcing 20
+  pub made : mayConduct s ≡ true → ForcesPrice (h .auction) m n ps r
 
 -- a reading: every seat has one
 abbrev pub ReadsThrough : Seat → Hall → Reading → Type 0

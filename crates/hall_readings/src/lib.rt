@@ -9,8 +9,8 @@ use seat_readings::Reading;
 use seat_rights::Seat;
 use settling::Settled;
 
-// 0 or a refusal's number, the number of points of the supply curve, and the one at a place, zero past the end.
-pub struct CurvePoint {
+// 0 or a refusal's number, and the fields of `readings::SupplyPoint`, all 0 in a refusal.
+pub struct SupplyPointThrough {
     pub number: u8,
     pub entries: usize,
     pub price: u32,
@@ -41,11 +41,11 @@ pub fn preview_closing(hall: Hall, seat: Seat) -> Preview
     readings::preview_closing(hall.auction)
 }
 
-pub fn supply_point(hall: Hall, seat: Seat, place: usize) -> CurvePoint
+pub fn supply_point(hall: Hall, seat: Seat, place: usize) -> SupplyPointThrough
     ensures { λ r. ⌜ ReadsCurveThrough (seatOf seat) hall place r ⌝ }
 {
     if !seat_rights::conducts(seat) {
-        return CurvePoint {
+        return SupplyPointThrough {
             number: Hall::NO_RIGHT,
             entries: 0,
             price: 0,
@@ -54,7 +54,7 @@ pub fn supply_point(hall: Hall, seat: Seat, place: usize) -> CurvePoint
         };
     }
     let point = readings::supply_point(hall.auction, place);
-    CurvePoint {
+    SupplyPointThrough {
         number: 0,
         entries: point.entries,
         price: point.price,

@@ -1,13 +1,13 @@
 -- Histories that agree, and the places of a list with zeros behind it: what stands there, and a store behind the last.
-use Prim.Native.Nat.{ℕ, _+_, _-_, _≤_, _<_}
+use Prim.Native.Nat.{ℕ, _+_, _≤_, _<_}
 use mathlib.Core.Path.{_≡_, sym, ap, _∙_}
 use mathlib.Core.List.{List, [], _∷_, _++_, map, append-assoc}
 use native.Mathlib.Omega.{arith}
-use native.Mathlib.Nat.{zero-add, suc-add}
 use native.Mathlib.Numerals.{add-one}
-use lib.ListN.{length, getD, take, set, replicate, length-append, length-map, List·getD-append, List·getD-map}
-use lib.Seq.{take-suc, length-take-le}
+use lib.ListN.{length, getD, take, set, length-append, List·getD-append}
+use lib.Seq.{take-suc, length-take-le, getD-append-add}
 use Rattle.numbers.specs.Lists.{padded}
+use Rattle.numbers.specs.Padded.{padded-nth}
 pub use Rattle.numbers.specs.Padded.{padded-more}
 use Rattle.rules.specs.Ledger.{Step}
 use Rattle.history.specs.declared.History.{History}
@@ -41,22 +41,11 @@ noStep = record { price = 0; level = 0 }
 pub padded-at :
     (f : Step → ℕ) → f noStep ≡ 0 → (k : ℕ) (ws ss : List Step) (i : ℕ) → i < length ws →
     getD (padded k (map f (ws ++ ss))) i 0 ≡ f (getD ws i noStep)
-padded-at f z k ws ss i w =
-    List·getD-append (map f (ws ++ ss)) (replicate (k - length (map f (ws ++ ss))) 0) 0 i (omega (arith, length-map (ws ++ ss) f, length-append ws ss))
-    ∙ ap (λ (d : ℕ). getD (map f (ws ++ ss)) i d) (sym z)
-    ∙ List·getD-map f (ws ++ ss) i noStep
-    ∙ ap f (List·getD-append ws ss noStep i w)
+padded-at f z k ws ss i w = padded-nth k f (ws ++ ss) i noStep z (omega (arith, length-append ws ss)) ∙ ap f (List·getD-append ws ss noStep i w)
 
 -- a place of the steps behind them
 pub padded-behind :
     (f : Step → ℕ) → f noStep ≡ 0 → (k : ℕ) (ws ss : List Step) (i : ℕ) → i < length ss →
     getD (padded k (map f (ws ++ ss))) (length ws + i) 0 ≡ f (getD ss i noStep)
 padded-behind f z k ws ss i w =
-    List·getD-append (map f (ws ++ ss)) (replicate (k - length (map f (ws ++ ss))) 0) 0 (length ws + i) (omega (arith, length-map (ws ++ ss) f, length-append ws ss))
-    ∙ ap (λ (d : ℕ). getD (map f (ws ++ ss)) (length ws + i) d) (sym z)
-    ∙ List·getD-map f (ws ++ ss) (length ws + i) noStep
-    ∙ ap f (go ws)
-  where
-    go : (xs : List Step) → getD (xs ++ ss) (length xs + i) noStep ≡ getD ss i noStep
-    go [] = ap (λ (j : ℕ). getD ss j noStep) (zero-add i)
-    go (x ∷ xs) = ap (λ (j : ℕ). getD (x ∷ (xs ++ ss)) j noStep) (suc-add (length xs) i) ∙ go xs
+    padded-nth k f (ws ++ ss) (length ws + i) noStep z (omega (arith, length-append ws ss)) ∙ ap f (getD-append-add ws ss i noStep)

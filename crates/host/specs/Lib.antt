@@ -1,3 +1,3 @@
-pub mod Lodging
+pub mod Writing
 pub mod Forcing
 pub mod Sealing

@@ -14,7 +14,7 @@ ghost use Rattle.host_numbers.specs.HostNumbers.{hostNumber, hostRemainder};
 ghost use Rattle.sealed.specs.Sealed.{bookOf, lentAwards};
 ghost use Rattle.host.specs.Forcing.{hostForcing};
 ghost use Rattle.host.specs.Sealing.{hostSealed};
-ghost use Rattle.host.specs.Lodging.{answer, HostWrites};
+ghost use Rattle.host.specs.Writing.{answer, HostWrites};
 use frame_writing::Written;
 
 // Dem(p), or 2^64 - 1 where the settings or p are beyond their bounds.

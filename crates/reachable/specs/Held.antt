@@ -9,7 +9,7 @@ use borrow.Author.Tests.{eqb-true}
 use Rattle.numbers.specs.Cases.{clash}
 use Rattle.rules.specs.Ledger.{Standing, none, made, Developer, Phase, Fresh, Ready, Round, Between, Closed, Ledger, nobody, put, withDevelopers}
 use Rattle.rules.specs.Clearing.{covered}
-use Rattle.rules.specs.Refusals.{isFresh, isReady, mayOpen, inRound, floor}
+use Rattle.rules.specs.Refusals.{isFresh, isReady, mayOpen, inRound, isBetween, floor}
 use Rattle.sound.specs.Sound.{started, appliedTo, SoundDeveloper, SoundOffer, SoundLodged, Stands, Sound}
 pub use Rattle.clearing.specs.ClosingPrice.{started-not-fresh}
 
@@ -35,6 +35,13 @@ in-round Fresh e = absurd (clash e refl)
 in-round Ready e = absurd (clash e refl)
 in-round Between e = absurd (clash e refl)
 in-round Closed e = absurd (clash e refl)
+
+pub is-between : (p : Phase) → isBetween p ≡ true → p ≡ Between
+is-between Between e = refl
+is-between Fresh e = absurd (clash e refl)
+is-between Ready e = absurd (clash e refl)
+is-between Round e = absurd (clash e refl)
+is-between Closed e = absurd (clash e refl)
 
 pub by-may-open : (P : Phase → Type 0) → P Ready → P Between → (p : Phase) → mayOpen p ≡ true → P p
 by-may-open P r b Ready e = r

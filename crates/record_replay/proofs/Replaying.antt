@@ -11,17 +11,18 @@ use lib.ListN.{length}
 use Rattle.format.specs.Hex.{charOf, digits}
 use Rattle.numbers.specs.Tails.{laid, grow}
 use Rattle.replies.specs.Replies.{answerLine, replies}
+use Rattle.host_numbers.specs.HostNumbers.{valueAnswer, hostNumber}
 use Rattle.record_replay.specs.Replayed.{over, hosted, printed}
 
 -- ---- the whole
 
 module _ (t o : List ℕ) (b : Bool) (e : b ≡ leb (length t) (length o)) where
   pub fit-yes : b ≡ true → (length t ≡ hosted t o) × (laid t o ≡ over t o)
-  unfolding hosted over
+  unfolding hosted hostNumber over
   fit-yes h = let g : leb (length t) (length o) ≡ true = sym e ∙ h in (rw g, rw g)
 
-  pub fit-no : b ≡ false → (18446744073709551605 ≡ hosted t o) × (o ≡ over t o)
-  unfolding hosted over
+  pub fit-no : b ≡ false → (hostNumber (valueAnswer 11 0) ≡ hosted t o) × (o ≡ over t o)
+  unfolding hosted hostNumber over
   fit-no h = let g : leb (length t) (length o) ≡ false = sym e ∙ h in (rw g, rw g)
 
 -- ---- the program

@@ -1,19 +1,20 @@
 -- A text in a lent buffer, the number that a host is given for it, and what the program prints (document 01, Frames).
-use Prim.Native.Nat.{ℕ, _-_, _^_}
+use Prim.Native.Nat.{ℕ}
 use mathlib.Core.Bool.{cond, _&&_}
 use mathlib.Core.List.{List, []}
 use lib.Dec.{leb}
 use lib.ListN.{length}
 use Rattle.numbers.specs.Tails.{laid}
 use Rattle.replies.specs.Replies.{answerLine, replies}
+use Rattle.host_numbers.specs.HostNumbers.{valueAnswer, hostNumber}
 
 -- the text over the buffer's start where it fits, else the buffer as it was
 unfoldable pub over : List ℕ → List ℕ → List ℕ
 over t o = cond (leb (length t) (length o)) (laid t o) o
 
--- how many bytes were written; 2^64 less the refusal 11 where the buffer is too short
+-- what a host gets: how many bytes were written, or refusal 11 where the buffer is too short
 unfoldable pub hosted : List ℕ → List ℕ → ℕ
-hosted t o = cond (leb (length t) (length o)) (length t) (2 ^ 64 - 11)
+hosted t o = hostNumber (valueAnswer (cond (leb (length t) (length o)) 0 11) (length t))
 
 -- the most bytes that the program reads, and its reply buffer's
 abbrev pub longestRecord : ℕ

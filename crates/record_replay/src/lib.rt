@@ -7,11 +7,8 @@ ghost use Rattle.numbers.specs.Tails.{laid};
 ghost use Rattle.replies.specs.Replies.{answerLine, replies};
 ghost use Rattle.record_replay.specs.Replayed.{hosted, over, longestRecord, printed};
 
-// What a host gets for refusal 11: 2^64 less 11.
-const REFUSAL_11: u64 = 0xffff_ffff_ffff_fff5;
-
 // The most bytes of a record, and of its replies, in the program.
-const LONGEST: usize = 65_536;
+const LONGEST_RECORD: usize = 65_536;
 
 // Replays a record: how many bytes its replies have, or 2^64 less 11 where they do not fit the buffer.
 pub fn replay(bytes: &[u8], out: &mut [u8]) -> u64
@@ -21,7 +18,7 @@ pub fn replay(bytes: &[u8], out: &mut [u8]) -> u64
     if record_replies::fits(bytes, out.len()) {
         return record_replies::write(bytes, out) as u64;
     }
-    REFUSAL_11
+    host_numbers::host_number(11, 0)
 }
 
 // Writes FF0B and 0A, and gives their number of bytes.
@@ -39,10 +36,10 @@ pub fn print(bytes: &[u8], out: &mut [u8]) -> usize
     requires { ⌜ longestRecord ≤ length (now out) ⌝ }
     ensures { λ r. ⌜ (r ≡ length (printed (now (bytes .entry)))) × (r ≤ longestRecord) × (now (out .exit) ≡ laid (printed (now (bytes .entry))) (now (out .entry))) ⌝ }
 {
-    if LONGEST < bytes.len() {
+    if LONGEST_RECORD < bytes.len() {
         return put_refusal(out);
     }
-    if record_replies::fits(bytes, LONGEST) {
+    if record_replies::fits(bytes, LONGEST_RECORD) {
         return record_replies::write(bytes, out);
     }
     put_refusal(out)

@@ -8,7 +8,7 @@ use mathlib.Core.List.{List, [], _∷_, map, flatten}
 use Rattle.numbers.specs.Lists.{total, any, all}
 use Rattle.format.specs.Hex.{isHex, valueOf, charOf, digits, numberFrom}
 use Rattle.format.specs.Fields.{known, fixed, each, count, layout, fieldsAt, textAt, kindOf, askedWidths, wellFormed, callOf, read}
-use Rattle.format.specs.Written.{widthsOf, lineOf}
+use Rattle.format.specs.Written.{writtenWidths, lineOf}
 use Rattle.format.specs.Example.{codes}
 use Rattle.rules.specs.Ledger.{Own, Named, Call, Register}
 use Rattle.rules.specs.Settling.{Settlement}
@@ -40,7 +40,7 @@ unfolding codes any all total isHex valueOf numberFrom known fixed each count la
 registrations-asked = refl
 
 registrations-written : map (λ c. lineOf (rawOf (Asks c))) registrations ≡ map bytes registrationLines
-unfolding codes charOf digits fixed each count layout textAt widthsOf lineOf rawOf
+unfolding codes charOf digits fixed each count layout textAt writtenWidths lineOf rawOf
 registrations-written = refl
 
 -- the replies to them are of these kinds

@@ -4,24 +4,14 @@ use Prim.Native.Nat.{ℕ}
 use Prim.Native.String.{String, len}
 use mathlib.Core.Path.{_≡_, refl}
 use mathlib.Core.List.{List, [], _∷_, _++_, map, flatten}
-use Rattle.numbers.specs.Lists.{oneTo, keep, total, greatest, lastOr, any, all}
-use Rattle.numbers.specs.Least.{leastFrom}
-use Rattle.curve.specs.Demand.{dem, inBounds}
-use Rattle.curve.specs.Remainder.{exactTimesCe, remainder}
-use Rattle.choices.specs.Choices.{spread, choices, covering, larger, before, best, bestOf}
-use Rattle.rules.specs.Clearing.{quantityAfter, high, low, developersOf, greatestOf, supply, covered, closingPrice}
-use Rattle.rules.specs.Refusals.{settingsOk, numbersOk, rising, levelsOk, mayJoin, declarationOk, openingPrice, closingOk, startCovered, isOfKind, falling, pricesOk, lowering, moveNumber, number}
-use Rattle.rules.specs.Rounds.{steps, withdrawsAll, reached, unreached, added, lastLevel, applied, supplyAfter, thousandths, clears, phaseAfter, moved, accepted, step, excess, granted, answer}
-use Rattle.rules.specs.Award.{openBetween, openToDeveloper, openTo, insert, insertAll, declaredBy, openLevels, row, rows, admissible, coveringChoices, award, preferred, mostPreferred, firstPreferred, winner}
-use Rattle.rules.specs.Second.{lodgedApplied, takenOut, remaining, short, secondPrice}
-use Rattle.rules.specs.Participation.{existingPlants, isSmall, grantsFrom, grants, newAward, newToSmall, sufficient, pricePaid}
-use Rattle.rules.specs.Settling.{recordsFrom, records, settlingNumber, settlementAt, settlement}
+use Rattle.numbers.specs.Lists.{total, any, all}
+use Rattle.rules.specs.Computing.{settled}
 use Rattle.curve.specs.Marked.{MarkedCases}
 use Rattle.rules.specs.Sample.{sample, SampleSettled, shown-jointly}
 use Rattle.format.specs.Hex.{isHex, valueOf, charOf, digits, numberFrom}
 use Rattle.format.specs.Fields.{known, fixed, each, count, layout, fieldsAt, textAt, kindOf, askedWidths, wellFormed, callOf, read}
 use Rattle.format.specs.Lines.{onFirst, lines}
-use Rattle.format.specs.Written.{widthsOf, lineOf, frameOf}
+use Rattle.format.specs.Written.{writtenWidths, lineOf, frameOf}
 use Rattle.format.specs.Example.{codes}
 use Rattle.replies.specs.Orders.{Asks, Settle, firsts, seconds, orderOf, ordered, orderIn}
 use Rattle.replies.specs.WrittenOrders.{paired, rawOf, frameOfOrder}
@@ -73,19 +63,11 @@ sample-asks = refl
 
 -- the writer's frames of these calls are the record (document 02, 2)
 pub sample-written : flatten (map frameOfOrder (map Asks sample ++ (Settle 100 ∷ []))) ≡ sampleRecord
-unfolding codes line text flatten charOf digits fixed each count layout textAt widthsOf lineOf frameOf paired rawOf frameOfOrder
+unfolding codes line text flatten charOf digits fixed each count layout textAt writtenWidths lineOf frameOf paired rawOf frameOfOrder
 sample-written = refl
 
 sample-replied : replies sampleRecord ≡ sampleReply
-unfolding codes line text flatten oneTo keep total greatest lastOr any all leastFrom dem exactTimesCe remainder inBounds
-    quantityAfter high low developersOf greatestOf supply covered closingPrice
-    settingsOk numbersOk rising levelsOk mayJoin declarationOk openingPrice closingOk startCovered isOfKind falling pricesOk lowering moveNumber number
-    steps withdrawsAll reached unreached added lastLevel applied supplyAfter thousandths clears phaseAfter moved accepted step excess granted answer
-    spread choices covering larger before best bestOf
-    openBetween openToDeveloper openTo insert insertAll declaredBy openLevels row rows admissible coveringChoices award preferred mostPreferred firstPreferred winner
-    lodgedApplied takenOut remaining short secondPrice
-    existingPlants isSmall grantsFrom grants newAward newToSmall sufficient pricePaid
-    recordsFrom records settlingNumber settlementAt settlement
+unfolding settled codes line text flatten
     isHex valueOf charOf digits numberFrom known fixed each count layout fieldsAt textAt kindOf askedWidths wellFormed callOf read onFirst lines
     firsts seconds orderOf ordered orderIn closingText settlingText answerLine replyTo ledgerAfter repliesFrom replies
 sample-replied = refl

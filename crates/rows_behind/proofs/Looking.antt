@@ -10,8 +10,8 @@ use lib.Seq.{getD-set-same, getD-set-other}
 use Rattle.numbers.specs.Cases.{le-or-lt}
 use Rattle.numbers.specs.Lists.{total}
 use Rattle.choices.specs.Choices.{choices}
-use Rattle.choices.specs.Search.{lowest, highest}
-use Rattle.choices.specs.Between.{lowest-cons, highest-cons}
+use Rattle.choices.specs.Search.{lowestTotal, highestTotal}
+use Rattle.choices.specs.Between.{lowest-total-cons, highest-total-cons}
 use Rattle.choices.specs.Numbered.{count, count-row}
 use Rattle.table.specs.Places.{LaidOut, startOf, rowIn}
 use Rattle.table.specs.PlaceLaws.{row-ends, row-length, row-low, row-high}
@@ -37,8 +37,8 @@ pub record Looking (levels ends order ways lows highs : List ℕ) (n low high i 
   pub highs-long : length highs ≡ 32
   pub behind : Behind levels ends order ways lows highs i
   pub n-is : n ≡ count (map (rowIn levels ends) (drop i order))
-  pub low-is : low ≡ lowest (map (rowIn levels ends) (drop i order))
-  pub high-is : high ≡ highest (map (rowIn levels ends) (drop i order))
+  pub low-is : low ≡ lowestTotal (map (rowIn levels ends) (drop i order))
+  pub high-is : high ≡ highestTotal (map (rowIn levels ends) (drop i order))
 
 pub looking-down : {levels ends order ways lows highs : List ℕ} {n low high i : ℕ} → Looking levels ends order ways lows highs n low high i → 0 < i →
     Looking levels ends order ways lows highs n low high (i - 1 + 1)
@@ -51,7 +51,7 @@ looking-end {i = i} l h = let e : i ≡ 0 = omega arith in rw e at (l .behind)
 module _ {levels ends order : List ℕ} (t : LaidOut levels ends) (o : Orders levels ends order) where
   pub looking-first : (ways lows highs : List ℕ) → length ways ≡ 32 → length lows ≡ 32 → length highs ≡ 32 →
       Looking levels ends order ways lows highs 1 0 0 32
-  unfolding choices lowest highest total
+  unfolding choices lowestTotal highestTotal total
   looking-first ways lows highs a b c = record {
     placed = omega arith;
     ways-long = a;
@@ -59,8 +59,8 @@ module _ {levels ends order : List ℕ} (t : LaidOut levels ends) (o : Orders le
     highs-long = c;
     behind = record { ways-are = λ k g h. absurd (omega arith); lows-are = λ k g h. absurd (omega arith); highs-are = λ k g h. absurd (omega arith) };
     n-is = ap count (sym (from-none t o));
-    low-is = ap lowest (sym (from-none t o));
-    high-is = ap highest (sym (from-none t o));
+    low-is = ap lowestTotal (sym (from-none t o));
+    high-is = ap highestTotal (sym (from-none t o));
   }
 
   module _ {ways lows highs : List ℕ} {n low high : ℕ} (i : ℕ) (l : Looking levels ends order ways lows highs n low high (i + 1)) where
@@ -89,11 +89,11 @@ module _ {levels ends order : List ℕ} (t : LaidOut levels ends) (o : Orders le
         ∙ ap (λ (m : ℕ). m * count (rowsBehind levels ends order i)) (sym (row-length t k (looking-row .0)))
         ∙ sym (ap count here ∙ count-row (rowIn levels ends k) (rowsBehind levels ends order i))
 
-    low-here : low + getD levels start 0 ≡ lowest (map (rowIn levels ends) (drop i order))
-    low-here = omega (arith, l .low-is, ap lowest here, lowest-cons (rowIn levels ends k) (rowsBehind levels ends order i), row-low t k (looking-row .0))
+    low-here : low + getD levels start 0 ≡ lowestTotal (map (rowIn levels ends) (drop i order))
+    low-here = omega (arith, l .low-is, ap lowestTotal here, lowest-total-cons (rowIn levels ends k) (rowsBehind levels ends order i), row-low t k (looking-row .0))
 
-    high-here : high + getD levels (end - 1) 0 ≡ highest (map (rowIn levels ends) (drop i order))
-    high-here = omega (arith, l .high-is, ap highest here, highest-cons (rowIn levels ends k) (rowsBehind levels ends order i), row-high t k (looking-row .0))
+    high-here : high + getD levels (end - 1) 0 ≡ highestTotal (map (rowIn levels ends) (drop i order))
+    high-here = omega (arith, l .high-is, ap highestTotal here, highest-total-cons (rowIn levels ends k) (rowsBehind levels ends order i), row-high t k (looking-row .0))
 
     pub looking-fits : (n * (end - start) ≤ 65536) × (low + getD levels start 0 ≤ 32000000000) × (high + getD levels (end - 1) 0 ≤ 32000000000)
     looking-fits =
@@ -110,8 +110,8 @@ module _ {levels ends order : List ℕ} (t : LaidOut levels ends) (o : Orders le
       highs-long = length-set highs i high ∙ l .highs-long;
       behind = record {
         ways-are = stored count levels ends order ways i n (l .ways-long) row (l .n-is) (l .behind .ways-are);
-        lows-are = stored lowest levels ends order lows i low (l .lows-long) row (l .low-is) (l .behind .lows-are);
-        highs-are = stored highest levels ends order highs i high (l .highs-long) row (l .high-is) (l .behind .highs-are);
+        lows-are = stored lowestTotal levels ends order lows i low (l .lows-long) row (l .low-is) (l .behind .lows-are);
+        highs-are = stored highestTotal levels ends order highs i high (l .highs-long) row (l .high-is) (l .behind .highs-are);
       };
       n-is = n-here;
       low-is = low-here;

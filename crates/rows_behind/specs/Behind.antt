@@ -4,7 +4,7 @@ use mathlib.Core.Path.{_≡_}
 use mathlib.Core.List.{List, map}
 use lib.ListN.{length, drop, getD}
 use Rattle.numbers.specs.ListLaws.{Each}
-use Rattle.choices.specs.Search.{lowest, highest}
+use Rattle.choices.specs.Search.{lowestTotal, highestTotal}
 use Rattle.choices.specs.Numbered.{count}
 use Rattle.table.specs.Places.{rowIn}
 
@@ -24,5 +24,5 @@ EachBehind f levels ends order out i = (k : ℕ) → i ≤ k → k < 32 → getD
 
 pub record Behind (levels ends order ways lows highs : List ℕ) (i : ℕ) : Type 0 where
   pub ways-are : EachBehind count levels ends order ways i
-  pub lows-are : EachBehind lowest levels ends order lows i
-  pub highs-are : EachBehind highest levels ends order highs i
+  pub lows-are : EachBehind lowestTotal levels ends order lows i
+  pub highs-are : EachBehind highestTotal levels ends order highs i

@@ -9,7 +9,7 @@ use native.Mathlib.Numerals.{add-one}
 use lib.ListN.{length, drop, getD, length-drop, length-map, drop-of-length-le}
 use lib.Seq.{drop-cons}
 use Rattle.numbers.specs.ListLaws.{Each, in-map, last-in, total-map-bound}
-use Rattle.choices.specs.Search.{lowOf, highOf, lowest, highest}
+use Rattle.choices.specs.Search.{lowOf, highOf, lowestTotal, highestTotal}
 use Rattle.choices.specs.Kept.{Levels}
 use Rattle.choices.specs.Through.{nth-in}
 use Rattle.choices.specs.Numbered.{count, count-row}
@@ -26,13 +26,13 @@ low-fits (v ∷ vs) r = r .1 v (List·Memᴰ·head refl)
 pub high-fits : (row : List ℕ) → RowLaid row → highOf row ≤ 1000000000
 high-fits row r = ⊎-elim (λ e. omega arith) (λ k. r .1 (highOf row) k) (List·Memᴰ·cases-cons (last-in 0 row))
 
-lowest-fits : (rows : List (List ℕ)) → Each RowLaid rows → lowest rows ≤ length rows * 1000000000
-unfolding lowest
-lowest-fits rows h = total-map-bound lowOf 1000000000 rows (λ row m. low-fits row (h row m))
+lowest-total-fits : (rows : List (List ℕ)) → Each RowLaid rows → lowestTotal rows ≤ length rows * 1000000000
+unfolding lowestTotal
+lowest-total-fits rows h = total-map-bound lowOf 1000000000 rows (λ row m. low-fits row (h row m))
 
-highest-fits : (rows : List (List ℕ)) → Each RowLaid rows → highest rows ≤ length rows * 1000000000
-unfolding highest
-highest-fits rows h = total-map-bound highOf 1000000000 rows (λ row m. high-fits row (h row m))
+highest-total-fits : (rows : List (List ℕ)) → Each RowLaid rows → highestTotal rows ≤ length rows * 1000000000
+unfolding highestTotal
+highest-total-fits rows h = total-map-bound highOf 1000000000 rows (λ row m. high-fits row (h row m))
 
 -- ---- by place
 
@@ -75,7 +75,7 @@ module _ {levels ends order : List ℕ} (t : LaidOut levels ends) (o : Orders le
       let c : count (from i) ≡ length (rowIn levels ends k) * n = ap count (from-cons i h) ∙ count-row (rowIn levels ends k) (from (i + 1)) in
       rw (← add-one i) (omega (arith, one-mul n, from-few i (omega arith)))
 
-  pub from-fits : (i : ℕ) → i ≤ 32 → (lowest (from i) ≤ (32 - i) * 1000000000) × (highest (from i) ≤ (32 - i) * 1000000000)
+  pub from-fits : (i : ℕ) → i ≤ 32 → (lowestTotal (from i) ≤ (32 - i) * 1000000000) × (highestTotal (from i) ≤ (32 - i) * 1000000000)
   from-fits i h =
       let n : length (from i) ≡ 32 - i = length-map (drop i order) (rowIn levels ends) ∙ length-drop i order ∙ ap (λ (l : ℕ). l - i) (o .long) in
-      (rw n at (lowest-fits (from i) (from-each RowLaid (row-laid t) i)), rw n at (highest-fits (from i) (from-each RowLaid (row-laid t) i)))
+      (rw n at (lowest-total-fits (from i) (from-each RowLaid (row-laid t) i)), rw n at (highest-total-fits (from i) (from-each RowLaid (row-laid t) i)))

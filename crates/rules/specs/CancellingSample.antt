@@ -1,14 +1,10 @@
 -- An auction with cancellations (document 02, 7), computed: each refusal in its order, an offer made again, one of no steps cancelled, one missing
 -- after its cancellation, and one that a closing has applied.
 use mathlib.Core.Path.{_≡_, refl}
-use mathlib.Core.List.{List, [], _∷_, map}
-use Rattle.numbers.specs.Lists.{oneTo, keep, total, greatest, lastOr, any, all}
-use Rattle.curve.specs.Demand.{dem, inBounds}
-use Rattle.curve.specs.Remainder.{exactTimesCe, remainder}
-use Rattle.rules.specs.Ledger.{Offer, Cancel, Own, Call, SetUp, Register, Open, By, Close}
-use Rattle.rules.specs.Clearing.{quantityAfter, high, developersOf, greatestOf, supply, covered}
-use Rattle.rules.specs.Refusals.{settingsOk, numbersOk, rising, levelsOk, mayJoin, declarationOk, openingPrice, closingOk, startCovered, isOfKind, falling, pricesOk, lowering, moveNumber, number}
-use Rattle.rules.specs.Rounds.{steps, withdrawsAll, reaches, reached, unreached, added, lastLevel, applied, supplyAfter, thousandths, clears, phaseAfter, moved, accepted, step, stepAll, ledger, excess, granted, answer, answersFrom, answers}
+use mathlib.Core.List.{List, [], _∷_, _++_}
+use Rattle.rules.specs.Ledger.{Offer, Cancel, Own, Call, SetUp, Register, Open, By, Close, start}
+use Rattle.rules.specs.Rounds.{ledger}
+use Rattle.rules.specs.Computing.{callNumbers}
 
 -- developer 1 an existing plant, 2 and 3 new ones; no round is open at first
 abbrev registered : List Call
@@ -21,13 +17,10 @@ registered =
     ∷ Open 30000
     ∷ []
 
+-- offers made and cancelled in two rounds
 abbrev cancelling : List Call
 cancelling =
-    By 1 Cancel
-    ∷ By 4 Cancel
-    ∷ By 33 Cancel
-    ∷ By 2 Cancel
-    ∷ By 2 (Offer (35000 ∷ []) (300000 ∷ []))
+    By 2 (Offer (35000 ∷ []) (300000 ∷ []))
     ∷ By 3 (Offer [] [])
     ∷ By 2 (Offer [] [])
     ∷ By 2 Cancel
@@ -42,18 +35,29 @@ cancelling =
     ∷ By 3 Cancel
     ∷ []
 
--- 3 before 16, and 16 for a second cancellation; developer 2 has no offer at the closing and withdraws at the opening price, developer 3's stood
-abbrev Cancellations : Type 0
-Cancellations =
-    (map (λ r. r .number) (answers registered) ≡ 0 ∷ 0 ∷ 0 ∷ 0 ∷ 2 ∷ 0 ∷ [])
-    × (map (λ r. r .number) (answersFrom (ledger registered) cancelling) ≡ 3 ∷ 3 ∷ 3 ∷ 16 ∷ 0 ∷ 0 ∷ 8 ∷ 0 ∷ 16 ∷ 0 ∷ 0 ∷ 0 ∷ 0 ∷ 0 ∷ 2 ∷ 0 ∷ 16 ∷ [])
-    × (stepAll (ledger registered) cancelling .developers 2 .withdrawals ≡ record { price = 40000; level = 0 } ∷ [])
-    × (stepAll (ledger registered) cancelling .developers 3 .withdrawals ≡ [])
+-- 2 without a round; in one 3 before 16, and 16 while no offer stands
+pub cancelled-too-early : callNumbers start registered ≡ 0 ∷ 0 ∷ 0 ∷ 0 ∷ 2 ∷ 0 ∷ []
+unfolding callNumbers
+cancelled-too-early = refl
 
-pub cancellations : Cancellations
-unfolding oneTo keep total greatest lastOr any all dem exactTimesCe remainder inBounds
-    quantityAfter high developersOf greatestOf supply covered
-    settingsOk numbersOk rising levelsOk mayJoin declarationOk openingPrice closingOk startCovered isOfKind falling pricesOk lowering moveNumber number
-    steps withdrawsAll reaches reached unreached added lastLevel applied supplyAfter thousandths clears phaseAfter moved accepted step stepAll ledger
-    excess granted answer answersFrom answers
-cancellations = (refl, refl, refl, refl)
+pub no-new-plants : callNumbers (ledger registered) (By 1 Cancel ∷ By 4 Cancel ∷ By 33 Cancel ∷ []) ≡ 3 ∷ 3 ∷ 3 ∷ []
+unfolding callNumbers
+no-new-plants = refl
+
+pub no-offer-stands : callNumbers (ledger registered) (By 2 Cancel ∷ []) ≡ 16 ∷ []
+unfolding callNumbers
+no-offer-stands = refl
+
+-- 8 for a second offer, and 16 for a second cancellation
+pub once-each : callNumbers (ledger registered) cancelling ≡ 0 ∷ 0 ∷ 8 ∷ 0 ∷ 16 ∷ 0 ∷ 0 ∷ 0 ∷ 0 ∷ 0 ∷ 2 ∷ 0 ∷ 16 ∷ []
+unfolding callNumbers
+once-each = refl
+
+-- developer 2 has no offer at the closing and withdraws at the opening price; developer 3's stood
+pub missing-when-cancelled : ledger (registered ++ cancelling) .developers 2 .withdrawals ≡ record { price = 40000; level = 0 } ∷ []
+unfolding callNumbers
+missing-when-cancelled = refl
+
+pub made-again : ledger (registered ++ cancelling) .developers 3 .withdrawals ≡ []
+unfolding callNumbers
+made-again = refl

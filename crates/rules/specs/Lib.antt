@@ -6,6 +6,7 @@ pub mod Second
 pub mod Award
 pub mod Participation
 pub mod Settling
+pub mod Computing
 pub mod Sample
 pub mod LodgingSample
 pub mod CancellingSample

@@ -3,21 +3,9 @@
 use Prim.Native.Nat.{ℕ}
 use mathlib.Core.Path.{_≡_, refl}
 use mathlib.Core.Bool.{Bool, true, false}
-use mathlib.Core.List.{List, [], _∷_, _++_, map}
-use Rattle.numbers.specs.Lists.{oneTo, keep, total, greatest, lastOr, any, all}
-use Rattle.numbers.specs.Least.{leastFrom}
-use Rattle.curve.specs.Demand.{dem, inBounds}
-use Rattle.curve.specs.Remainder.{exactTimesCe, remainder}
-use Rattle.rules.specs.Ledger.{Offer, Own, Named, Call, SetUp, Register, Open, By, Close}
-use Rattle.rules.specs.Clearing.{quantityAfter, high, low, developersOf, greatestOf, supply, covered, closingPrice}
-use Rattle.rules.specs.Refusals.{settingsOk, numbersOk, rising, levelsOk, mayJoin, declarationOk, openingPrice, closingOk, startCovered, isOfKind, falling, pricesOk, lowering, moveNumber, number}
-use Rattle.rules.specs.Rounds.{steps, withdrawsAll, reaches, reached, unreached, added, lastLevel, applied, supplyAfter, thousandths, clears, phaseAfter, moved, accepted, step, stepAll, ledger, excess, granted, answer, answersFrom, answers}
-use Rattle.choices.specs.Choices.{spread, choices, covering, larger, before, best, bestOf}
-use Rattle.choices.specs.Search.{placed, byFalling, order, lowest, highest, aboveBest, setAside, inTurn, searched, given, found, kept}
-use Rattle.rules.specs.Second.{lodgedApplied, takenOut, remaining, short, secondPrice}
-use Rattle.rules.specs.Award.{openBetween, openToDeveloper, openTo, insert, insertAll, declaredBy, openLevels, row, rows, admissible, coveringChoices, keptChoices, award, preferred, mostPreferred, firstPreferred, winner}
-use Rattle.rules.specs.Participation.{existingPlants, isSmall, grantsFrom, grants, newAward, newToSmall, sufficient, pricePaid}
-use Rattle.rules.specs.Settling.{recordsFrom, records, settlementAt, settlement}
+use mathlib.Core.List.{List, [], _∷_, _++_}
+use Rattle.rules.specs.Ledger.{Offer, Own, Named, Call, SetUp, Register, Open, By, Close, start}
+use Rattle.rules.specs.Computing.{callNumbers, settled}
 
 -- agent 5 has the existing plant 1, of u, and the new one 2, of v; agent 3 the new one 3, of w; agent 4 the existing one 4, of 200,000
 abbrev registered : ℕ → ℕ → ℕ → List Call
@@ -36,28 +24,27 @@ registered u v w =
 abbrev round : List Call
 round = Open 29990 ∷ By 2 (Offer [] []) ∷ By 3 (Offer [] []) ∷ Close ∷ []
 
+-- P, the mark of insufficient participation and the price paid to existing plants
 abbrev Paid : ℕ → ℕ → ℕ → ℕ → Bool → ℕ → Type 0
 Paid u v w p mark paid =
-    let s = settlement (ledger (registered u v w ++ round)) in
+    let s = settled (registered u v w ++ round) in
     (s .price ≡ p) × (s .insufficient ≡ mark) × (s .paid ≡ paid)
 
--- 3 for the agents 0 and 33, before 4; at P 30,000, CE x 11 / 10 being 22,000: with 15 per cent agent 5 is not small, half of the new award is
--- enough and less is not; below 15 per cent it is small, and all the new award is given to small agents
-abbrev Agents : Type 0
-Agents =
-    (map (λ r. r .number) (answers (registered 150000 300000 300000)) ≡ 0 ∷ 0 ∷ 3 ∷ 3 ∷ 4 ∷ 0 ∷ 0 ∷ 0 ∷ [])
-    × Paid 150000 300000 300000 30000 false 30000
-    × Paid 150000 300001 299999 30000 true 22000
-    × Paid 149999 300002 299999 30000 false 30000
+-- 3 for the agents 0 and 33, before 4
+pub agents-refused : callNumbers start (registered 150000 300000 300000) ≡ 0 ∷ 0 ∷ 3 ∷ 3 ∷ 4 ∷ 0 ∷ 0 ∷ 0 ∷ []
+unfolding callNumbers
+agents-refused = refl
 
-pub agents : Agents
-unfolding oneTo keep total greatest lastOr any all leastFrom dem exactTimesCe remainder inBounds
-    quantityAfter high low developersOf greatestOf supply covered closingPrice
-    settingsOk numbersOk rising levelsOk mayJoin declarationOk openingPrice closingOk startCovered isOfKind falling pricesOk lowering moveNumber number
-    steps withdrawsAll reaches reached unreached added lastLevel applied supplyAfter thousandths clears phaseAfter moved accepted step stepAll ledger
-    excess granted answer answersFrom answers
-    spread choices covering larger before best bestOf placed byFalling order lowest highest aboveBest setAside inTurn searched given found kept
-    lodgedApplied takenOut remaining short secondPrice
-    openBetween openToDeveloper openTo insert insertAll declaredBy openLevels row rows admissible coveringChoices keptChoices award preferred mostPreferred
-    firstPreferred winner existingPlants isSmall grantsFrom grants newAward newToSmall sufficient pricePaid recordsFrom records settlementAt settlement
-agents = (refl, (refl, refl, refl), (refl, refl, refl), (refl, refl, refl))
+-- with 15 per cent agent 5 is not small: half of the new award is enough, and less is not, CE x 11 / 10 being 22,000
+pub half-is-enough : Paid 150000 300000 300000 30000 false 30000
+unfolding settled
+half-is-enough = (refl, refl, refl)
+
+pub less-is-not : Paid 150000 300001 299999 30000 true 22000
+unfolding settled
+less-is-not = (refl, refl, refl)
+
+-- below 15 per cent it is small, and all the new award is given to small agents
+pub small-agents : Paid 149999 300002 299999 30000 false 30000
+unfolding settled
+small-agents = (refl, refl, refl)

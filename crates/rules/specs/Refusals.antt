@@ -19,7 +19,7 @@ isFresh Round = false
 isFresh Between = false
 isFresh Closed = false
 
--- accepts registrations; the next opening is the first
+-- accepts registrations and lodgings; the next opening is the first
 abbrev pub isReady : Phase → Bool
 isReady Fresh = false
 isReady Ready = true
@@ -35,7 +35,7 @@ mayOpen Round = false
 mayOpen Between = true
 mayOpen Closed = false
 
--- accepts offers and closing
+-- accepts offers, cancellations and closing
 abbrev pub inRound : Phase → Bool
 inRound Fresh = false
 inRound Ready = false

@@ -5,21 +5,13 @@ use lib.IntN.{pos, _-ℤ_}
 use mathlib.Core.Bool.{false}
 use mathlib.Core.List.{List, [], _∷_, _++_, map}
 use lib.ListN.{replicate}
-use Rattle.numbers.specs.Lists.{oneTo, keep, total, greatest, lastOr, any, all}
-use Rattle.numbers.specs.Least.{leastFrom}
-use Rattle.curve.specs.Demand.{dem, inBounds}
-use Rattle.curve.specs.Remainder.{exactTimesCe, remainder}
+use Rattle.numbers.specs.Lists.{total}
 use Rattle.curve.specs.Marked.{MarkedCases, marked-cases}
 use Rattle.rules.specs.Ledger.{Offer, Own, Call, SetUp, Register, Open, By, Close, Closed}
-use Rattle.rules.specs.Clearing.{quantityAfter, high, low, developersOf, greatestOf, supply, covered, closingPrice}
-use Rattle.rules.specs.Refusals.{settingsOk, numbersOk, rising, levelsOk, mayJoin, declarationOk, openingPrice, closingOk, startCovered, isOfKind, falling, pricesOk, lowering, moveNumber, number}
-use Rattle.rules.specs.Rounds.{steps, withdrawsAll, reached, unreached, added, lastLevel, applied, supplyAfter, thousandths, clears, phaseAfter, moved, accepted, step, stepAll, ledger, excess, granted, answer, answersFrom, answers}
-use Rattle.choices.specs.Choices.{spread, choices, covering, larger, before, best, bestOf}
-use Rattle.choices.specs.Search.{placed, byFalling, order, lowest, highest, aboveBest, setAside, inTurn, searched, given, found, kept}
-use Rattle.rules.specs.Award.{openBetween, openToDeveloper, openTo, insert, insertAll, declaredBy, openLevels, row, rows, admissible, coveringChoices, keptChoices, award, preferred, mostPreferred, firstPreferred, winner}
-use Rattle.rules.specs.Second.{lodgedApplied, takenOut, remaining, short, secondPrice}
-use Rattle.rules.specs.Participation.{existingPlants, isSmall, grantsFrom, grants, newAward, newToSmall, sufficient, pricePaid}
-use Rattle.rules.specs.Settling.{recordsFrom, records, settlingNumber, settlementAt, settlement}
+use Rattle.rules.specs.Rounds.{ledger, answers}
+use Rattle.rules.specs.Award.{admissible}
+use Rattle.rules.specs.Settling.{settlingNumber, settlement}
+use Rattle.rules.specs.Computing.{callNumbers, settled}
 
 abbrev pub sample : List Call
 sample =
@@ -35,16 +27,28 @@ sample =
     ∷ Close
     ∷ []
 
--- the ledger is closed, and settling with the record's limit 100 and the replay's 192 bytes is accepted; P is 26,000 and Dem(P) 970, with no
--- remainder (document 02, 4); the open totals are 920, 1,020, 1,070 and 1,170, of which three cover; the search keeps 1,070, then 1,020
+-- settling with the record's limit 100 and the replay's 192 bytes is accepted
+abbrev SampleAccepted : Type 0
+SampleAccepted = settlingNumber (ledger sample) 100 192 ≡ 0
+
+sample-accepted : SampleAccepted
+unfolding settled
+sample-accepted = refl
+
+-- the open totals are 920, 1,020, 1,070 and 1,170
+abbrev SampleOpen : Type 0
+SampleOpen = map total (admissible (ledger sample) 26000) ≡ 920 ∷ 1070 ∷ 1020 ∷ 1170 ∷ []
+
+sample-open : SampleOpen
+unfolding settled
+sample-open = refl
+
+-- P is 26,000 and Dem(P) 970, with no remainder (document 02, 4); three of the open totals cover, and the search keeps 1,070, then 1,020
 -- (document 02, 3); the award is 1,020: 820 to developer 1 of project 1 and 200 to developer 3 of project 2, whose agent is small, so that
 -- participation is sufficient (document 02, 10)
-abbrev pub SampleSettled : Type 0
-SampleSettled =
-    (ledger sample .phase ≡ Closed)
-    × (settlingNumber (ledger sample) 100 192 ≡ 0)
-    × (map total (admissible (ledger sample) 26000) ≡ 920 ∷ 1070 ∷ 1020 ∷ 1170 ∷ [])
-    × (settlement (ledger sample) ≡ record {
+abbrev SampleSettlement : Type 0
+SampleSettlement =
+    settlement (ledger sample) ≡ record {
       price = 26000;
       demand = 970;
       remainder = 0;
@@ -57,20 +61,30 @@ SampleSettled =
       insufficient = false;
       paid = 26000;
       records = (1 ∷ 1 ∷ 0 ∷ 0 ∷ 3 ∷ 52 ∷ []) ∷ (2 ∷ 3 ∷ 0 ∷ 0 ∷ 0 ∷ 200 ∷ []) ∷ [];
-    })
+    }
+
+sample-settlement : SampleSettlement
+unfolding settled
+sample-settlement = refl
+
+-- the excess at the closing is -55
+abbrev SampleExcesses : Type 0
+SampleExcesses = map (λ r. r .excess) (answers sample) ≡ replicate 9 (pos 0) ++ ((pos 0 -ℤ pos 55) ∷ [])
+
+sample-excesses : SampleExcesses
+unfolding callNumbers
+sample-excesses = refl
+
+abbrev pub SampleSettled : Type 0
+SampleSettled =
+    (ledger sample .phase ≡ Closed)
+    × SampleAccepted
+    × SampleOpen
+    × SampleSettlement
     × (map (λ r. r .number) (answers sample) ≡ replicate 10 0)
-    × (map (λ r. r .excess) (answers sample) ≡ replicate 9 (pos 0) ++ ((pos 0 -ℤ pos 55) ∷ []))
+    × SampleExcesses
     × (map (λ r. r .remainder) (answers sample) ≡ replicate 10 0)
 
 pub shown-jointly : MarkedCases × SampleSettled
-unfolding oneTo keep total greatest lastOr any all leastFrom dem exactTimesCe remainder inBounds
-    quantityAfter high low developersOf greatestOf supply covered closingPrice
-    settingsOk numbersOk rising levelsOk mayJoin declarationOk openingPrice closingOk startCovered isOfKind falling pricesOk lowering moveNumber number
-    steps withdrawsAll reached unreached added lastLevel applied supplyAfter thousandths clears phaseAfter moved accepted step stepAll ledger excess granted answer answersFrom answers
-    spread choices covering larger before best bestOf
-    placed byFalling order lowest highest aboveBest setAside inTurn searched given found kept
-    openBetween openToDeveloper openTo insert insertAll declaredBy openLevels row rows admissible coveringChoices keptChoices award preferred mostPreferred firstPreferred winner
-    lodgedApplied takenOut remaining short secondPrice
-    existingPlants isSmall grantsFrom grants newAward newToSmall sufficient pricePaid
-    recordsFrom records settlingNumber settlementAt settlement
-shown-jointly = (marked-cases, (refl, refl, refl, refl, refl, refl, refl))
+unfolding callNumbers
+shown-jointly = (marked-cases, (refl, sample-accepted, sample-open, sample-settlement, refl, sample-excesses, refl))

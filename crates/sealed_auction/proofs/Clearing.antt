@@ -11,7 +11,7 @@ use borrow.Author.Tests.{eqb-true, eq-eqb, ne-eqb, le-leb, lt-leb}
 use Rattle.numbers.specs.ListLaws.{Each}
 use Rattle.numbers.specs.Tails.{laid}
 use Rattle.rules.specs.Refusals.{check}
-use Rattle.sealed.specs.Sealed.{Book, bookOf, size, offerAt, turns, awards, leftOver, leftBehind, Sealing, sealedNumber, sealing, lentNumber, lentLeft, lentAwards}
+use Rattle.sealed.specs.Sealed.{Book, bookOf, size, offerAt, mostOffers, turns, awards, leftOver, leftBehind, Sealing, sealedNumber, sealing, lentNumber, lentLeft, lentAwards}
 use Rattle.sealed.specs.Served.{served}
 use Rattle.sealed.specs.ServedLaws.{turns-within, awards-long, served-awards}
 use Rattle.sealed_turns.specs.Turned.{Turned}
@@ -37,7 +37,7 @@ module _ (ceiling demand : ℕ) (b : Book) where
   unfolding sealing
   sealing-given e = ap (λ (t : Bool). cond t given (refusal number)) (eq-eqb number 0 e)
 
-  pub cleared-refused : (n : ℕ) → n ≡ number → (n ≡ 0 → ⊥) → record { number = n; awards = replicate 16 0; left = 0 } ≡ sealedOf (sealing ceiling demand b)
+  pub cleared-refused : (n : ℕ) → n ≡ number → (n ≡ 0 → ⊥) → record { number = n; awards = replicate mostOffers 0; left = 0 } ≡ sealedOf (sealing ceiling demand b)
   cleared-refused n e h = ap (λ (k : ℕ). sealedOf (refusal k)) e ∙ ap sealedOf (sym (sealing-refused (λ z. h (e ∙ z))))
 
 -- the turns are places of the book
@@ -49,12 +49,12 @@ module _ (ceiling demand : ℕ) (ps qs ms gs : List ℕ) where
   b = bookOf ps qs ms gs
 
   pub cleared-given :
-      sealedNumber ceiling demand b ≡ 0 → length ps ≤ 16 → (r : List ℕ) → take (length ps) r ≡ turns b → (xs : List ℕ) (left : ℕ) →
+      sealedNumber ceiling demand b ≡ 0 → length ps ≤ mostOffers → (r : List ℕ) → take (length ps) r ≡ turns b → (xs : List ℕ) (left : ℕ) →
       Shares qs ms demand (take (length ps) r) xs left → record { number = 0; awards = xs; left = left } ≡ sealedOf (sealing ceiling demand b)
   unfolding leftOver
   cleared-given e h r t xs left s =
       ap₂ (λ (xs : List ℕ) (v : ℕ). record { number = 0; awards = xs; left = v })
-      (s .awarded ps gs ∙ ap (λ (ks : List ℕ). served (offerAt b) demand ks (replicate 16 0)) t ∙ served-awards demand b h)
+      (s .awarded ps gs ∙ ap (λ (ks : List ℕ). served (offerAt b) demand ks (replicate mostOffers 0)) t ∙ served-awards demand b h)
       (s .rest ps gs ∙ ap (leftBehind (offerAt b) demand) t)
       ∙ ap sealedOf (sym (sealing-given ceiling demand b e))
 

@@ -4,13 +4,13 @@ use mathlib.Core.Path.{_≡_}
 use mathlib.Core.List.{List}
 use lib.ListN.{length}
 use Rattle.numbers.specs.Lists.{padded}
-use Rattle.sealed.specs.Sealed.{Book, Sealing, lentNumber, lentLeft, lentAwards}
+use Rattle.sealed.specs.Sealed.{Book, mostOffers, Sealing, lentNumber, lentLeft, lentAwards}
 use Rattle.sealed_auction.specs.declared.Sealed.{Sealed}
 use Rattle.sealed_auction.specs.declared.Lent.{Lent}
 
--- the awards in 16 places, 0 behind them
+-- a place for each offer that a list may have, 0 behind the awards
 abbrev pub sealedOf : Sealing → Sealed
-sealedOf s = record { number = s .number; awards = padded 16 (s .awards); left = s .left }
+sealedOf s = record { number = s .number; awards = padded mostOffers (s .awards); left = s .left }
 
 -- `old` and `new` are the lent buffer before and after
 pub record Lends (ceiling demand : ℕ) (b : Book) (old new : List ℕ) (r : Lent) : Type 0 where

@@ -2,12 +2,13 @@
 ghost use mathlib.Core.Path.{_≡_};
 ghost use Rattle.sealed.specs.Sealed.{bookOf, sealing};
 ghost use Rattle.sealed_auction.specs.Cleared.{sealedOf, Lends};
+use sealed_checks::MOST_OFFERS;
 
 // The answer: 0 or a refusal's number, the award of each offer in list order with 0 behind them, what is left. A refusal has 0 in every other
 // place.
 pub struct Sealed {
     pub number: u8,
-    pub awards: [u64; 16],
+    pub awards: [u64; MOST_OFFERS],
     pub left: u64,
 }
 
@@ -24,7 +25,7 @@ pub fn clear(
 {
     let number = sealed_checks::sealed_number(ceiling, demand, prices, quantities, minimums, ages);
     if number != 0 {
-        let none = [0u64; 16];
+        let none = [0u64; MOST_OFFERS];
         return Sealed {
             number: number,
             awards: none,

@@ -9,7 +9,7 @@ use lib.Dec.{ltb}
 use lib.ListN.{length, drop, getD, set, replicate, drop-of-length-le}
 use lib.Seq.{drop-cons}
 use borrow.Author.Tests.{lt-ltb, le-ltb}
-use Rattle.sealed.specs.Sealed.{Offer, bookOf, offerAt, awarded, leftBehind}
+use Rattle.sealed.specs.Sealed.{Offer, bookOf, offerAt, mostOffers, awarded, leftBehind}
 use Rattle.sealed.specs.Served.{served}
 use Rattle.sealed_awards.specs.Shares.{Shares, Awards}
 
@@ -37,11 +37,11 @@ module _ (left q m a : ℕ) where
 -- before the turn of place i of ks
 pub record Sharing (qs ms : List ℕ) (demand : ℕ) (ks out : List ℕ) (left i : ℕ) : Type 0 where
   pub inside : i ≤ length ks
-  pub awarded : (ps gs : List ℕ) → let f = offerAt (bookOf ps qs ms gs) in served f left (drop i ks) out ≡ served f demand ks (replicate 16 0)
+  pub awarded : (ps gs : List ℕ) → let f = offerAt (bookOf ps qs ms gs) in served f left (drop i ks) out ≡ served f demand ks (replicate mostOffers 0)
   pub rest : (ps gs : List ℕ) → let f = offerAt (bookOf ps qs ms gs) in leftBehind f left (drop i ks) ≡ leftBehind f demand ks
 
 module _ (qs ms : List ℕ) (demand : ℕ) (ks : List ℕ) where
-  pub sharing-first : Sharing qs ms demand ks (replicate 16 0) demand 0
+  pub sharing-first : Sharing qs ms demand ks (replicate mostOffers 0) demand 0
   sharing-first = record { inside = omega arith; awarded = λ ps gs. refl; rest = λ ps gs. refl }
 
   module _ (out : List ℕ) (left i : ℕ) (s : Sharing qs ms demand ks out left i) where
@@ -50,7 +50,7 @@ module _ (qs ms : List ℕ) (demand : ℕ) (ks : List ℕ) where
       abbrev f : ℕ → Offer
       f = offerAt (bookOf ps qs ms gs)
 
-      awards-all : served f left l out ≡ served f demand ks (replicate 16 0)
+      awards-all : served f left l out ≡ served f demand ks (replicate mostOffers 0)
       awards-all = rw (← d) (s .awarded ps gs)
 
       rest-all : leftBehind f left l ≡ leftBehind f demand ks

@@ -4,11 +4,13 @@ ghost use mathlib.Core.Path.{_≡_};
 ghost use lib.ListN.{length, take};
 ghost use Rattle.numbers.specs.ListLaws.{Each};
 ghost use Rattle.numbers.specs.Tails.{laid};
+ghost use Rattle.sealed.specs.Sealed.{mostOffers};
 ghost use Rattle.sealed_awards.specs.Shares.{Shares, Awards};
+use sealed_checks::MOST_OFFERS;
 
 // The award of each offer in list order, and what is left.
 pub struct Shared {
-    pub awards: [u64; 16],
+    pub awards: [u64; MOST_OFFERS],
     pub left: u64,
 }
 
@@ -20,10 +22,10 @@ pub fn share(
     turns: [usize; 32],
     count: usize,
 ) -> Shared
-    requires { ⌜ (count ≤ 16) × (length (now quantities) ≡ count) × (length (now minimums) ≡ count) × Each (λ k. k < count) (take count turns) ⌝ }
+    requires { ⌜ (count ≤ mostOffers) × (length (now quantities) ≡ count) × (length (now minimums) ≡ count) × Each (λ k. k < count) (take count turns) ⌝ }
     ensures { λ r. ⌜ Shares (now (quantities .entry)) (now (minimums .entry)) demand (take count turns) (r .awards) (r .left) ⌝ }
 {
-    let mut awards = [0u64; 16];
+    let mut awards = [0u64; MOST_OFFERS];
     let mut left = demand;
     let mut i: usize = 0;
     while i < count {
@@ -51,8 +53,8 @@ fn award(left: u64, quantity: u64, minimum: u64) -> u64
 }
 
 // The first `count` awards, from a buffer's start; the places behind them stay.
-pub fn put_awards(awards: [u64; 16], count: usize, out: &mut [u64])
-    requires { ⌜ (count ≤ 16) × (count ≤ length (now out)) ⌝ }
+pub fn put_awards(awards: [u64; MOST_OFFERS], count: usize, out: &mut [u64])
+    requires { ⌜ (count ≤ mostOffers) × (count ≤ length (now out)) ⌝ }
     ensures { λ _. ⌜ now (out .exit) ≡ laid (take count awards) (now (out .entry)) ⌝ }
 {
     let mut k: usize = 0;

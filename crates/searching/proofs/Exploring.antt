@@ -8,7 +8,7 @@ use lib.ListN.{drop, getD}
 use Rattle.numbers.specs.Cases.{le-or-lt}
 use Rattle.numbers.specs.Lists.{part, total}
 use Rattle.numbers.specs.ListLaws.{Each}
-use Rattle.choices.specs.Search.{lowest, highest}
+use Rattle.choices.specs.Search.{lowestTotal, highestTotal}
 use Rattle.choices.specs.Kept.{Levels}
 use Rattle.choices.specs.CoveringCount.{covering-few}
 use Rattle.choices.specs.Numbered.{count}
@@ -64,10 +64,10 @@ module _ {levels ends order strides ways lows highs : List ℕ} {i at base ix : 
   way-is : getD ways i 0 ≡ count behind
   way-is = r .behind .ways-are i zero-le (r .place)
 
-  low-is : getD lows i 0 ≡ lowest behind
+  low-is : getD lows i 0 ≡ lowestTotal behind
   low-is = r .behind .lows-are i zero-le (r .place)
 
-  high-is : getD highs i 0 ≡ highest behind
+  high-is : getD highs i 0 ≡ highestTotal behind
   high-is = r .behind .highs-are i zero-le (r .place)
 
   levels-behind : Each Levels (map rowOf rest)
@@ -84,11 +84,11 @@ module _ {levels ends order strides ways lows highs : List ℕ} {i at base ix : 
   pub room-here : (f .covering + getD ways i 0 ≤ 65536) × (f .kept ≤ f .covering)
   room-here = (omega (arith, r .room, counts, way-is), r .fewer)
 
-  none-left : i + 1 ≡ 32 → lowest behind ≡ highest behind
-  unfolding lowest highest total
+  none-left : i + 1 ≡ 32 → lowestTotal behind ≡ highestTotal behind
+  unfolding lowestTotal highestTotal total
   none-left e =
       let z : behind ≡ [] = ap (λ (n : ℕ). map (rowIn levels ends) (drop n order)) e ∙ from-none (r .table) (r .orders) in
-      ap lowest z ∙ sym (ap highest z)
+      ap lowestTotal z ∙ sym (ap highestTotal z)
 
   module _ (d : ℕ) where
     -- g has gone through the choices with the level at the place

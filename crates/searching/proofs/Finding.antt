@@ -15,7 +15,7 @@ use Rattle.numbers.specs.ListLaws.{Each}
 use Rattle.choices.specs.Choices.{choices, covering, bestOf}
 use Rattle.choices.specs.Pairwise.{StrictlyRising}
 use Rattle.choices.specs.Best.{best-choice}
-use Rattle.choices.specs.Search.{highOf, highest, aboveBest, searched, kept}
+use Rattle.choices.specs.Search.{highOf, highestTotal, aboveBest, searched, kept}
 use Rattle.choices.specs.Searched.{rankOf, found-in-order}
 use Rattle.choices.specs.Falling.{falling-any}
 use Rattle.choices.specs.CoveringCount.{coveringFrom, covering-any, covering-count}
@@ -97,7 +97,7 @@ ahead-meets v k d h f =
 abbrev pub result : ℕ → List Strided → Found
 result d rs = through (offered d) rs 0 0 none
 
-module _ (d : ℕ) (rs : List Strided) (rise : Each StrictlyRising (map rowOf rs)) (fits : highest (map rowOf rs) ≤ 32000000000) where
+module _ (d : ℕ) (rs : List Strided) (rise : Each StrictlyRising (map rowOf rs)) (fits : highestTotal (map rowOf rs) ≤ 32000000000) where
   bound : (u j : ℕ) → Among rs 0 0 u j → u ≤ 32000000000
   bound u j a = omega (arith, among-between rs 0 0 u j rise a .1)
 
@@ -152,7 +152,7 @@ module _ {levels ends strides : List ℕ} (q : Searchable levels ends strides) (
   rise : Each StrictlyRising (map rowOf rs)
   rise = rw rows-are (λ row m. from-levels (q .table) (in-order q) 0 row m .1)
 
-  fits : highest (map rowOf rs) ≤ 32000000000
+  fits : highestTotal (map rowOf rs) ≤ 32000000000
   fits = rw rows-are (omega (arith, from-fits (q .table) (in-order q) 0 zero-le .1))
 
   -- what holds of every row

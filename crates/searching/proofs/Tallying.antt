@@ -12,7 +12,7 @@ use borrow.Author.Tests.{le-leb, lt-leb}
 use Rattle.numbers.specs.Lists.{total}
 use Rattle.numbers.specs.ListLaws.{Each}
 use Rattle.choices.specs.Choices.{choices}
-use Rattle.choices.specs.Search.{lowest, highest}
+use Rattle.choices.specs.Search.{lowestTotal, highestTotal}
 use Rattle.choices.specs.Pairwise.{StrictlyRising}
 use Rattle.choices.specs.CoveringCount.{coveringFrom, covering-all}
 use Rattle.choices.specs.Kept.{Levels}
@@ -27,14 +27,14 @@ use Rattle.searching.specs.Going.{offered}
 -- ---- parts of which no choice covers, or all do
 
 module _ (d : ℕ) (rs : List Strided) (t i : ℕ) (f : Found) (rise : Each StrictlyRising (map rowOf rs)) where
-  pub through-none : t + highest (map rowOf rs) < d → through (offered d) rs t i f ≡ f
+  pub through-none : t + highestTotal (map rowOf rs) < d → through (offered d) rs t i f ≡ f
   through-none h = through-keeps (λ x. x ≡ f) (offered d) rs t i step f refl
     where
       step : (u j : ℕ) → Among rs t i u j → (x : Found) → x ≡ f → offered d u j x ≡ f
       step u j a x e = rw (lt-leb d u (omega (arith, among-between rs t i u j rise a .1))) e
 
   -- all cover and are above the best
-  through-above : d ≤ t + lowest (map rowOf rs) → f .total < t + lowest (map rowOf rs) → through (offered d) rs t i f ≡ onlyCounted (count (map rowOf rs)) f
+  through-above : d ≤ t + lowestTotal (map rowOf rs) → f .total < t + lowestTotal (map rowOf rs) → through (offered d) rs t i f ≡ onlyCounted (count (map rowOf rs)) f
   through-above h k =
       through-relates (λ x n. x ≡ onlyCounted n f) (offered d) (counted d) rs t i step f 0 (rw (add-zero (f .covering)))
       ∙ ap (λ n. onlyCounted n f) (through-counted d rs t i 0 ∙ zero-add (coveringFrom d (map rowOf rs) t) ∙ covering-all d (map rowOf rs) t rise h)
@@ -50,27 +50,27 @@ pub count-cons : (v : ℕ) (vs : List ℕ) (rows : List (List ℕ)) → count ((
 count-cons v vs rows = count-row (v ∷ vs) rows ∙ omega (arith, count-row vs rows, suc-mul (length vs) (count rows))
 
 -- all cover: the lows are the best of them, the others are above the lows
-pub through-all : (d : ℕ) (rs : List Strided) (t i : ℕ) (f : Found) → Each Levels (map rowOf rs) → d ≤ t + lowest (map rowOf rs) →
-    through (offered d) rs t i f ≡ more (count (map rowOf rs)) (t + lowest (map rowOf rs)) i f
-unfolding through eachLevel choices lowest total
+pub through-all : (d : ℕ) (rs : List Strided) (t i : ℕ) (f : Found) → Each Levels (map rowOf rs) → d ≤ t + lowestTotal (map rowOf rs) →
+    through (offered d) rs t i f ≡ more (count (map rowOf rs)) (t + lowestTotal (map rowOf rs)) i f
+unfolding through eachLevel choices lowestTotal total
 through-all d [] t i f levels h = rw (add-zero t, le-leb d t (omega arith))
 through-all d ((s, []) ∷ rs) t i f levels h = absurd (omega (arith, levels [] (List·Memᴰ·head refl) .0))
 through-all d ((s, (v ∷ [])) ∷ rs) t i f levels h =
     let rows : List (List ℕ) = map rowOf rs in
     let c : count ((v ∷ []) ∷ rows) ≡ count rows = count-row (v ∷ []) rows ∙ one-mul (count rows) in
-    through-all d rs (t + v) i f (λ r m. levels r (List·Memᴰ·tail m)) (omega arith) ∙ rw (c, add-assoc t v (lowest rows))
+    through-all d rs (t + v) i f (λ r m. levels r (List·Memᴰ·tail m)) (omega arith) ∙ rw (c, add-assoc t v (lowestTotal rows))
 through-all d ((s, (v ∷ w ∷ vs)) ∷ rs) t i f levels h =
     let rows : List (List ℕ) = map rowOf rs in
-    let first : ℕ = t + v + lowest rows in
+    let first : ℕ = t + v + lowestTotal rows in
     let g : Found = more (count rows) first i f in
     let r = levels (v ∷ w ∷ vs) (List·Memᴰ·head refl) .1 in
     let above : v < w = r .0 w (List·Memᴰ·head refl) in
     let rise : Each StrictlyRising ((w ∷ vs) ∷ rows) = λ row m. ⊎-elim (λ e. rw e (r .1)) (λ k. levels row (List·Memᴰ·tail k) .1) (List·Memᴰ·cases-cons m) in
-    let low : first < t + lowest ((w ∷ vs) ∷ rows) = omega arith in
+    let low : first < t + lowestTotal ((w ∷ vs) ∷ rows) = omega arith in
     ap (λ (x : Found). through (offered d) ((s, (w ∷ vs)) ∷ rs) t (i + s) x) (through-all d rs (t + v) i f (λ r m. levels r (List·Memᴰ·tail m)) (omega arith))
     ∙ through-above d ((s, (w ∷ vs)) ∷ rs) t (i + s) g rise (omega arith) (omega (arith, more-total (count rows) first i f))
     ∙ more-counted (count rows) first i f (count ((w ∷ vs) ∷ rows))
-    ∙ rw (count-cons v (w ∷ vs) rows, add-assoc t v (lowest rows))
+    ∙ rw (count-cons v (w ∷ vs) rows, add-assoc t v (lowestTotal rows))
 
 -- ---- what every way through keeps
 

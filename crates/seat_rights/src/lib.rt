@@ -1,7 +1,6 @@
 // The seats of the auction hall, and who may make which call (document 02, 14).
 ghost use mathlib.Core.Path.{_≡_};
-ghost use Rattle.rules.specs.Ledger.{By, Cancel};
-ghost use Rattle.seats.specs.Seats.{mayMake, maySettle, mayLook};
+ghost use Rattle.seats.specs.Seats.{mayConduct, mayOfferFor, maySettle};
 ghost use Rattle.seat_rights.specs.Rights.{seatOf};
 
 pub enum Seat {
@@ -13,7 +12,7 @@ pub enum Seat {
 
 // Whether the seat makes the auctioneer's calls: every one except offers and cancellations.
 pub fn conducts(seat: Seat) -> bool
-    ensures { λ r. ⌜ r ≡ mayLook (seatOf seat) ⌝ }
+    ensures { λ r. ⌜ r ≡ mayConduct (seatOf seat) ⌝ }
 {
     match seat {
         Seat::Auctioneer => true,
@@ -35,7 +34,7 @@ pub fn settles(seat: Seat) -> bool
 
 // Whether the seat offers and cancels for this developer.
 pub fn offers_for(seat: Seat, developer: u8) -> bool
-    ensures { λ r. ⌜ r ≡ mayMake (seatOf seat) (By developer Cancel) ⌝ }
+    ensures { λ r. ⌜ r ≡ mayOfferFor (seatOf seat) developer ⌝ }
 {
     match seat {
         Seat::Auctioneer => false,

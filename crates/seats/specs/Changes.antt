@@ -27,11 +27,11 @@ taken h c = record { ledger = accepted (h .ledger) c; excess = latestExcess c (g
 abbrev pub isAccepted : HallLedger → Seated → Bool
 isAccepted h m = eqb (hallAnswer h m .number) 0
 
-pub record Refused (h : HallLedger) (m : Seated) : Type 0 where
+pub record CallRefused (h : HallLedger) (m : Seated) : Type 0 where
   pub not-accepted : isAccepted h m ≡ false
   pub stays : hallStep h m ≡ h
 
-pub record Accepted (h : HallLedger) (m : Seated) : Type 0 where
+pub record CallAccepted (h : HallLedger) (m : Seated) : Type 0 where
   pub is-accepted : isAccepted h m ≡ true
   pub right : hasRight m ≡ true
   pub passes : number (h .ledger) (m .call) ≡ 0
@@ -52,11 +52,11 @@ module _ (h : HallLedger) (m : Seated) where
   abbrev c : Call
   c = m .call
 
-  pub outcome : Refused h m ⊎ Accepted h m
+  pub outcome : CallRefused h m ⊎ CallAccepted h m
   unfolding hallAnswer hallStep step answer
   outcome = go (hasRight m) refl (eqb (number l c) 0) refl
     where
-      go : (r : Bool) → hasRight m ≡ r → (t : Bool) → eqb (number l c) 0 ≡ t → Refused h m ⊎ Accepted h m
+      go : (r : Bool) → hasRight m ≡ r → (t : Bool) → eqb (number l c) 0 ≡ t → CallRefused h m ⊎ CallAccepted h m
       go true e true z = inr (record {
         is-accepted = rw (e, z) (eq-eqb (granted l c .number) 0 (granted-number l c));
         right = e;
@@ -110,6 +110,6 @@ changes-accepted h Close z =
 
 pub clock-alone : ClockAlone
 clock-alone h m = ⊎-elim
-    (λ (r : Refused h m). rw (r .not-accepted, and-false (movesClock (m .call)), r .stays) (no-change (published h)))
-    (λ (a : Accepted h m). rw (a .is-accepted, and-true (movesClock (m .call)), a .next) (changes-accepted h (m .call) (a .passes)))
+    (λ (r : CallRefused h m). rw (r .not-accepted, and-false (movesClock (m .call)), r .stays) (no-change (published h)))
+    (λ (a : CallAccepted h m). rw (a .is-accepted, and-true (movesClock (m .call)), a .next) (changes-accepted h (m .call) (a .passes)))
     (outcome h m)

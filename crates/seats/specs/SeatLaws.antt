@@ -1,30 +1,12 @@
--- Rights in short, and what a call behind a list makes of the hall's ledger, the answers and the permitted calls.
-use Prim.Native.Nat.{ℕ}
+-- What a call behind a list makes of the hall's ledger, the answers and the permitted calls.
 use mathlib.Core.Path.{_≡_, refl, ap, _∙_}
-use mathlib.Core.Bool.{Bool, true, false, cond, not}
+use mathlib.Core.Bool.{Bool, true, false, cond}
 use mathlib.Core.List.{List, [], _∷_, _++_, append-nil}
 use lib.IntN.{ℤ}
 use borrow.Author.Tests.{ne-eqb}
-use Rattle.rules.specs.Ledger.{Offer, Cancel, Call, SetUp, Register, Open, By, Close, Ledger, start}
+use Rattle.rules.specs.Ledger.{Call, SetUp, Register, Open, By, Close, Ledger, start}
 use Rattle.rules.specs.Rounds.{step, stepAll, ledger, Answered, numberAlone, answer}
-use Rattle.cancelling.specs.TakenBack.{own}
-use Rattle.seats.specs.Seats.{Seat, Auctioneer, Auditor, At, isOfferOrCancellation, mayMake, mayLook, HallLedger, freshHall, Seated, hasRight, hallAnswer, latestExcess, afterCall, hallStep, hallFrom, hallLedger, hallAnswersFrom, hallAnswers, Entry, Direct, Through, permitted, entryAnswersFrom, entryAnswers, throughSeats}
-
--- ---- rights
-
--- of every call but offers and cancellations the right is the auctioneer's alone
-pub conducted : (s : Seat) (c : Call) → isOfferOrCancellation c ≡ false → mayMake s c ≡ mayLook s
-unfolding mayMake
-conducted Auctioneer c e = ap not e
-conducted Auditor c e = refl
-conducted (At n) c e = rw e refl
-
--- who cancels for n offers for it
-pub offering : (s : Seat) (n : ℕ) (ps qs : List ℕ) → mayMake s (By n (Offer ps qs)) ≡ mayMake s (By n Cancel)
-unfolding mayMake isOfferOrCancellation own
-offering Auctioneer n ps qs = refl
-offering Auditor n ps qs = refl
-offering (At k) n ps qs = refl
+use Rattle.seats.specs.Seats.{Seat, mayMake, HallLedger, freshHall, Seated, hasRight, hallAnswer, latestExcess, afterCall, hallStep, hallFrom, hallLedger, hallAnswersFrom, hallAnswers, Entry, Direct, Through, permitted, entryAnswersFrom, entryAnswers, throughSeats}
 
 -- a refused call leaves the excess of the latest closing
 pub refused-excess : (c : Call) (r : Answered) (e : ℤ) → (r .number ≡ 0 → ⊥) → latestExcess c r e ≡ e

@@ -4,15 +4,10 @@ use Prim.Native.Nat.{ℕ}
 use mathlib.Core.Path.{_≡_, refl}
 use mathlib.Core.List.{List, [], _∷_, _++_, map}
 use lib.IntN.{pos}
-use Rattle.numbers.specs.Lists.{oneTo, keep, total, greatest, lastOr, any, all}
-use Rattle.curve.specs.Demand.{dem, inBounds}
-use Rattle.curve.specs.Remainder.{exactTimesCe, remainder}
 use Rattle.rules.specs.Ledger.{Offer, Cancel, Own, Call, SetUp, Register, Open, By, Close, none, made, Fresh, Round, Between}
-use Rattle.rules.specs.Clearing.{quantityAfter, high, developersOf, greatestOf, supply, covered}
-use Rattle.rules.specs.Refusals.{settingsOk, numbersOk, rising, levelsOk, mayJoin, declarationOk, openingPrice, closingOk, startCovered, isOfKind, falling, pricesOk, lowering, moveNumber, number}
-use Rattle.rules.specs.Rounds.{steps, withdrawsAll, reaches, reached, unreached, added, lastLevel, applied, supplyAfter, thousandths, clears, phaseAfter, moved, accepted, step, excess, granted, answer}
+use Rattle.rules.specs.Computing.{callNumbers}
 use Rattle.cancelling.specs.TakenBack.{own}
-use Rattle.seats.specs.Seats.{Seat, Auctioneer, Auditor, At, isOfferOrCancellation, mayMake, freshHall, Seated, hallAnswer, latestExcess, hallStep, hallFrom, hallLedger, hallAnswersFrom, hallAnswers, reading}
+use Rattle.seats.specs.Seats.{Seat, Auctioneer, Auditor, At, mayMake, freshHall, Seated, hallAnswer, latestExcess, hallStep, hallFrom, hallLedger, hallAnswersFrom, hallAnswers, reading}
 use Rattle.seats.specs.Views.{sameExcess, samePhase, sameValues, ownSeat, isFor, askedBy, madeFor, changes, shown, viewFrom, view}
 
 abbrev through : Seat → Call → Seated
@@ -59,10 +54,6 @@ Session =
     × (view 2 one ≡ view 2 other)
 
 pub session : Session
-unfolding oneTo keep total greatest lastOr any all dem exactTimesCe remainder inBounds
-    quantityAfter high developersOf greatestOf supply covered
-    settingsOk numbersOk rising levelsOk mayJoin declarationOk openingPrice closingOk startCovered isOfKind falling pricesOk lowering moveNumber number
-    steps withdrawsAll reaches reached unreached added lastLevel applied supplyAfter thousandths clears phaseAfter moved accepted step excess granted answer
-    own isOfferOrCancellation mayMake hallAnswer latestExcess hallStep hallFrom hallLedger hallAnswersFrom hallAnswers reading
+unfolding callNumbers own mayMake hallAnswer latestExcess hallStep hallFrom hallLedger hallAnswersFrom hallAnswers reading
     sameExcess samePhase sameValues ownSeat isFor askedBy madeFor changes shown viewFrom view
 session = (refl, refl, refl, refl, refl, refl)

@@ -1,12 +1,11 @@
 -- Seats in the auction hall (document 02, 14): who may make which call, the hall's ledger after calls through seats, and what a seat reads.
 use Prim.Native.Nat.{ℕ}
-use mathlib.Core.Bool.{Bool, true, false, cond, not, _&&_}
+use mathlib.Core.Bool.{Bool, true, false, cond}
 use mathlib.Core.List.{List, [], _∷_}
 use lib.Dec.{eqb}
 use lib.IntN.{ℤ, pos}
 use Rattle.rules.specs.Ledger.{Move, Offer, Lodge, Cancel, Call, SetUp, Register, Open, By, Close, Standing, none, Phase, Ledger, start}
 use Rattle.rules.specs.Rounds.{step, Answered, numberAlone, answer}
-use Rattle.cancelling.specs.TakenBack.{own}
 
 -- the auctioneer, the auditor, or the developer of a number, whichever it is
 pub data Seat : Type 0 where
@@ -16,37 +15,37 @@ pub data Seat : Type 0 where
 
 -- ---- rights
 
+-- the auctioneer's right: to every call except offers and cancellations, among them those that leave the auction as it is: a preview (document 02,
+-- 6), a point of the supply curve (9) and who can force the price (11)
+abbrev pub mayConduct : Seat → Bool
+mayConduct Auctioneer = true
+mayConduct Auditor = false
+mayConduct (At n) = false
+
+-- a developer's right: to offer and to cancel for itself
+abbrev pub mayOfferFor : Seat → ℕ → Bool
+mayOfferFor Auctioneer k = false
+mayOfferFor Auditor k = false
+mayOfferFor (At n) k = eqb k n
+
 -- a move that a developer makes through its own seat: an offer, a cancellation
 abbrev pub forItself : Move → Bool
 forItself (Offer ps qs) = true
 forItself (Lodge ps qs) = false
 forItself Cancel = true
 
-unfoldable pub isOfferOrCancellation : Call → Bool
-isOfferOrCancellation (SetUp s) = false
-isOfferOrCancellation (Register n w x) = false
-isOfferOrCancellation (Open c) = false
-isOfferOrCancellation (By n m) = forItself m
-isOfferOrCancellation Close = false
-
--- the auctioneer makes every call except offers and cancellations; a developer offers or cancels for itself
 unfoldable pub mayMake : Seat → Call → Bool
-mayMake Auctioneer c = not (isOfferOrCancellation c)
-mayMake Auditor c = false
-mayMake (At n) c = isOfferOrCancellation c && own n c
+mayMake s (SetUp x) = mayConduct s
+mayMake s (Register n w x) = mayConduct s
+mayMake s (Open c) = mayConduct s
+mayMake s (By n m) = cond (forItself m) (mayOfferFor s n) (mayConduct s)
+mayMake s Close = mayConduct s
 
--- the auctioneer, and the auditor, who reads and settles
+-- settling is the auctioneer's, and the auditor's, who reads and settles
 abbrev pub maySettle : Seat → Bool
 maySettle Auctioneer = true
 maySettle Auditor = true
 maySettle (At n) = false
-
--- the other calls that leave the auction as it is, a preview (document 02, 6), a point of the supply curve (9) and who can force the price (11),
--- are calls too: the auctioneer's
-abbrev pub mayLook : Seat → Bool
-mayLook Auctioneer = true
-mayLook Auditor = false
-mayLook (At n) = false
 
 -- ---- calls through seats
 

@@ -11,11 +11,10 @@ use Rattle.rules.specs.Refusals.{inRound, moveNumber, number}
 use Rattle.rules.specs.Rounds.{applied, accepted, step, Answered, numberAlone, granted, answer}
 use Rattle.reachable.specs.Checks.{set-up-passed, open-passed, close-passed}
 use Rattle.reachable.specs.Held.{is-fresh, by-may-open}
-use Rattle.cancelling.specs.TakenBack.{own}
 use Rattle.cancelling.specs.Entries.{apart, put-beside}
-use Rattle.seats.specs.Seats.{Seat, Auctioneer, Auditor, At, forItself, isOfferOrCancellation, mayMake, HallLedger, Seated, hallAnswer, latestExcess, hallStep, Published, published, Reading, reading}
+use Rattle.seats.specs.Seats.{Seat, Auctioneer, Auditor, At, forItself, mayMake, HallLedger, Seated, hallAnswer, latestExcess, hallStep, Published, published, Reading, reading}
 use Rattle.numbers.specs.Cases.{and-true as both-true}
-use Rattle.seats.specs.Views.{Event, Asked, ForIt, Changed, ownSeat, isFor, Point, movesClock}
+use Rattle.seats.specs.Views.{Event, Asked, ForIt, Changed, ownSeat, isFor, Moment, movesClock}
 use Rattle.seats.specs.Changes.{taken}
 
 pub record Sight : Type 0 where
@@ -70,18 +69,25 @@ answersSeen n s (ForIt c) = []
 answersSeen n s (Changed p) = []
 
 -- what it is told at an event, from its sight before it
-abbrev pub pointSeen : ℕ → Sight → Event → Point
-pointSeen n s e = record { event = e; answers = answersSeen n s e; reads = readingSeen (sightAfter n s e) }
+abbrev pub momentSeen : ℕ → Sight → Event → Moment
+momentSeen n s e = record { event = e; answers = answersSeen n s e; reads = readingSeen (sightAfter n s e) }
 
-unfoldable pub pointsSeen : ℕ → Sight → List Event → List Point
-pointsSeen n s [] = []
-pointsSeen n s (e ∷ es) = pointSeen n s e ∷ pointsSeen n (sightAfter n s e) es
+unfoldable pub momentsSeen : ℕ → Sight → List Event → List Moment
+momentsSeen n s [] = []
+momentsSeen n s (e ∷ es) = momentSeen n s e ∷ momentsSeen n (sightAfter n s e) es
 
 -- ---- its own calls
 
 pub record BySight (n : ℕ) (h : HallLedger) (c : Call) : Type 0 where
   pub answered : hallAnswer h (through n c) ≡ hallAnswer (hallSeen (sight n h)) (through n c)
   pub behind : sight n (hallStep h (through n c)) ≡ sight n (hallStep (hallSeen (sight n h)) (through n c))
+
+-- the moves that a developer may make: an offer or a cancellation, for itself
+pub own-move : (n k : ℕ) (m : Move) → mayMake (At n) (By k m) ≡ true → (forItself m ≡ true) × (eqb k n ≡ true)
+unfolding mayMake
+own-move n k (Offer ps qs) e = (refl, e)
+own-move n k (Lodge ps qs) e = absurd (false≢true e)
+own-move n k Cancel e = (refl, e)
 
 module _ (n : ℕ) (h : HallLedger) where
   abbrev seen : HallLedger
@@ -113,7 +119,7 @@ module _ (n : ℕ) (h : HallLedger) where
 
   -- the checks of an offer and of a cancellation read no more than is seen
   pub by-sight : (c : Call) → BySight n h c
-  unfolding mayMake isOfferOrCancellation own number moveNumber
+  unfolding mayMake number moveNumber
   by-sight c = go (mayMake (At n) c) refl
     where
       of-own : (k : ℕ) (m : Move) → number (h .ledger) (By n m) ≡ number (seen .ledger) (By n m) → eqb k n ≡ true → BySight n h (By k m)
@@ -128,7 +134,7 @@ module _ (n : ℕ) (h : HallLedger) where
       permitted (SetUp s) e = absurd (false≢true e)
       permitted (Register k w x) e = absurd (false≢true e)
       permitted (Open p) e = absurd (false≢true e)
-      permitted (By k m) e = let t = both-true (forItself m) (eqb k n) e in of-own k m (by-move m (t .0)) (t .1)
+      permitted (By k m) e = let t = own-move n k m e in of-own k m (by-move m (t .0)) (t .1)
       permitted Close e = absurd (false≢true e)
 
       go : (b : Bool) → mayMake (At n) c ≡ b → BySight n h c
@@ -162,10 +168,10 @@ module _ (n : ℕ) (h : HallLedger) where
 
   -- who cancels, as who offers, does it for itself
   for-another : (s : Seat) (k : ℕ) (m : Move) → forItself m ≡ true → mayMake s (By k m) ≡ true → ownSeat n s ≡ false → eqb k n ≡ false
-  unfolding mayMake isOfferOrCancellation own ownSeat
-  for-another Auctioneer k m t r o = absurd (false≢true (sym (ap not t) ∙ r))
-  for-another Auditor k m t r o = absurd (false≢true r)
-  for-another (At j) k m t r o = ap (λ (i : ℕ). eqb i n) (eqb-true k j (both-true (forItself m) (eqb k j) r .1)) ∙ o
+  unfolding mayMake ownSeat
+  for-another Auctioneer k m t r o = absurd (false≢true (sym (ap (λ (b : Bool). cond b false true) t) ∙ r))
+  for-another Auditor k m t r o = absurd (false≢true (sym (ap (λ (b : Bool). cond b false false) t) ∙ r))
+  for-another (At j) k m t r o = ap (λ (i : ℕ). eqb i n) (eqb-true k j (own-move j k m r .1)) ∙ o
 
   pub by-others :
       (s : Seat) (c : Call) → mayMake s c ≡ true → ownSeat n s ≡ false → isFor n c ≡ false → movesClock c ≡ false →

@@ -6,16 +6,14 @@ use mathlib.Core.Logic.{⊎-elim}
 use mathlib.Core.Bool.{Bool, true, false, cond, _&&_, and-true, and-false, false≢true}
 use mathlib.Core.List.{List, [], _∷_, _++_}
 use borrow.Author.Tests.{eqb-true, eq-eqb}
-use Rattle.numbers.specs.Cases.{and-true as both-true}
 use Rattle.rules.specs.Ledger.{Call, SetUp, Register, Open, By, Close}
 use Rattle.rules.specs.Rounds.{Answered}
-use Rattle.cancelling.specs.TakenBack.{own}
-use Rattle.seats.specs.Seats.{Seat, Auctioneer, Auditor, At, isOfferOrCancellation, mayMake, HallLedger, freshHall, Seated, hallAnswer, hallStep, hallFrom, hallLedger, published, reading}
+use Rattle.seats.specs.Seats.{Seat, Auctioneer, Auditor, At, mayMake, HallLedger, freshHall, Seated, hallAnswer, hallStep, hallFrom, hallLedger, published, reading}
 use Rattle.seats.specs.SeatLaws.{hall-ledger-snoc}
-use Rattle.seats.specs.Views.{Event, Asked, ForIt, Changed, ownSeat, isFor, askedBy, madeFor, shown, viewFrom, view, Point, answersAt, points, toldFrom, told, ByViewAlone, StillBetween, movesClock, OthersUnseen}
-use Rattle.seats.specs.Changes.{isAccepted, Refused, Accepted, outcome}
+use Rattle.seats.specs.Views.{Event, Asked, ForIt, Changed, ownSeat, isFor, askedBy, madeFor, shown, viewFrom, view, Moment, answersAt, moments, toldFrom, told, ByViewAlone, StillBetween, movesClock, OthersUnseen}
+use Rattle.seats.specs.Changes.{isAccepted, CallRefused, CallAccepted, outcome}
 pub use Rattle.seats.specs.Changes.{clock-alone}
-use Rattle.seats.specs.Sights.{Sight, sight, readingSeen, reads-sight, through, sightAfter, sightBehind, answersSeen, pointSeen, pointsSeen, by-sight, by-clock, by-call-for, by-others}
+use Rattle.seats.specs.Sights.{Sight, sight, readingSeen, reads-sight, through, sightAfter, sightBehind, answersSeen, momentSeen, momentsSeen, own-move, by-sight, by-clock, by-call-for, by-others}
 
 -- ---- what a call shows
 
@@ -49,44 +47,44 @@ others-unseen n h m o f k = shown-is n h m ∙ rw (o, f, k) (go (isAccepted h m)
 
 -- ---- the view follows each call
 
--- the call's points, and the sight behind it, are those of the events that it shows
+-- the call's moments, and the sight behind it, are those of the events that it shows
 record Followed (n : ℕ) (h : HallLedger) (m : Seated) : Type 0 where
-  told : points n h m ≡ pointsSeen n (sight n h) (shown n h m)
+  told : moments n h m ≡ momentsSeen n (sight n h) (shown n h m)
   behind : sight n (hallStep h m) ≡ sightBehind n (sight n h) (shown n h m)
 
 module _ (n : ℕ) (h : HallLedger) (m : Seated) where
   unseen-followed : shown n h m ≡ [] → sight n (hallStep h m) ≡ sight n h → Followed n h m
-  unfolding points pointsSeen sightBehind
+  unfolding moments momentsSeen sightBehind
   unseen-followed e s = record { told = rw e refl; behind = rw e s }
 
   event-followed :
       (e : Event) → shown n h m ≡ e ∷ [] → answersAt e (hallAnswer h m) ≡ answersSeen n (sight n h) e → sight n (hallStep h m) ≡ sightAfter n (sight n h) e →
       Followed n h m
-  unfolding points pointsSeen sightBehind reading
+  unfolding moments momentsSeen sightBehind reading
   event-followed e g a s = record {
     told = rw g (ap₂ (λ (rs : List Answered) (x : Sight). record { event = e; answers = rs; reads = readingSeen x } ∷ []) a s);
     behind = rw g s;
   }
 
 -- through its own seat: an accepted one is an offer or a cancellation
-plain : (n : ℕ) (c : Call) → isOfferOrCancellation c ≡ true → (isFor n c ≡ false) × (movesClock c ≡ false)
-unfolding isOfferOrCancellation isFor movesClock
+plain : (n : ℕ) (c : Call) → mayMake (At n) c ≡ true → (isFor n c ≡ false) × (movesClock c ≡ false)
+unfolding mayMake isFor movesClock
 plain n (SetUp s) e = absurd (false≢true e)
 plain n (Register k w x) e = absurd (false≢true e)
 plain n (Open p) e = absurd (false≢true e)
-plain n (By k m) e = (rw e refl, refl)
+plain n (By k m) e = (rw (own-move n k m e .0) refl, refl)
 plain n Close e = absurd (false≢true e)
 
 module _ (n : ℕ) (h : HallLedger) (c : Call) where
   own-shown : shown n h (through n c) ≡ Asked c ∷ []
-  unfolding askedBy ownSeat othersEvents mayMake
+  unfolding askedBy ownSeat othersEvents
   own-shown = shown-is n h (through n c) ∙ rw (eq-eqb n n refl) (ap (λ (es : List Event). Asked c ∷ es) no-more)
     where
       no-more : othersEvents n h (through n c) (isAccepted h (through n c)) (isFor n c) (movesClock c) ≡ []
       no-more = ⊎-elim
-          (λ (r : Refused h (through n c)). rw (r .not-accepted) refl)
-          (λ (a : Accepted h (through n c)).
-          let p = plain n c (both-true (isOfferOrCancellation c) (own n c) (a .right) .0) in
+          (λ (r : CallRefused h (through n c)). rw (r .not-accepted) refl)
+          (λ (a : CallAccepted h (through n c)).
+          let p = plain n c (a .right) in
           rw (a .is-accepted, p .0, p .1) refl)
           (outcome h (through n c))
 
@@ -106,7 +104,7 @@ for-not-clock n (By k m) e = refl
 for-not-clock n Close e = absurd (false≢true e)
 
 module _ (n : ℕ) (h : HallLedger) (m : Seated) (o : ownSeat n (m .seat) ≡ false) where
-  accepted-followed : Accepted h m → (f k : Bool) → isFor n (m .call) ≡ f → movesClock (m .call) ≡ k → Followed n h m
+  accepted-followed : CallAccepted h m → (f k : Bool) → isFor n (m .call) ≡ f → movesClock (m .call) ≡ k → Followed n h m
   unfolding askedBy othersEvents answersAt answersSeen
   accepted-followed a true k f e =
       event-followed n h m (ForIt (m .call)) (shown-is n h m ∙ rw (o, a .is-accepted, f, for-not-clock n (m .call) f) refl) refl
@@ -120,8 +118,8 @@ module _ (n : ℕ) (h : HallLedger) (m : Seated) (o : ownSeat n (m .seat) ≡ fa
   others-followed : Followed n h m
   unfolding askedBy othersEvents
   others-followed = ⊎-elim
-      (λ (r : Refused h m). unseen-followed n h m (shown-is n h m ∙ rw (o, r .not-accepted) refl) (ap (sight n) (r .stays)))
-      (λ (a : Accepted h m). accepted-followed a (isFor n (m .call)) (movesClock (m .call)) refl refl)
+      (λ (r : CallRefused h m). unseen-followed n h m (shown-is n h m ∙ rw (o, r .not-accepted) refl) (ap (sight n) (r .stays)))
+      (λ (a : CallAccepted h m). accepted-followed a (isFor n (m .call)) (movesClock (m .call)) refl refl)
       (outcome h m)
 
 own-seat : (n : ℕ) (s : Seat) → ownSeat n s ≡ true → s ≡ At n
@@ -140,24 +138,24 @@ followed n h m = go (ownSeat n (m .seat)) refl
 -- ---- along a run
 
 module _ (n : ℕ) where
-  points-append : (s : Sight) (es fs : List Event) → pointsSeen n s (es ++ fs) ≡ pointsSeen n s es ++ pointsSeen n (sightBehind n s es) fs
-  unfolding pointsSeen sightBehind
-  points-append s [] fs = refl
-  points-append s (e ∷ es) fs = ap (λ (ps : List Point). pointSeen n s e ∷ ps) (points-append (sightAfter n s e) es fs)
+  moments-append : (s : Sight) (es fs : List Event) → momentsSeen n s (es ++ fs) ≡ momentsSeen n s es ++ momentsSeen n (sightBehind n s es) fs
+  unfolding momentsSeen sightBehind
+  moments-append s [] fs = refl
+  moments-append s (e ∷ es) fs = ap (λ (ps : List Moment). momentSeen n s e ∷ ps) (moments-append (sightAfter n s e) es fs)
 
   behind-append : (s : Sight) (es fs : List Event) → sightBehind n s (es ++ fs) ≡ sightBehind n (sightBehind n s es) fs
   unfolding sightBehind
   behind-append s [] fs = refl
   behind-append s (e ∷ es) fs = behind-append (sightAfter n s e) es fs
 
-  told-by-view : (h : HallLedger) (ms : List Seated) → toldFrom n h ms ≡ pointsSeen n (sight n h) (viewFrom n h ms)
-  unfolding toldFrom viewFrom pointsSeen
+  told-by-view : (h : HallLedger) (ms : List Seated) → toldFrom n h ms ≡ momentsSeen n (sight n h) (viewFrom n h ms)
+  unfolding toldFrom viewFrom momentsSeen
   told-by-view h [] = refl
   told-by-view h (m ∷ ms) =
       let f = followed n h m in
-      ap₂ (λ (ps qs : List Point). ps ++ qs) (f .told)
-      (told-by-view (hallStep h m) ms ∙ ap (λ (s : Sight). pointsSeen n s (viewFrom n (hallStep h m) ms)) (f .behind))
-      ∙ sym (points-append (sight n h) (shown n h m) (viewFrom n (hallStep h m) ms))
+      ap₂ (λ (ps qs : List Moment). ps ++ qs) (f .told)
+      (told-by-view (hallStep h m) ms ∙ ap (λ (s : Sight). momentsSeen n s (viewFrom n (hallStep h m) ms)) (f .behind))
+      ∙ sym (moments-append (sight n h) (shown n h m) (viewFrom n (hallStep h m) ms))
 
   sight-by-view : (h : HallLedger) (ms : List Seated) → sight n (hallFrom h ms) ≡ sightBehind n (sight n h) (viewFrom n h ms)
   unfolding hallFrom viewFrom sightBehind
@@ -174,7 +172,7 @@ unfolding told view hallLedger
 by-view-alone n ms ms′ e =
     let first = sight n freshHall in
     record {
-      points = told-by-view n freshHall ms ∙ ap (pointsSeen n first) e ∙ sym (told-by-view n freshHall ms′);
+      moments = told-by-view n freshHall ms ∙ ap (momentsSeen n first) e ∙ sym (told-by-view n freshHall ms′);
       behind =
           reads-sight n _
           ∙ ap readingSeen (sight-by-view n freshHall ms ∙ ap (sightBehind n first) e ∙ sym (sight-by-view n freshHall ms′))

@@ -1,4 +1,4 @@
--- What a developer can learn in the hall (document 02, 14): the view that a run gives it, and what it is told at each point of it.
+-- What a developer can learn in the hall (document 02, 14): the view that a run gives it, and what it is told at each moment of it.
 use Prim.Native.Nat.{ℕ}
 use mathlib.Core.Path.{_≡_}
 use mathlib.Core.Bool.{Bool, true, false, cond, not, _&&_}
@@ -73,7 +73,7 @@ view n ms = viewFrom n freshHall ms
 -- ---- what it is told
 
 -- at an event: the answer, if the call is its own, and what it reads then
-pub record Point : Type 0 where
+pub record Moment : Type 0 where
   pub event : Event
   pub answers : List Answered
   pub reads : Reading
@@ -83,18 +83,18 @@ answersAt (Asked c) r = r ∷ []
 answersAt (ForIt c) r = []
 answersAt (Changed p) r = []
 
-abbrev pub pointOf : Answered → Reading → Event → Point
-pointOf r x e = record { event = e; answers = answersAt e r; reads = x }
+abbrev pub momentOf : Answered → Reading → Event → Moment
+momentOf r x e = record { event = e; answers = answersAt e r; reads = x }
 
-unfoldable pub points : ℕ → HallLedger → Seated → List Point
-points n h m = map (pointOf (hallAnswer h m) (reading (hallStep h m) (At n))) (shown n h m)
+unfoldable pub moments : ℕ → HallLedger → Seated → List Moment
+moments n h m = map (momentOf (hallAnswer h m) (reading (hallStep h m) (At n))) (shown n h m)
 
-unfoldable pub toldFrom : ℕ → HallLedger → List Seated → List Point
+unfoldable pub toldFrom : ℕ → HallLedger → List Seated → List Moment
 toldFrom n h [] = []
-toldFrom n h (m ∷ ms) = points n h m ++ toldFrom n (hallStep h m) ms
+toldFrom n h (m ∷ ms) = moments n h m ++ toldFrom n (hallStep h m) ms
 
--- the points of a run, one for each event of the view
-unfoldable pub told : ℕ → List Seated → List Point
+-- the moments of a run, one for each event of the view
+unfoldable pub told : ℕ → List Seated → List Moment
 told n ms = toldFrom n freshHall ms
 
 -- of the answers to a run, those to its own calls
@@ -105,15 +105,15 @@ ownAnswers n (m ∷ ms) (r ∷ rs) = cond (ownSeat n (m .seat)) (r ∷ ownAnswer
 
 -- ---- WHAT A DEVELOPER CAN LEARN
 
--- two runs with equal views tell it the same at every point, and it reads the same behind them
+-- two runs with equal views tell it the same at every moment, and it reads the same behind them
 pub record Learns (n : ℕ) (ms ms′ : List Seated) : Type 0 where
-  pub points : told n ms ≡ told n ms′
+  pub moments : told n ms ≡ told n ms′
   pub behind : reading (hallLedger ms) (At n) ≡ reading (hallLedger ms′) (At n)
 
 abbrev pub ByViewAlone : Type 0
 ByViewAlone = (n : ℕ) (ms ms′ : List Seated) → view n ms ≡ view n ms′ → Learns n ms ms′
 
--- between the points nothing changes: what shows it nothing leaves what it reads
+-- between the moments nothing changes: what shows it nothing leaves what it reads
 abbrev pub StillBetween : Type 0
 StillBetween = (n : ℕ) (ms : List Seated) (m : Seated) → shown n (hallLedger ms) m ≡ [] → reading (hallLedger (ms ++ (m ∷ []))) (At n) ≡ reading (hallLedger ms) (At n)
 

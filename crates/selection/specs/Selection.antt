@@ -12,23 +12,24 @@ use Rattle.table.specs.Rows.{Lays}
 use Rattle.table.specs.declared.Table.{Table}
 use Rattle.selection.specs.declared.Selected.{Selected}
 
--- what settling a book of rows comes to: refusal 10 where there are more choices than the limit
-unfoldable pub selectedOf : ℕ → ℕ → List (List ℕ) → Selected
-selectedOf limit d rows =
-    cond (leb (length (choices rows)) limit)
-    (record {
-      number = 0;
-      choices = length (choices rows);
-      covering = length (covering d (choices rows));
-      kept = kept d rows;
-      total = total (bestOf (covering d (choices rows)));
-      award = bestOf (covering d (choices rows));
-    })
-    (record { number = 10; choices = 0; covering = 0; kept = 0; total = 0; award = replicate 32 0 })
+-- the best of the covering choices, with the counts
+abbrev pub chosenFrom : ℕ → List (List ℕ) → Selected
+chosenFrom d rows = record {
+  number = 0;
+  choices = length (choices rows);
+  covering = length (covering d (choices rows));
+  kept = kept d rows;
+  total = total (bestOf (covering d (choices rows)));
+  award = bestOf (covering d (choices rows));
+}
 
 -- a refusal: every other number is 0
 abbrev pub refusedSelection : ℕ → Selected
 refusedSelection n = record { number = n; choices = 0; covering = 0; kept = 0; total = 0; award = replicate 32 0 }
+
+-- what settling a book of rows comes to: refusal 10 where there are more choices than the limit
+unfoldable pub selectedOf : ℕ → ℕ → List (List ℕ) → Selected
+selectedOf limit d rows = cond (leb (length (choices rows)) limit) (chosenFrom d rows) (refusedSelection 10)
 
 -- on a table that holds rows of which some choice covers
 pub record Selects (t : Table) (d limit : ℕ) (r : Selected) : Type 0 where

@@ -5,12 +5,10 @@ use mathlib.Core.Bool.{Bool, true, false, cond, not}
 use mathlib.Core.List.{List, flatten}
 use native.Mathlib.Omega.{arith}
 use lib.Dec.{leb}
-use lib.ListN.{length, replicate, drop}
+use lib.ListN.{length, drop}
 use borrow.Author.Tests.{eq-eqb, ne-eqb, le-leb, lt-leb}
-use Rattle.numbers.specs.Lists.{total}
 use Rattle.numbers.specs.Tails.{laid, length-laid, behind-laid}
-use Rattle.choices.specs.Choices.{choices, covering, bestOf}
-use Rattle.choices.specs.Search.{kept}
+use Rattle.choices.specs.Choices.{choices}
 use Rattle.rules.specs.Ledger.{Ledger}
 use Rattle.rules.specs.Clearing.{highest, covered, demandAt, closingPrice, ofEach}
 use Rattle.rules.specs.Refusals.{isClosed}
@@ -30,7 +28,7 @@ use Rattle.cleared.specs.declared.Cleared.{Cleared}
 use Rattle.table.specs.Rows.{Lays}
 use Rattle.table.specs.declared.Table.{Table}
 use Rattle.open_levels.specs.Tabled.{Tabled}
-use Rattle.selection.specs.Selection.{selectedOf, Selects}
+use Rattle.selection.specs.Selection.{selectedOf, chosenFrom, refusedSelection, Selects}
 use Rattle.selection.specs.declared.Selected.{Selected}
 use Rattle.awarding.specs.Awarding.{winnersFrom, Winners}
 use Rattle.participation.specs.Judged.{insufficientBy, paidBy}
@@ -93,33 +91,20 @@ known a limit r t s c l snd h = record {
 
 -- ---- the selection's two answers
 
-abbrev chosen : ℕ → List (List ℕ) → Selected
-chosen d rs = record {
-  number = 0;
-  choices = length (choices rs);
-  covering = length (covering d (choices rs));
-  kept = kept d rs;
-  total = total (bestOf (covering d (choices rs)));
-  award = bestOf (covering d (choices rs));
-}
-
-abbrev overTen : Selected
-overTen = record { number = 10; choices = 0; covering = 0; kept = 0; total = 0; award = replicate 32 0 }
-
 -- refused: by 10, and the choices outnumber the limit
 over-limit : (limit d : ℕ) (rs : List (List ℕ)) (s : Selected) → s ≡ selectedOf (min limit 65536) d rs → (s .number ≡ 0 → ⊥) → (s .number ≡ 10) × (leb (length (choices rs)) (min limit 65536) ≡ false)
 unfolding selectedOf
 over-limit limit d rs s e z = go (leb (length (choices rs)) (min limit 65536)) refl e
   where
-    go : (b : Bool) → leb (length (choices rs)) (min limit 65536) ≡ b → s ≡ cond b (chosen d rs) overTen → (s .number ≡ 10) × (b ≡ false)
+    go : (b : Bool) → leb (length (choices rs)) (min limit 65536) ≡ b → s ≡ cond b (chosenFrom d rs) (refusedSelection 10) → (s .number ≡ 10) × (b ≡ false)
     go true f e = absurd (z (ap (λ (x : Selected). x .number) e))
     go false f e = (ap (λ (x : Selected). x .number) e, refl)
 
-within-limit : (limit d : ℕ) (rs : List (List ℕ)) (s : Selected) → s ≡ selectedOf (min limit 65536) d rs → s .number ≡ 0 → (s ≡ chosen d rs) × (leb (length (choices rs)) (min limit 65536) ≡ true)
+within-limit : (limit d : ℕ) (rs : List (List ℕ)) (s : Selected) → s ≡ selectedOf (min limit 65536) d rs → s .number ≡ 0 → (s ≡ chosenFrom d rs) × (leb (length (choices rs)) (min limit 65536) ≡ true)
 unfolding selectedOf
 within-limit limit d rs s e z = go (leb (length (choices rs)) (min limit 65536)) refl e
   where
-    go : (b : Bool) → leb (length (choices rs)) (min limit 65536) ≡ b → s ≡ cond b (chosen d rs) overTen → (s ≡ chosen d rs) × (b ≡ true)
+    go : (b : Bool) → leb (length (choices rs)) (min limit 65536) ≡ b → s ≡ cond b (chosenFrom d rs) (refusedSelection 10) → (s ≡ chosenFrom d rs) × (b ≡ true)
     go true f e = (e, refl)
     go false f e = absurd (let k : _≡_ {A = ℕ} 10 0 = sym (ap (λ (x : Selected). x .number) e) ∙ z in omega arith)
 
@@ -139,7 +124,7 @@ module _ (a : Auction) (limit : ℕ) (r : Cleared) (t : Table) (s : Selected) (c
       k : Known l limit r s
       k = known a limit r t s c l snd h
 
-      w : (s ≡ chosen (demandAt l (closingPrice l)) (rows l (closingPrice l))) × (leb (length (choices (rows l (closingPrice l)))) (min limit 65536) ≡ true)
+      w : (s ≡ chosenFrom (demandAt l (closingPrice l)) (rows l (closingPrice l))) × (leb (length (choices (rows l (closingPrice l)))) (min limit 65536) ≡ true)
       w = within-limit limit _ _ s (k .selected) z
 
       award-is : s .award ≡ award l (closingPrice l)

@@ -26,24 +26,29 @@ pub struct Settled {
     pub records: usize,
 }
 
+// Where nothing was settled: 0 in every place, the number too, which then says nothing.
+pub const UNSETTLED: Settled = Settled {
+    number: 0,
+    price: 0,
+    demand: 0,
+    remainder: 0,
+    total: 0,
+    choices: 0,
+    covering: 0,
+    kept: 0,
+    second: 0,
+    short: false,
+    insufficient: false,
+    paid: 0,
+    records: 0,
+};
+
 pub fn refused(number: u8) -> Settled
     ensures { λ r. ⌜ r ≡ refusedWith number ⌝ }
 {
-    Settled {
-        number: number,
-        price: 0,
-        demand: 0,
-        remainder: 0,
-        total: 0,
-        choices: 0,
-        covering: 0,
-        kept: 0,
-        second: 0,
-        short: false,
-        insufficient: false,
-        paid: 0,
-        records: 0,
-    }
+    let mut refusal = UNSETTLED;
+    refusal.number = number;
+    refusal
 }
 
 fn accepted(

@@ -2,13 +2,11 @@
 -- offer that withdraws where that step did, at the first round's C.
 use mathlib.Core.Path.{_≡_, refl}
 use mathlib.Core.List.{List, [], _∷_, _++_, flatten}
-use Rattle.numbers.specs.Lists.{oneTo, keep, total, greatest, lastOr, any, all}
 use Rattle.numbers.specs.Falling.{placedOnce, distinctFalling}
-use Rattle.curve.specs.Demand.{dem, inBounds}
 use Rattle.rules.specs.Ledger.{Offer, Lodge, Own, Call, SetUp, Register, Open, By, Close}
-use Rattle.rules.specs.Clearing.{quantityAfter, high, low, developersOf, greatestOf, supply, covered}
-use Rattle.rules.specs.Refusals.{settingsOk, numbersOk, rising, levelsOk, mayJoin, declarationOk, openingPrice, closingOk, startCovered, isOfKind, falling, pricesOk, lowering, moveNumber, number}
-use Rattle.rules.specs.Rounds.{steps, withdrawsAll, reaches, reached, unreached, added, lastLevel, applied, supplyAfter, thousandths, clears, phaseAfter, moved, accepted, step, stepAll, ledger}
+use Rattle.rules.specs.Clearing.{low}
+use Rattle.rules.specs.Rounds.{ledger}
+use Rattle.rules.specs.Computing.{callNumbers}
 use Rattle.supply_curve.specs.Curve.{withdrawalPrices, pointAt, supplyCurve}
 
 -- an existing plant that lodges a step at the first round's C; developers 2 and 3 share a project, 3 is the smaller one
@@ -38,9 +36,5 @@ CurveSample =
     × (supplyCurve (ledger (firstRound ++ secondRound)) ≡ record { price = 36000; before = 1800000; after = 1600000 } ∷ record { price = 35000; before = 1600000; after = 1600000 } ∷ record { price = 30000; before = 1600000; after = 1000000 } ∷ [])
 
 pub curve-sample : CurveSample
-unfolding oneTo keep total greatest lastOr any all placedOnce distinctFalling flatten dem inBounds
-    quantityAfter high low developersOf greatestOf supply covered
-    settingsOk numbersOk rising levelsOk mayJoin declarationOk openingPrice closingOk startCovered isOfKind falling pricesOk lowering moveNumber number
-    steps withdrawsAll reaches reached unreached added lastLevel applied supplyAfter thousandths clears phaseAfter moved accepted step stepAll ledger
-    withdrawalPrices pointAt supplyCurve
+unfolding callNumbers placedOnce distinctFalling flatten low withdrawalPrices pointAt supplyCurve
 curve-sample = (refl, refl)

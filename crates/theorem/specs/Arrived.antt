@@ -8,10 +8,10 @@ use mathlib.Core.List.{List, [], _∷_, _++_, map}
 use Rattle.rules.specs.Ledger.{Call, Ledger}
 use Rattle.rules.specs.Rounds.{step, stepAll, ledger, Answered, answer, answersFrom, answers}
 use Rattle.reachable.specs.Steps.{step-all-append, ledger-append}
-use Rattle.arrival.specs.Arrival.{told, Reordered, toldFrom, Alike}
+use Rattle.arrival.specs.Arrival.{withAnswers, Reordered, answeredFrom, Alike}
 use Rattle.arrival.specs.ArrivalLaws.{arrival}
 use Rattle.auction.specs.declared.Auction.{Auction}
-use Rattle.theorem.specs.EveryList.{Run, reached}
+use Rattle.theorem.specs.EveryList.{Run, run-reached}
 use Rattle.theorem.specs.EqualAuctions.{EqualAuctions, equal-auctions, in-three}
 
 pub record Arrived (cs ds es rest : List Call) : Type 1 where
@@ -19,16 +19,16 @@ pub record Arrived (cs ds es rest : List Call) : Type 1 where
   pub between : Alike (ledger cs) ds es
   pub answered :
       {rs rs′ : List Answered} {a a′ : Auction} → Run (cs ++ (ds ++ rest)) rs a → Run (cs ++ (es ++ rest)) rs′ a′ →
-      (rs ≡ answers cs ++ (map (λ t. t .1) (toldFrom (ledger cs) ds) ++ answersFrom (ledger (cs ++ ds)) rest))
-      × (rs′ ≡ answers cs ++ (map (λ t. t .1) (toldFrom (ledger cs) es) ++ answersFrom (ledger (cs ++ ds)) rest))
+      (rs ≡ answers cs ++ (map (λ t. t .1) (answeredFrom (ledger cs) ds) ++ answersFrom (ledger (cs ++ ds)) rest))
+      × (rs′ ≡ answers cs ++ (map (λ t. t .1) (answeredFrom (ledger cs) es) ++ answersFrom (ledger (cs ++ ds)) rest))
 
 abbrev pub ArrivalStated : Type 1
 ArrivalStated = (cs ds es rest : List Call) → Reordered ds es → Arrived cs ds es rest
 
-answers-told : (l : Ledger) (cs : List Call) → answersFrom l cs ≡ map (λ t. t .1) (toldFrom l cs)
-unfolding answersFrom told
-answers-told l [] = refl
-answers-told l (c ∷ cs) = ap (λ (rs : List Answered). answer l c ∷ rs) (answers-told (step l c) cs)
+answers-answered : (l : Ledger) (cs : List Call) → answersFrom l cs ≡ map (λ t. t .1) (answeredFrom l cs)
+unfolding answersFrom withAnswers
+answers-answered l [] = refl
+answers-answered l (c ∷ cs) = ap (λ (rs : List Answered). answer l c ∷ rs) (answers-answered (step l c) cs)
 
 pub arrival-stated : ArrivalStated
 arrival-stated cs ds es rest h =
@@ -38,10 +38,10 @@ arrival-stated cs ds es rest h =
       equal = equal-auctions (cs ++ (ds ++ rest)) (cs ++ (es ++ rest)) (whole ds ∙ ap (λ (l : Ledger). stepAll l rest) (k .ledgers) ∙ sym (whole es));
       between = k;
       answered = λ w v. (
-        reached w .1 ∙ in-three cs ds rest
-            ∙ ap (λ (xs : List Answered). answers cs ++ (xs ++ answersFrom (ledger (cs ++ ds)) rest)) (answers-told (ledger cs) ds),
-        reached v .1 ∙ in-three cs es rest
-            ∙ ap₂ (λ (xs : List Answered) (l : Ledger). answers cs ++ (xs ++ answersFrom l rest)) (answers-told (ledger cs) es) (sym same),
+        run-reached w .1 ∙ in-three cs ds rest
+            ∙ ap (λ (xs : List Answered). answers cs ++ (xs ++ answersFrom (ledger (cs ++ ds)) rest)) (answers-answered (ledger cs) ds),
+        run-reached v .1 ∙ in-three cs es rest
+            ∙ ap₂ (λ (xs : List Answered) (l : Ledger). answers cs ++ (xs ++ answersFrom l rest)) (answers-answered (ledger cs) es) (sym same),
       );
     }
   where

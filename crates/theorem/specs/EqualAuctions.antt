@@ -19,7 +19,7 @@ use Rattle.settling.specs.declared.Settled.{Settled}
 use Rattle.settling.proofs.settle.{signature}
 use Rattle.settling.proofs.settle.Kinds as kinds
 use Rattle.settling.proofs.settle.Reads as settle
-use Rattle.theorem.specs.EveryList.{Run, reached}
+use Rattle.theorem.specs.EveryList.{Run, run-reached}
 
 -- the arguments x, x′ of settling: the auction, the limit, the buffer; y, y′: the same at the call's end
 pub record EqualAuctions (cs cs′ : List Call) : Type 1 where
@@ -58,9 +58,9 @@ module _ (cs ds : List Call) (same : ledger cs ≡ ledger ds) (a a′ : Auction)
 
 pub equal-auctions : (cs cs′ : List Call) → ledger cs ≡ ledger cs′ → EqualAuctions cs cs′
 equal-auctions cs cs′ e = record {
-  auctions = λ w v. same-auction cs cs′ e _ _ (reached w .0) (reached v .0);
+  auctions = λ w v. same-auction cs cs′ e _ _ (run-reached w .0) (run-reached v .0);
   settled = λ κs κs′ x x′ r r′ y y′ w v f g s u.
-      same-settled cs cs′ e _ _ (reached w .0) (reached v .0) _ _ _ _ _ _ s
+      same-settled cs cs′ e _ _ (run-reached w .0) (run-reached v .0) _ _ _ _ _ _ s
       (subst₂ (λ (limit : ℕ) (old : List ℕ). Settles (x′ .0) limit old (now (y′ .1 .1 .0)) r′) (sym f) (sym g) u);
 }
 

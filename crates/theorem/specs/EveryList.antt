@@ -95,17 +95,17 @@ pub data Run : List Call → List Answered → Auction → Type 0 where
   fresh : {a : Auction} → new.Post tt tt a tt → Run [] [] a
   followed : {cs : List Call} {rs : List Answered} {c : Call} {r : Answered} {a b : Auction} → Run cs rs a → Made c a r b → Run (cs ++ (c ∷ [])) (rs ++ (r ∷ [])) b
 
-pub reached : {cs : List Call} {rs : List Answered} {a : Auction} → Run cs rs a → (a ≡ auctionOf (ledger cs)) × (rs ≡ answers cs)
+pub run-reached : {cs : List Call} {rs : List Answered} {a : Auction} → Run cs rs a → (a ≡ auctionOf (ledger cs)) × (rs ≡ answers cs)
 unfolding answers answersFrom
-reached (fresh f) = (f, refl)
-reached (followed {cs = cs} {c = c} {r = r} w m) =
-    let f = reached w in
+run-reached (fresh f) = (f, refl)
+run-reached (followed {cs = cs} {c = c} {r = r} w m) =
+    let f = run-reached w in
     let s = by-contract m in
     (s .next cs (f .0), ap₂ (λ (xs : List Answered) (x : Answered). xs ++ (x ∷ [])) (f .1) (s .answer cs (f .0)) ∙ sym (answers-snoc cs c))
 
 -- two runs of one list of calls get equal answers and reach equal auctions
 pub same-answers : {cs : List Call} {rs rs′ : List Answered} {a a′ : Auction} → Run cs rs a → Run cs rs′ a′ → (rs ≡ rs′) × (a ≡ a′)
-same-answers w v = let e = reached w in let f = reached v in (e .1 ∙ sym (f .1), e .0 ∙ sym (f .0))
+same-answers w v = let e = run-reached w in let f = run-reached v in (e .1 ∙ sym (f .1), e .0 ∙ sym (f .0))
 
 -- THE THEOREM: each method meets its contract, in every model, and by the contracts alone the auction that a list of calls reaches holds
 -- the ledger of the list, and the answers along the way are the ledger's
@@ -139,6 +139,6 @@ every-list = record {
   preview-meets = preview-met.met;
   supply-point-meets = supply-point-met.met;
   who-can-force-meets = who-can-force-met.met;
-  held = λ w. reached w .0;
-  answered = λ w. reached w .1;
+  held = λ w. run-reached w .0;
+  answered = λ w. run-reached w .1;
 }

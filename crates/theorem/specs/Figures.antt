@@ -40,7 +40,7 @@ use Rattle.awards.specs.ParticipationLaws.{paid-at-most}
 use Rattle.awards.specs.Winners.{winner-open, awarded-open}
 use Rattle.replies.specs.Replies.{twosComplement}
 use Rattle.theorem.specs.Readable.{signed, Awarded}
-use Rattle.theorem.specs.Reading.{record-reads}
+use Rattle.theorem.specs.ReplyDigits.{record-reads}
 
 -- ---- supply: 32 projects, each at 10^9 at most
 

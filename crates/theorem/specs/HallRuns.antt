@@ -38,7 +38,7 @@ use Rattle.hall.proofs.Hall.register_for.{signature as register-for-signature}
 use Rattle.hall.proofs.Hall.offer.{signature as offer-signature}
 use Rattle.hall.proofs.Hall.lodge.{signature as lodge-signature}
 use Rattle.theorem.specs.EveryList as plain
-use Rattle.theorem.specs.EveryList.{Made, by-contract, Run, reached}
+use Rattle.theorem.specs.EveryList.{Made, by-contract, Run, run-reached}
 
 -- `MadeThrough s c h r k`: the call c, made through the seat s in the hall h, is answered r and returns k, as the method's own contract says
 pub data MadeThrough : Seat → Call → Hall → Answered → Hall → Type 0 where
@@ -123,7 +123,7 @@ pub data SeatedRun : List Entry → List Answered → Auction → Type 0 where
       SeatedRun (es ++ (Through (seatOf s) c ∷ [])) (rs ++ (r ∷ [])) (k .auction)
 
 with-answers : {cs : List Call} {rs : List Answered} {a : Auction} → Run cs rs a → Run cs (answers cs) a
-with-answers {cs} {rs} {a} w = subst (λ (xs : List Answered). Run cs xs a) (reached w .1) w
+with-answers {cs} {rs} {a} w = subst (λ (xs : List Answered). Run cs xs a) (run-reached w .1) w
 
 -- without what 20 refused it is a list of calls as before, which reaches the same auction
 pub permitted-run : {es : List Entry} {rs : List Answered} {a : Auction} → SeatedRun es rs a → Run (permitted es) (answers (permitted es)) a
@@ -145,10 +145,10 @@ pub entries-answered : {es : List Entry} {rs : List Answered} {a : Auction} → 
 unfolding entryAnswers entryAnswersFrom
 entries-answered (fresh-auction f) = refl
 entries-answered (directly {es = es} {c = c} {a = a} w m) =
-    ap₂ (λ (xs : List Answered) (y : Answered). xs ++ (y ∷ [])) (entries-answered w) (by-contract m .answer (permitted es) (reached (permitted-run w) .0))
+    ap₂ (λ (xs : List Answered) (y : Answered). xs ++ (y ∷ [])) (entries-answered w) (by-contract m .answer (permitted es) (run-reached (permitted-run w) .0))
     ∙ sym (entry-answers-snoc es (Direct c))
 entries-answered (through {es = es} {rs = rs} {s = s} {c = c} {r = r} {h = h} w m) =
-    ap₂ (λ (xs : List Answered) (ys : List Answered). xs ++ ys) (entries-answered w) (go (mayMake (seatOf s) c) refl (reached (permitted-run w) .0))
+    ap₂ (λ (xs : List Answered) (ys : List Answered). xs ++ ys) (entries-answered w) (go (mayMake (seatOf s) c) refl (run-reached (permitted-run w) .0))
     ∙ sym (entry-answers-snoc es (Through (seatOf s) c))
   where
     go : (b : Bool) → mayMake (seatOf s) c ≡ b → h .auction ≡ auctionOf (ledger (permitted es)) →

@@ -20,7 +20,7 @@ use Rattle.readings.specs.PreviewLaws.{previewed}
 use Rattle.auction.specs.declared.Auction.{Auction}
 use Rattle.readings.specs.declared.Preview.{Preview}
 use Rattle.readings.proofs.preview_closing.Reads as previewing
-use Rattle.theorem.specs.EveryList.{Made, by-contract, Run, reached}
+use Rattle.theorem.specs.EveryList.{Made, by-contract, Run, run-reached}
 
 -- p is what the preview of the auction a says, as the method's own contract has it
 abbrev pub Looks : Auction → Preview → Type 0
@@ -45,7 +45,7 @@ pub record PreviewStated : Type 1 where
 pub preview-stated : PreviewStated
 preview-stated = record {
   foretells = foretells;
-  closed = λ {cs} p w q. rw (← ap (λ (x : Previewed). x .closed) (q .right cs (reached w .0))) at (preview-closed (ledger cs));
+  closed = λ {cs} p w q. rw (← ap (λ (x : Previewed). x .closed) (q .right cs (run-reached w .0))) at (preview-closed (ledger cs));
   refused = λ p q. q .zero;
 }
   where
@@ -53,7 +53,7 @@ preview-stated = record {
         {cs : List Call} {rs : List Answered} {a b : Auction} {r : Answered} (p : Preview) →
         Run cs rs a → Looks a p → Made Close a r b → Foretells p r b
     foretells {cs} {rs} {a} {b} {r} p w q m =
-        let e = previewed cs a b r (by-contract m) (reached w .0) p q in
+        let e = previewed cs a b r (by-contract m) (run-reached w .0) p q in
         record {
           answer = e .0;
           closed = (

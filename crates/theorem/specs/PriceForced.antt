@@ -17,7 +17,7 @@ use Rattle.forcing.specs.Forces.{refusedForcing}
 use Rattle.forcing.specs.declared.Forced.{Forced}
 use Rattle.forcing.proofs.who_can_force.{signature}
 use Rattle.forcing.proofs.who_can_force.Reads as forcing
-use Rattle.theorem.specs.EveryList.{Run, reached}
+use Rattle.theorem.specs.EveryList.{Run, run-reached}
 
 -- the arguments x: the auction, the two developers, the prices; r is what the function answers, as its own contract has it
 pub record ForcingStated : Type 1 where
@@ -37,9 +37,9 @@ pub record ForcingStated : Type 1 where
 pub forcing-stated : ForcingStated
 forcing-stated = record {
   refused = λ κs x r q. q .same;
-  number = λ {cs} κs x r w q. q .number cs (reached w .0);
+  number = λ {cs} κs x r w q. q .number cs (run-reached w .0);
   forced = λ {cs} κs x r w q z.
-      let e = q .answer cs (reached w .0) z in
+      let e = q .answer cs (run-reached w .0) z in
       let l = ledger cs in
       let m = x .1 .0 in
       let n = x .1 .1 .0 in

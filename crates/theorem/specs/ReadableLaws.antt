@@ -20,7 +20,7 @@ use Rattle.replies.specs.Orders.{Asks, Settle}
 use Rattle.replies.specs.Replies.{twosComplement, widthsOf, valuesOf, closingFields, settlingHead, settlingTail, recordDigits, closingText, settlingText, answerLine, awardRoom, replyTo}
 use Rattle.replies.specs.Lengths.{flat-digits, six, few}
 use Rattle.theorem.specs.Readable.{signed, twos, Awarded, Readable}
-use Rattle.theorem.specs.Reading.{Fit, fit-append, text-append, line-reads, Bytes, fit-bytes, text-bytes, bytes-cons, bytes-join}
+use Rattle.theorem.specs.ReplyDigits.{FitWidths, fit-append, text-append, line-reads, Bytes, fit-bytes, text-bytes, bytes-cons, bytes-join}
 use Rattle.theorem.specs.Figures.{Passed, passed, excess-small, excess-back, closing-remainder-small, price-small, demand-small, remainder-small, second-small, paid-small, total-small, covering-small, awarded}
 
 -- ---- award records
@@ -45,8 +45,8 @@ unfolding answer granted
 accepted-number l e = rw e
 
 module _ (l : Ledger) (s : Sound l) where
-  closing-fit : number l Close ≡ 0 → Fit (widthsOf closingFields) (valuesOf closingFields (answer l Close))
-  unfolding Fit answer granted
+  closing-fit : number l Close ≡ 0 → FitWidths (widthsOf closingFields) (valuesOf closingFields (answer l Close))
+  unfolding FitWidths answer granted
   closing-fit e = let r = closing-remainder-small l s e in rw e (excess-small l s e, (omega arith, tt))
 
   closing-reads : number l Close ≡ 0 →
@@ -68,8 +68,8 @@ module _ (l : Ledger) (s : Sound l) where
     unfolding settlement settlementAt
     awards = awarded l s went
 
-    head-fit : Fit (widthsOf settlingHead) (valuesOf settlingHead (settlement l))
-    unfolding Fit settlement settlementAt
+    head-fit : FitWidths (widthsOf settlingHead) (valuesOf settlingHead (settlement l))
+    unfolding FitWidths settlement settlementAt
     head-fit =
         let p = price-small l s went in
         let d = demand-small l s went in
@@ -79,8 +79,8 @@ module _ (l : Ledger) (s : Sound l) where
         let n = few l limit e in
         (omega arith, (omega arith, (omega arith, (omega arith, (omega arith, (omega arith, tt))))))
 
-    tail-fit : Fit (widthsOf settlingTail) (valuesOf settlingTail (settlement l))
-    unfolding Fit settlement settlementAt
+    tail-fit : FitWidths (widthsOf settlingTail) (valuesOf settlingTail (settlement l))
+    unfolding FitWidths settlement settlementAt
     tail-fit =
         let r = remainder-small l s went in
         let p = second-small l s went in
@@ -101,7 +101,7 @@ module _ (l : Ledger) (s : Sound l) where
     abbrev front : List ℕ
     front = valuesOf settlingHead (settlement l) ++ bytes
 
-    front-fit : Fit frontWidths front
+    front-fit : FitWidths frontWidths front
     front-fit =
         fit-append (widthsOf settlingHead) (valuesOf settlingHead (settlement l)) (twos (length bytes)) bytes head-fit
         (fit-bytes bytes (records-bytes (settlement l .records) awards))
@@ -125,7 +125,7 @@ module _ (l : Ledger) (s : Sound l) where
     settling-reads =
         let ws : List ℕ = frontWidths ++ widthsOf settlingTail in
         let ns : List ℕ = front ++ valuesOf settlingTail (settlement l) in
-        let fit : Fit ws ns = fit-append frontWidths front (widthsOf settlingTail) (valuesOf settlingTail (settlement l)) front-fit tail-fit in
+        let fit : FitWidths ws ns = fit-append frontWidths front (widthsOf settlingTail) (valuesOf settlingTail (settlement l)) front-fit tail-fit in
         ap (λ (n : ℕ). fieldsAt (2 ∷ 2 ∷ widthsOf settlingHead ++ twos n ++ widthsOf settlingTail) (replyTo l (Settle limit)))
         (sym (flat-length 6 (settlement l .records) (six l)))
         ∙ ap₂ (λ (n : ℕ) (t : List ℕ). fieldsAt (2 ∷ 2 ∷ ws) (answerLine 6 n t)) e text-is

@@ -17,9 +17,8 @@ use Rattle.numbers.specs.Tails.{laid}
 use Rattle.rules.specs.Refusals.{check}
 use Rattle.sealed.specs.Sealed.{Book, bookOf, size, sealedNumber, awards, leftOver, lentNumber, lentLeft, lentAwards}
 use Rattle.sealed.specs.InWords.{InWords, AnyListOrder}
-use Rattle.rules.specs.Refusals.{check}
 use Rattle.sealed.specs.SealedLaws.{in-words, any-list-order}
-use Rattle.sealed_checks.specs.Accepted.{accepted}
+use Rattle.sealed_checks.specs.AcceptedBook.{accepted}
 use Rattle.sealed_auction.specs.Cleared.{Lends}
 use Rattle.sealed_auction.specs.declared.Lent.{Lent}
 use Rattle.sealed_auction.proofs.sealed_auction.{signature}

@@ -62,7 +62,7 @@ use Rattle.hall_readings.proofs.preview_closing.Met as preview-met
 use Rattle.hall_readings.proofs.supply_point.Met as supply-point-met
 use Rattle.hall_readings.proofs.who_can_force.Met as who-can-force-met
 use Rattle.hall_readings.proofs.read.Met as reading-met
-use Rattle.theorem.specs.EveryList.{Run, reached}
+use Rattle.theorem.specs.EveryList.{Run, run-reached}
 use Rattle.theorem.specs.HallRuns.{MadeThrough, by-hall-contract, HallRun, hall-reached, SeatedRun, permitted-run, entries-answered, seated}
 
 -- r is what the seat s reads in the hall h, as the method's own contract has it
@@ -160,7 +160,7 @@ seats-stated = record {
   learns = λ n {ms} {ms′} r r′ e w w′ q q′.
       let k = by-view-alone n ms ms′ e in (
         read-in (Developer n) r w q ∙ ap shownReading (k .behind) ∙ sym (read-in (Developer n) r′ w′ q′),
-        ap (ownAnswers n ms) (hall-reached w .1) ∙ same-answers n ms ms′ (k .points) ∙ sym (ap (ownAnswers n ms′) (hall-reached w′ .1)),
+        ap (ownAnswers n ms) (hall-reached w .1) ∙ same-answers n ms ms′ (k .moments) ∙ sym (ap (ownAnswers n ms′) (hall-reached w′ .1)),
       );
   still = still-between;
   unseen = others-unseen;
@@ -168,6 +168,6 @@ seats-stated = record {
   list = permitted-run;
   list-answered = entries-answered;
   list-of-run = seated;
-  settles = λ {es} κs x r y w e s. stated (permitted es) (x .0 .auction) (x .1 .1 .0) (now (x .1 .1 .1 .0)) (now (y .1 .1 .1 .0)) r (reached (permitted-run w) .0) (s .made e);
+  settles = λ {es} κs x r y w e s. stated (permitted es) (x .0 .auction) (x .1 .1 .0) (now (x .1 .1 .1 .0)) (now (y .1 .1 .1 .0)) r (run-reached (permitted-run w) .0) (s .made e);
   settling-barred = λ κs x r y e s. s .barred e;
 }

@@ -21,7 +21,7 @@ use Rattle.auction.specs.Holds.{auctionOf}
 use Rattle.auction.specs.declared.Auction.{Auction}
 use Rattle.readings.specs.declared.SupplyPoint.{SupplyPoint}
 use Rattle.readings.proofs.supply_point.Reads as reading
-use Rattle.theorem.specs.EveryList.{Run, reached}
+use Rattle.theorem.specs.EveryList.{Run, run-reached}
 
 -- r is what reading this place of the auction's curve says, as the method's own contract has it
 abbrev pub Reads : Auction → ℕ → SupplyPoint → Type 0
@@ -52,9 +52,9 @@ pub record CurveStated : Type 1 where
 pub curve-stated : CurveStated
 unfolding auctionOf
 curve-stated = record {
-  kept = λ w. ap (λ (x : Auction). x .curve) (reached w .0);
-  entries = λ {cs} place r w q. q .entries cs (reached w .0);
-  point = λ {cs} place r w q. q .point cs (reached w .0);
+  kept = λ w. ap (λ (x : Auction). x .curve) (run-reached w .0);
+  entries = λ {cs} place r w q. q .entries cs (run-reached w .0);
+  point = λ {cs} place r w q. q .point cs (run-reached w .0);
   words = λ cs. let l = ledger cs in record {
     few = curve-few l (sound cs);
     falls = rw (curve-prices l) (curve-falls l);

@@ -8,7 +8,7 @@ use reply_sizes::Reply;
 use trace_text::PreviewShown;
 
 // The most bytes of a record (document 01, Frames).
-const LONGEST: usize = 65_536;
+const LONGEST_RECORD: usize = 65_536;
 
 // One byte more than a record may have, so that a longer one is seen.
 fn input() -> [u8; 65537]
@@ -90,7 +90,7 @@ fn trace(bytes: &[u8]) {
 fn main() {
     let mut record = input();
     let n = io::read_full(libc::STDIN_FILENO, &mut record);
-    if LONGEST < n {
+    if LONGEST_RECORD < n {
         io::write_all(libc::STDOUT_FILENO, b"FF0B\n");
         return;
     }

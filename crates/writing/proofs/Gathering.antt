@@ -13,8 +13,8 @@ use Rattle.format.specs.Fields.{rawCall}
 use Rattle.format.specs.Written.{writable}
 use Rattle.replies.specs.WrittenOrders.{paired}
 use Rattle.frame_writing.specs.declared.Written.{Written}
-use Rattle.frame_writing.specs.Lodged.{Encodes}
-use Rattle.frame_writing.specs.LodgedLaws.{not-writable}
+use Rattle.frame_writing.specs.Encodes.{Encodes}
+use Rattle.frame_writing.specs.EncodesLaws.{not-writable}
 use Rattle.writing.specs.Writes.{WritesSteps}
 
 -- one number more at place n, m of them then

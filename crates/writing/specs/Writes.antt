@@ -10,17 +10,17 @@ use Rattle.rules.specs.Ledger.{Agency, Own, Named, Register}
 use Rattle.replies.specs.Orders.{Order, Asks}
 use Rattle.replies.specs.WrittenOrders.{paired, writableOrder, frameOfOrder}
 use Rattle.frame_writing.specs.declared.Written.{Written}
-use Rattle.frame_writing.specs.Lodged.{Lodges}
+use Rattle.frame_writing.specs.Encodes.{WritesFrame}
 
 -- of an order: the buffer before and afterwards, and the answer
 abbrev pub Writes : Order → List ℕ → List ℕ → Written → Type 0
-Writes o old new r = Lodges (writableOrder o) (frameOfOrder o) old new r
+Writes o old new r = WritesFrame (writableOrder o) (frameOfOrder o) old new r
 
 -- of a developer's steps, in a frame of a kind
 abbrev pub WritesSteps : ℕ → ℕ → List ℕ → List ℕ → List ℕ → List ℕ → Written → Type 0
 WritesSteps k n ps qs old new r =
     let c = rawCall k (n ∷ length ps ∷ paired ps qs) in
-    Lodges (eqb (length ps) (length qs) && writable c) (frameOf c) old new r
+    WritesFrame (eqb (length ps) (length qs) && writable c) (frameOf c) old new r
 
 -- a registration by its numbers: with an agent either way, with the developer's own (02), and with one that is named (08; document 02, 10)
 abbrev pub registrationBy : Agency → ℕ → ℕ → ℕ → ℕ → ℕ → List ℕ → Order

@@ -8,7 +8,7 @@ ghost use Rattle.rules.specs.Ledger.{settingsOf, Offer, Lodge, Cancel, SetUp, O
 ghost use Rattle.format.specs.Fields.{rawCall};
 ghost use Rattle.replies.specs.Orders.{Asks, Settle};
 ghost use Rattle.replies.specs.WrittenOrders.{paired};
-ghost use Rattle.frame_writing.specs.Lodged.{Encodes};
+ghost use Rattle.frame_writing.specs.Encodes.{Encodes};
 ghost use Rattle.writing.specs.Writes.{registration, registrationFor, Writes, WritesSteps};
 use frame_writing::Written;
 

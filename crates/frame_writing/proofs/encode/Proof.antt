@@ -8,7 +8,7 @@ use lib.ListN.{length}
 use Rattle.numbers.specs.Tails.{length-laid}
 use Rattle.format.specs.Fields.{rawCall}
 use Rattle.format.specs.Written.{lineOf, frameOf, writable}
-use Rattle.frame_writing.specs.LodgedLaws.{encode-refused, encode-room, encode-written}
+use Rattle.frame_writing.specs.EncodesLaws.{encode-refused, encode-room, encode-written}
 use Rattle.frame_writing.proofs.Lines.{tail-room, frame-there}
 use Rattle.frame_writing.proofs.encode.Statement.{statement}
 use Rattle.frame_writing.proofs.encode.Tie as tie

@@ -6,7 +6,7 @@ use borrow.Author.Needs.{needs}
 use lib.ListN.{length, take, length-take}
 use lib.Seq.{length-take-le}
 use Rattle.format.specs.Fields.{rawCall}
-use Rattle.format.specs.Written.{widthsOf}
+use Rattle.format.specs.Written.{writtenWidths}
 use Rattle.format.specs.WrittenLaws.{is-writable}
 use Rattle.frame_sizes.specs.FrameSizeLaws.{as-many, few-fields, widths-are}
 use Rattle.frame_writing.proofs.Lines.{kind-room, kind-same, fields-room, line-there}
@@ -20,7 +20,7 @@ few c = let start = c .before .before .before in few-fields _ _ (is-writable _ (
 widths :
     (c : tie.After-shape-of) →
     let a = c .before .before .before .args in
-    take (length (a .fields .now)) (c .shape-of .result .widths) ≡ widthsOf (rawCall (a .kind) (a .fields .now))
+    take (length (a .fields .now)) (c .shape-of .result .widths) ≡ writtenWidths (rawCall (a .kind) (a .fields .now))
 widths c =
     let start = c .before .before .before in
     widths-are _ _ _ (c .shape-of .ensures) _ refl (omega (arith, few c)) (as-many _ _ (is-writable _ (start .pre .0)))

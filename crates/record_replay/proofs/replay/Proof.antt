@@ -21,8 +21,13 @@ returns c =
     let y = fit-yes _ _ _ (c .before .before .before .before .before .fits2 .ensures) (c .before .before .before .before .if1 .taken) in
     (w .0 ∙ y .0, w .1 ∙ y .1)
 
+host-number-requires : tie.Need-host-number-requires
+host-number-requires c κs = search needs
+
 returns-2 : tie.Need-returns-2
-returns-2 c = fit-no _ _ _ (c .before .fits2 .ensures) (c .if1 .left)
+returns-2 c =
+    let n = fit-no _ _ _ (c .before .before .fits2 .ensures) (c .before .if1 .left) in
+    (c .host-number .ensures ∙ n .0, n .1)
 
 pub replay-spec : {M : Type 1} → statement M
-replay-spec = tie.close (tie.spec fits-requires write-requires same-length returns returns-2)
+replay-spec = tie.close (tie.spec fits-requires write-requires same-length returns host-number-requires returns-2)

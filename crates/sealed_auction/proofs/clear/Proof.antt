@@ -1,7 +1,7 @@
 -- The refusals, and the awards of an accepted book.
 use mathlib.Core.Path.{sym, _∙_}
 use borrow.Author.Needs.{needs}
-use Rattle.sealed_checks.specs.Accepted.{accepted}
+use Rattle.sealed_checks.specs.AcceptedBook.{accepted}
 use Rattle.sealed_auction.proofs.Clearing.{cleared-refused, turned-within, cleared-given}
 use Rattle.sealed_auction.proofs.clear.Statement.{statement}
 use Rattle.sealed_auction.proofs.clear.Tie as tie

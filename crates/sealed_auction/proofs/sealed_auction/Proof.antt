@@ -1,7 +1,7 @@
 -- The tests in their order: what the book is refused by, no room for the awards, and the awards.
 use native.Mathlib.Omega.{arith}
 use borrow.Author.Needs.{needs}
-use Rattle.sealed_checks.specs.Accepted.{accepted}
+use Rattle.sealed_checks.specs.AcceptedBook.{accepted}
 use Rattle.sealed_auction.proofs.Clearing.{book-accepted, lends-refused, lends-no-room, lends-given}
 use Rattle.sealed_auction.proofs.sealed_auction.Statement.{statement}
 use Rattle.sealed_auction.proofs.sealed_auction.Tie as tie

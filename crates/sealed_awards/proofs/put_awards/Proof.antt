@@ -4,6 +4,7 @@ use mathlib.Core.Path.{_≡_}
 use native.Mathlib.Omega.{arith}
 use lib.ListN.{length}
 use borrow.Author.Needs.{needs}
+use Rattle.sealed.specs.Sealed.{mostOffers}
 use Rattle.sealed_awards.proofs.Putting.{Putting, putting-first, putting-long, putting-next, putting-end}
 use Rattle.sealed_awards.proofs.put_awards.Statement.{statement}
 use Rattle.sealed_awards.proofs.put_awards.Tie as tie
@@ -16,7 +17,7 @@ abbrev μ-loop : tie.MeasureT-loop
 
 -- as many awards as are put
 many : (c : tie.Start Inv-loop μ-loop) → c .args .count ≤ length (c .args .t1)
-many c = let e : length (c .args .t1) ≡ 16 = search needs in omega (arith, c .pre .0)
+many c = let e : length (c .args .t1) ≡ mostOffers = search needs in omega (arith, c .pre .0)
 
 long : (c : tie.In-loop Inv-loop μ-loop) → length (c .before .loop .out) ≡ length (c .before .before .args .out .now)
 long c = let s = c .before .before in putting-long _ _ _ (many s) (s .pre .1) _ _ (c .before .loop .inv)

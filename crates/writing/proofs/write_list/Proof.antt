@@ -6,7 +6,7 @@ use native.Mathlib.Omega.{arith}
 use borrow.Author.Needs.{needs}
 use lib.ListN.{length, take, length-append}
 use Rattle.frame_sizes.specs.FrameSizeLaws.{too-many}
-use Rattle.frame_writing.specs.LodgedLaws.{not-writable}
+use Rattle.frame_writing.specs.EncodesLaws.{not-writable}
 use Rattle.writing.proofs.Gathering.{same-fields}
 use Rattle.writing.proofs.write_list.Statement.{statement}
 use Rattle.writing.proofs.write_list.Tie as tie

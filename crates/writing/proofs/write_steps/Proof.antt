@@ -7,7 +7,7 @@ use borrow.Author.Needs.{needs}
 use lib.ListN.{length}
 use Rattle.replies.specs.WrittenOrders.{paired}
 use Rattle.frame_sizes.specs.FrameSizeLaws.{too-many}
-use Rattle.frame_writing.specs.LodgedLaws.{not-writable}
+use Rattle.frame_writing.specs.EncodesLaws.{not-writable}
 use Rattle.writing.proofs.Gathering.{length-paired, same-fields, equal-lists, unequal-lists}
 use Rattle.writing.proofs.write_steps.Statement.{statement}
 use Rattle.writing.proofs.write_steps.Tie as tie

@@ -1,7 +1,7 @@
 -- A cancellation: barred, or the auction's.
 use mathlib.Core.Path.{refl}
 use borrow.Author.Needs.{needs}
-use Rattle.seats.specs.Seats.{latestExcess}
+use Rattle.seats.specs.Seats.{mayMake, latestExcess}
 use Rattle.hall.proofs.Calls.{barred-call, made-call}
 use Rattle.hall.proofs.Hall.cancel.Statement.{statement}
 use Rattle.hall.proofs.Hall.cancel.Tie as tie
@@ -13,6 +13,7 @@ barred-requires : tie.Need-barred-requires
 barred-requires c κs = search needs
 
 returns : tie.Need-returns
+unfolding mayMake
 returns c = rw (c .barred .ensures) (barred-call _ _ _ _ (c .before .before .offers-for .ensures) (c .before .if1 .taken))
 
 cancel-requires : tie.Need-cancel-requires
@@ -22,7 +23,7 @@ answered-requires : tie.Need-answered-requires
 answered-requires c κs = search needs
 
 returns-2 : tie.Need-returns-2
-unfolding latestExcess
+unfolding mayMake latestExcess
 returns-2 c =
     let tested = c .before .before .before in
     rw (c .answered .ensures) (made-call _ _ _ _ (tested .before .offers-for .ensures) _ _ (tested .if1 .left) (c .before .cancel .ensures) refl)

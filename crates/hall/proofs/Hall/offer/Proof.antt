@@ -1,8 +1,7 @@
 -- An offer: barred, or the auction's.
-use mathlib.Core.Path.{refl, sym, _∙_}
+use mathlib.Core.Path.{refl}
 use borrow.Author.Needs.{needs}
-use Rattle.seats.specs.Seats.{latestExcess}
-use Rattle.seats.specs.SeatLaws.{offering}
+use Rattle.seats.specs.Seats.{mayMake, latestExcess}
 use Rattle.hall.proofs.Calls.{barred-call, made-call}
 use Rattle.hall.proofs.Hall.offer.Statement.{statement}
 use Rattle.hall.proofs.Hall.offer.Tie as tie
@@ -14,7 +13,8 @@ barred-requires : tie.Need-barred-requires
 barred-requires c κs = search needs
 
 returns : tie.Need-returns
-returns c = rw (c .barred .ensures) (barred-call _ _ _ _ (c .before .before .offers-for .ensures ∙ sym (offering _ _ _ _)) (c .before .if1 .taken))
+unfolding mayMake
+returns c = rw (c .barred .ensures) (barred-call _ _ _ _ (c .before .before .offers-for .ensures) (c .before .if1 .taken))
 
 offer-requires : tie.Need-offer-requires
 offer-requires c κs = search needs
@@ -23,10 +23,10 @@ answered-requires : tie.Need-answered-requires
 answered-requires c κs = search needs
 
 returns-2 : tie.Need-returns-2
-unfolding latestExcess
+unfolding mayMake latestExcess
 returns-2 c =
     let tested = c .before .before .before in
-    rw (c .answered .ensures) (made-call _ _ _ _ (tested .before .offers-for .ensures ∙ sym (offering _ _ _ _)) _ _ (tested .if1 .left) (c .before .offer .ensures) refl)
+    rw (c .answered .ensures) (made-call _ _ _ _ (tested .before .offers-for .ensures) _ _ (tested .if1 .left) (c .before .offer .ensures) refl)
 
 pub offer-spec : {M : Type 1} → statement M
 offer-spec = tie.close (tie.spec offers-for-requires barred-requires returns offer-requires answered-requires returns-2)

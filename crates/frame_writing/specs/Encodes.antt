@@ -5,18 +5,18 @@ use mathlib.Core.Bool.{Bool}
 use mathlib.Core.List.{List}
 use lib.ListN.{length}
 use Rattle.format.specs.Fields.{RawCall}
-use Rattle.format.specs.Written.{frameOf, writable, refusal, written, lodged}
+use Rattle.format.specs.Written.{frameOf, writable, refusal, written, lentFrame}
 use Rattle.frame_writing.specs.declared.Written.{Written}
 
 -- of a frame: whether it may be written, the buffer before and afterwards, and the answer
-pub record Lodges (ok : Bool) (frame old new : List ℕ) (r : Written) : Type 0 where
+pub record WritesFrame (ok : Bool) (frame old new : List ℕ) (r : Written) : Type 0 where
   pub number : r .number ≡ refusal ok frame (length old)
   pub bytes : r .bytes ≡ written ok frame (length old)
-  pub buffer : new ≡ lodged ok frame old
+  pub buffer : new ≡ lentFrame ok frame old
 
 -- of a call
 abbrev pub Encodes : RawCall → List ℕ → List ℕ → Written → Type 0
-Encodes c old new r = Lodges (writable c) (frameOf c) old new r
+Encodes c old new r = WritesFrame (writable c) (frameOf c) old new r
 
 -- ---- on the way
 

@@ -15,22 +15,22 @@ use Rattle.format.specs.WrittenLaws.{length-line, length-frame}
 use Rattle.frame_sizes.specs.FrameSizes.{frameSize}
 use Rattle.frame_sizes.specs.FrameSizeLaws.{size-none, size-some}
 use Rattle.frame_writing.specs.declared.Written.{Written}
-use Rattle.frame_writing.specs.Lodged.{Lodges, Encodes, Refuses}
+use Rattle.frame_writing.specs.Encodes.{WritesFrame, Encodes, Refuses}
 
 -- ---- refused, or written
 
 module _ (ok : Bool) (frame old new : List ℕ) (r : Written) where
-  pub not-writable : (r .number ≡ 14) × (r .bytes ≡ 0) → ok ≡ false → new ≡ old → Lodges ok frame old new r
+  pub not-writable : (r .number ≡ 14) × (r .bytes ≡ 0) → ok ≡ false → new ≡ old → WritesFrame ok frame old new r
   not-writable z e same =
       let a = laws.not-writable ok frame old e in
       record { number = z .0 ∙ sym (a .0); bytes = z .1 ∙ sym (a .1); buffer = same ∙ sym (a .2) }
 
-  too-short : (r .number ≡ 13) × (r .bytes ≡ 0) → ok ≡ true → length old < length frame → new ≡ old → Lodges ok frame old new r
+  too-short : (r .number ≡ 13) × (r .bytes ≡ 0) → ok ≡ true → length old < length frame → new ≡ old → WritesFrame ok frame old new r
   too-short z e h same =
       let a = laws.too-short ok frame old e h in
       record { number = z .0 ∙ sym (a .0); bytes = z .1 ∙ sym (a .1); buffer = same ∙ sym (a .2) }
 
-  is-written : r .number ≡ 0 → r .bytes ≡ length frame → ok ≡ true → length frame ≤ length old → new ≡ laid frame old → Lodges ok frame old new r
+  is-written : r .number ≡ 0 → r .bytes ≡ length frame → ok ≡ true → length frame ≤ length old → new ≡ laid frame old → WritesFrame ok frame old new r
   is-written z b e h there =
       let a = laws.is-written ok frame old e h in
       record { number = z ∙ sym (a .0); bytes = b ∙ sym (a .1); buffer = there ∙ sym (a .2) }

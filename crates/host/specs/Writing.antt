@@ -4,7 +4,7 @@ use mathlib.Core.Path.{_≡_, ap₂, _∙_}
 use mathlib.Core.List.{List}
 use lib.ListN.{length}
 use Rattle.curve.specs.Answer.{Answer}
-use Rattle.format.specs.Written.{refusal, written, lodged}
+use Rattle.format.specs.Written.{refusal, written, lentFrame}
 use Rattle.replies.specs.Orders.{Order}
 use Rattle.replies.specs.WrittenOrders.{writableOrder, frameOfOrder}
 use Rattle.frame_writing.specs.declared.Written.{Written}
@@ -20,7 +20,7 @@ hostBytes o old =
 -- and what the buffer then holds
 pub record HostWrites (o : Order) (old new : List ℕ) (r : ℕ) : Type 0 where
   pub bytes : r ≡ hostBytes o old
-  pub buffer : new ≡ lodged (writableOrder o) (frameOfOrder o) old
+  pub buffer : new ≡ lentFrame (writableOrder o) (frameOfOrder o) old
 
 -- ---- from the answer of the library
 

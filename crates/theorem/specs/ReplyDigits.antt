@@ -16,39 +16,39 @@ use Rattle.theorem.specs.Readable.{twos, awardWidths}
 
 -- ---- numbers that fit their widths
 
-unfoldable pub Fit : List ℕ → List ℕ → Type 0
-Fit [] [] = Unit {0}
-Fit [] (n ∷ ns) = ⊥
-Fit (w ∷ ws) [] = ⊥
-Fit (w ∷ ws) (n ∷ ns) = (n < 16 ^ w) × Fit ws ns
+unfoldable pub FitWidths : List ℕ → List ℕ → Type 0
+FitWidths [] [] = Unit {0}
+FitWidths [] (n ∷ ns) = ⊥
+FitWidths (w ∷ ws) [] = ⊥
+FitWidths (w ∷ ws) (n ∷ ns) = (n < 16 ^ w) × FitWidths ws ns
 
-fit-length : (ws ns : List ℕ) → Fit ws ns → length ns ≡ length ws
-unfolding Fit
+fit-length : (ws ns : List ℕ) → FitWidths ws ns → length ns ≡ length ws
+unfolding FitWidths
 fit-length [] [] f = refl
 fit-length [] (n ∷ ns) f = absurd f
 fit-length (w ∷ ws) [] f = absurd f
 fit-length (w ∷ ws) (n ∷ ns) f = ap suc (fit-length ws ns (f .1))
 
-fit-at : (ws ns : List ℕ) → Fit ws ns → (j : ℕ) → getD ns j 0 < 16 ^ getD ws j listed
-unfolding Fit
+fit-at : (ws ns : List ℕ) → FitWidths ws ns → (j : ℕ) → getD ns j 0 < 16 ^ getD ws j listed
+unfolding FitWidths
 fit-at [] [] f j = power-pos listed
 fit-at [] (n ∷ ns) f j = absurd f
 fit-at (w ∷ ws) [] f j = absurd f
 fit-at (w ∷ ws) (n ∷ ns) f zero = f .0
 fit-at (w ∷ ws) (n ∷ ns) f (suc j) = fit-at ws ns (f .1) j
 
-fit-reads : (ws ns rest : List ℕ) → Fit ws ns → fieldsAt ws (textAt ws ns ++ rest) ≡ ns
+fit-reads : (ws ns rest : List ℕ) → FitWidths ws ns → fieldsAt ws (textAt ws ns ++ rest) ≡ ns
 fit-reads ws ns rest f = fields-text ws ns rest (fit-length ws ns f) (fit-at ws ns f)
 
-pub fit-append : (ws ns vs ms : List ℕ) → Fit ws ns → Fit vs ms → Fit (ws ++ vs) (ns ++ ms)
-unfolding Fit
+pub fit-append : (ws ns vs ms : List ℕ) → FitWidths ws ns → FitWidths vs ms → FitWidths (ws ++ vs) (ns ++ ms)
+unfolding FitWidths
 fit-append [] [] vs ms f g = g
 fit-append [] (n ∷ ns) vs ms f g = absurd f
 fit-append (w ∷ ws) [] vs ms f g = absurd f
 fit-append (w ∷ ws) (n ∷ ns) vs ms f g = (f .0, fit-append ws ns vs ms (f .1) g)
 
-pub text-append : (ws ns vs ms : List ℕ) → Fit ws ns → textAt (ws ++ vs) (ns ++ ms) ≡ textAt ws ns ++ textAt vs ms
-unfolding Fit textAt
+pub text-append : (ws ns vs ms : List ℕ) → FitWidths ws ns → textAt (ws ++ vs) (ns ++ ms) ≡ textAt ws ns ++ textAt vs ms
+unfolding FitWidths textAt
 text-append [] [] vs ms f = refl
 text-append [] (n ∷ ns) vs ms f = absurd f
 text-append (w ∷ ws) [] vs ms f = absurd f
@@ -56,8 +56,8 @@ text-append (w ∷ ws) (n ∷ ns) vs ms f =
     ap (λ (t : List ℕ). digits w n ++ t) (text-append ws ns vs ms (f .1)) ∙ sym (append-assoc (digits w n) (textAt ws ns) (textAt vs ms))
 
 -- a line of a reply, accepted: its kind, 0, and the numbers added
-pub line-reads : (k : ℕ) (ws ns : List ℕ) → k < 256 → Fit ws ns → fieldsAt (2 ∷ 2 ∷ ws) (answerLine k 0 (textAt ws ns)) ≡ k ∷ 0 ∷ ns
-unfolding Fit answerLine textAt digits
+pub line-reads : (k : ℕ) (ws ns : List ℕ) → k < 256 → FitWidths ws ns → fieldsAt (2 ∷ 2 ∷ ws) (answerLine k 0 (textAt ws ns)) ≡ k ∷ 0 ∷ ns
+unfolding FitWidths answerLine textAt digits
 line-reads k ws ns h f =
     fit-reads (2 ∷ 2 ∷ ws) (k ∷ 0 ∷ ns) (10 ∷ []) (h, (omega arith, f))
 
@@ -66,8 +66,8 @@ line-reads k ws ns h f =
 abbrev pub Bytes : List ℕ → Type 0
 Bytes = Each (λ b. b < 256)
 
-pub fit-bytes : (bs : List ℕ) → Bytes bs → Fit (twos (length bs)) bs
-unfolding Fit
+pub fit-bytes : (bs : List ℕ) → Bytes bs → FitWidths (twos (length bs)) bs
+unfolding FitWidths
 fit-bytes [] h = tt
 fit-bytes (b ∷ bs) h = (h b (List·Memᴰ·head refl), fit-bytes bs (λ x m. h x (List·Memᴰ·tail m)))
 
@@ -104,7 +104,7 @@ unfolding textAt flatten digits
 record-text k n v = ap (λ (t : List ℕ). digits 2 k ++ digits 2 n ++ t ++ []) (quantity-digits v)
 
 pub record-reads : (k n v : ℕ) → k ≤ 32 → n ≤ 32 → v ≤ 1000000000 → fieldsAt awardWidths (recordDigits (recordOf k n v)) ≡ k ∷ n ∷ v ∷ []
-unfolding Fit
+unfolding FitWidths
 record-reads k n v hk hn hv =
     ap (fieldsAt awardWidths) (record-text k n v ∙ sym (append-nil _))
     ∙ fit-reads awardWidths (k ∷ n ∷ v ∷ []) [] (omega arith, (omega arith, (omega arith, tt)))

@@ -6,7 +6,7 @@ use mathlib.Core.Bool.{Bool, true, false}
 use mathlib.Core.List.{List, [], _∷_, _++_}
 use Rattle.numbers.specs.Cases.{never-true, clash}
 use Rattle.exchanges.specs.Exchanges.{Exchanged, unchanged, neighbours, behind, further}
-use Rattle.arrival.specs.Arrival.{told}
+use Rattle.arrival.specs.Arrival.{withAnswers}
 
 module _ {S A B : Type 0} (next : S → A → S) (says : S → A → B) where
   -- what a list leads to
@@ -14,10 +14,10 @@ module _ {S A B : Type 0} (next : S → A → S) (says : S → A → B) where
   ending s [] = s
   ending s (x ∷ xs) = ending (next s x) xs
 
-  pub told-append : (s : S) (xs ys : List A) → told next says s (xs ++ ys) ≡ told next says s xs ++ told next says (ending s xs) ys
-  unfolding told ending
-  told-append s [] ys = refl
-  told-append s (x ∷ xs) ys = ap (λ (ts : List (A × B)). (x, says s x) ∷ ts) (told-append (next s x) xs ys)
+  pub with-answers-append : (s : S) (xs ys : List A) → withAnswers next says s (xs ++ ys) ≡ withAnswers next says s xs ++ withAnswers next says (ending s xs) ys
+  unfolding withAnswers ending
+  with-answers-append s [] ys = refl
+  with-answers-append s (x ∷ xs) ys = ap (λ (ts : List (A × B)). (x, says s x) ∷ ts) (with-answers-append (next s x) xs ys)
 
   -- two of different developers lead to the same in both orders, and the second is answered as if the first were not there
   abbrev pub Free : (ℕ → A → Bool) → Type 0
@@ -34,16 +34,16 @@ module _ {S A B : Type 0} (next : S → A → S) (says : S → A → B) where
     exchanged-ending s (further h g) = exchanged-ending s h ∙ exchanged-ending s g
 
     -- what was answered goes along
-    pub exchanged-told : (s : S) {xs ys : List A} → Exchanged its xs ys → Exchanged (λ n t. its n (t .0)) (told next says s xs) (told next says s ys)
-    unfolding told
-    exchanged-told s unchanged = unchanged
-    exchanged-told s (neighbours {x} {y} {zs} n k p q d) =
+    pub exchanged-with-answers : (s : S) {xs ys : List A} → Exchanged its xs ys → Exchanged (λ n t. its n (t .0)) (withAnswers next says s xs) (withAnswers next says s ys)
+    unfolding withAnswers
+    exchanged-with-answers s unchanged = unchanged
+    exchanged-with-answers s (neighbours {x} {y} {zs} n k p q d) =
         let f = free s x y n k p q d in
         let other : its k x ≡ false = never-true (its k x) (λ e. clash (subst (λ (j : ℕ). its j y ≡ true) (once x k n e p) q) d) in
         let g = free s y x k n q p other in
-        subst (λ (ts : List (A × B)). Exchanged (λ n t. its n (t .0)) ((x, says s x) ∷ (y, says (next s x) y) ∷ told next says (next (next s x) y) zs) ts)
+        subst (λ (ts : List (A × B)). Exchanged (λ n t. its n (t .0)) ((x, says s x) ∷ (y, says (next s x) y) ∷ withAnswers next says (next (next s x) y) zs) ts)
         (ap₂ (λ (b : B) (ts : List (A × B)). (y, b) ∷ ts) (f .1)
-        (ap₂ (λ (b : B) (u : S). (x, b) ∷ told next says u zs) (sym (g .1)) (f .0)))
+        (ap₂ (λ (b : B) (u : S). (x, b) ∷ withAnswers next says u zs) (sym (g .1)) (f .0)))
         (neighbours n k p q d)
-    exchanged-told s (behind x h) = behind (x, says s x) (exchanged-told (next s x) h)
-    exchanged-told s (further h g) = further (exchanged-told s h) (exchanged-told s g)
+    exchanged-with-answers s (behind x h) = behind (x, says s x) (exchanged-with-answers (next s x) h)
+    exchanged-with-answers s (further h g) = further (exchanged-with-answers s h) (exchanged-with-answers s g)

@@ -11,28 +11,28 @@ use Rattle.numbers.specs.Lists.{all}
 use Rattle.numbers.specs.ListLaws.{Each}
 use Rattle.rules.specs.Refusals.{check}
 use Rattle.placing.specs.Numbers.{in-numbers}
-use Rattle.sealed.specs.Sealed.{Book, size, offers, topPrice, isPrice, longOk, offerOk, bookOk, sealedNumber}
+use Rattle.sealed.specs.Sealed.{Book, size, offers, topPrice, mostOffers, oldest, isPrice, longOk, offerOk, bookOk, sealedNumber}
 use Rattle.sealed.specs.Precedence.{bounds-at}
 use Rattle.sealed_checks.specs.Listed.{each-listed}
 
-pub record Accepted (b : Book) : Type 0 where
-  pub few : size b ≤ 16
+pub record AcceptedBook (b : Book) : Type 0 where
+  pub few : size b ≤ mostOffers
   pub quantities : length (b .quantities) ≡ size b
   pub minimums : length (b .minimums) ≡ size b
   pub ages : length (b .ages) ≡ size b
   pub prices-low : Each (λ p. p ≤ topPrice) (b .prices)
-  pub ages-low : Each (λ a. a ≤ 20) (b .ages)
+  pub ages-low : Each (λ a. a ≤ oldest) (b .ages)
   pub ok : bookOk b ≡ true
 
-long : (b : Book) → longOk b ≡ true → (size b ≤ 16) × (length (b .quantities) ≡ size b) × (length (b .minimums) ≡ size b) × (length (b .ages) ≡ size b)
+long : (b : Book) → longOk b ≡ true → (size b ≤ mostOffers) × (length (b .quantities) ≡ size b) × (length (b .minimums) ≡ size b) × (length (b .ages) ≡ size b)
 unfolding longOk
 long b e =
     let t3 = and-true _ (eqb (length (b .ages)) (size b)) e in
     let t2 = and-true _ (eqb (length (b .minimums)) (size b)) (t3 .0) in
-    let t1 = and-true (leb (size b) 16) (eqb (length (b .quantities)) (size b)) (t2 .0) in
+    let t1 = and-true (leb (size b) mostOffers) (eqb (length (b .quantities)) (size b)) (t2 .0) in
     (leb-true _ _ (t1 .0), eqb-true _ _ (t1 .1), eqb-true _ _ (t2 .1), eqb-true _ _ (t3 .1))
 
-accepted-book : (b : Book) → bookOk b ≡ true → Accepted b
+accepted-book : (b : Book) → bookOk b ≡ true → AcceptedBook b
 unfolding bookOk
 accepted-book b e =
     let l = long b (and-true (longOk b) (all offerOk (offers b)) e .0) in
@@ -42,17 +42,17 @@ accepted-book b e =
       minimums = l .2;
       ages = l .3;
       prices-low = each-listed (λ p. p ≤ topPrice) (b .prices) (λ k m. bounds-at b e k (omega (arith, in-numbers k 0 _ m)) .cheap);
-      ages-low = each-listed (λ a. a ≤ 20) (b .ages) (λ k m. bounds-at b e k (omega (arith, in-numbers k 0 _ m, l .3)) .aged);
+      ages-low = each-listed (λ a. a ≤ oldest) (b .ages) (λ k m. bounds-at b e k (omega (arith, in-numbers k 0 _ m, l .3)) .aged);
       ok = e;
     }
 
-pub accepted : (ceiling demand : ℕ) (b : Book) → sealedNumber ceiling demand b ≡ 0 → Accepted b
+pub accepted : (ceiling demand : ℕ) (b : Book) → sealedNumber ceiling demand b ≡ 0 → AcceptedBook b
 unfolding sealedNumber
 accepted ceiling demand b = go (isPrice ceiling && leb demand 100000000000) (bookOk b) refl refl
   where
     go :
         (s t : Bool) → isPrice ceiling && leb demand 100000000000 ≡ s → bookOk b ≡ t →
-        check (s && t) 18 (check (all (λ o. leb (o .price) ceiling) (offers b)) 19 0) ≡ 0 → Accepted b
+        check (s && t) 18 (check (all (λ o. leb (o .price) ceiling) (offers b)) 19 0) ≡ 0 → AcceptedBook b
     go true true e f h = accepted-book b f
     go true false e f h = absurd (omega arith)
     go false t e f h = absurd (omega arith)
