@@ -1,4 +1,4 @@
-//! The engine's calls as a C host gets them, from its static library `libhost.a`.
+//! The engine's calls as a C host gets them, from its library `host`.
 //! Only the programs under `bin/` take this module in; the library links no engine.
 #![allow(dead_code, reason = "a program makes the calls that it tests")]
 
@@ -6,7 +6,7 @@ use independent::replay::Fields;
 use independent::sealed::Sealed;
 
 mod host {
-    #[link(name = "host", kind = "static")]
+    #[link(name = "host")]
     extern "C" {
         pub fn demand(ce: u64, d: u64, m1: u64, m2: u64, p: u64) -> u64;
         pub fn demand_remainder(ce: u64, d: u64, m1: u64, m2: u64, p: u64) -> u64;

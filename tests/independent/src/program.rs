@@ -1,5 +1,6 @@
 //! Runs a program on an input, for the comparisons of what it prints.
 
+use std::ffi::OsStr;
 use std::io::{self, Write};
 use std::process::{Command, Output, Stdio};
 use std::thread;
@@ -30,6 +31,22 @@ pub fn run(mut program: Command, input: &[u8], piece: usize) -> io::Result<Outpu
         given.join().expect("no panic")?;
         Ok(output)
     })
+}
+
+/// What the program prints for the input; behind it, how it ended, where it was not run or a signal
+/// ended it.
+pub fn printed(program: &OsStr, input: &str) -> String {
+    match run(Command::new(program), input.as_bytes(), AT_ONCE) {
+        Ok(output) => {
+            let printed = String::from_utf8_lossy(&output.stdout);
+            // Which exit status it has is left free; a signal is none.
+            match output.status.code() {
+                Some(_) => printed.into_owned(),
+                None => format!("{printed}{}\n", output.status),
+            }
+        }
+        Err(error) => error.to_string(),
+    }
 }
 
 /// A program that has read more than it takes may end before it has read all.

@@ -12,11 +12,11 @@ use independent::hall::pairs::{pair, Pair};
 use independent::hall::runs::run;
 use independent::hall::stated;
 use independent::hall::views::Shown;
-use independent::program::{self, AT_ONCE};
+use independent::program;
 use independent::report::{few, verdict, Compared, PAIRS, SEATS};
 use std::ffi::OsStr;
 use std::iter::zip;
-use std::process::{Command, ExitCode};
+use std::process::ExitCode;
 
 /// Batches, and the runs and the pairs of runs in each.
 const BATCHES: u64 = 200;
@@ -110,11 +110,7 @@ fn compare<T>(
 ) {
     let mut printed = Vec::new();
     for runs in groups(runs) {
-        let output = match program::run(Command::new(program), input(runs).as_bytes(), AT_ONCE) {
-            Ok(output) => String::from_utf8_lossy(&output.stdout).into_owned(),
-            Err(error) => error.to_string(),
-        };
-        printed.extend(parts(runs, &output));
+        printed.extend(parts(runs, &program::printed(program, &input(runs))));
     }
     let mut both = zip(runs, &printed);
     let differing = both.find_map(|(run, printed)| difference(run, printed));

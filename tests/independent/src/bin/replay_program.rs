@@ -6,7 +6,7 @@
 use independent::program::{run, AT_ONCE};
 use independent::records::{edges, records_of, Records};
 use independent::replay::printed;
-use independent::report::{verdict, Group};
+use independent::report::{few, inputs, verdict, Group};
 use independent::sample;
 use std::process::{Command, ExitCode, Output};
 
@@ -15,7 +15,8 @@ fn main() -> ExitCode {
         eprintln!("replay_program: the program's path is missing");
         return ExitCode::FAILURE;
     };
-    let groups = GROUPS.map(|(name, records, piece)| {
+    let edges = if few() { &[][..] } else { &EDGES };
+    let groups = GROUPS.iter().chain(edges).map(|&(name, records, piece)| {
         let group = Group::of(name, &records(), |group, record| {
             match run(Command::new(&program), record, piece) {
                 Ok(output) => compare(group, record, &output),
@@ -24,16 +25,20 @@ fn main() -> ExitCode {
         });
         group.report()
     });
-    verdict(&groups)
+    verdict(&groups.collect::<Vec<_>>())
 }
 
 /// Groups of records, and the bytes of standard input that arrive at once.
-const GROUPS: [(&str, Records, usize); 6] = [
+const GROUPS: [(&str, Records, usize); 2] = [
     ("sample and examples", sample::records, AT_ONCE),
+    ("generated", || records_of(0..inputs(500)), AT_ONCE),
+];
+
+/// Such groups that are left out where few inputs are enough.
+const EDGES: [(&str, Records, usize); 4] = [
     ("edges of lines", edges::lines, AT_ONCE),
     ("sizes of records", edges::record_sizes, AT_ONCE),
     ("sizes of replies", edges::reply_sizes, AT_ONCE),
-    ("generated", || records_of(0..500), AT_ONCE),
     ("sizes of records, in pieces", edges::record_sizes, 5_000),
 ];
 

@@ -7,7 +7,7 @@
 use independent::program::{run, AT_ONCE};
 use independent::records::{edges, fixed, records_of, Records};
 use independent::replay::{lines, PROGRAM_BYTES};
-use independent::report::{verdict, Group};
+use independent::report::{few, inputs, verdict, Group};
 use independent::sample;
 use independent::shuffling::Order;
 use independent::trace::traced_with_settlement;
@@ -18,7 +18,8 @@ fn main() -> ExitCode {
         eprintln!("trace_program: the program's path is missing");
         return ExitCode::FAILURE;
     };
-    let groups = GROUPS.map(|(name, records, piece)| {
+    let edges = if few() { &[][..] } else { &EDGES };
+    let groups = GROUPS.iter().chain(edges).map(|&(name, records, piece)| {
         let group = Group::of(name, &records(), |group, record| {
             match run(Command::new(&program), record, piece) {
                 Ok(output) => compare(group, record, &output),
@@ -27,26 +28,30 @@ fn main() -> ExitCode {
         });
         group.report()
     });
-    verdict(&groups)
+    verdict(&groups.collect::<Vec<_>>())
 }
 
 /// Groups of records, and the bytes of standard input that arrive at once.
-const GROUPS: [(&str, Records, usize); 9] = [
+const GROUPS: [(&str, Records, usize); 3] = [
     ("sample and examples", sample::records, AT_ONCE),
+    // The first half of the seeds whose shares the tests of the independent implementation look at.
+    ("generated", || records_of(0..inputs(10_000)), AT_ONCE),
+    // No reply says the supply curve, which document 02's request 12 takes into the equality.
+    ("generated, in another order", in_another_order, AT_ONCE),
+];
+
+/// Such groups that are left out where few inputs are enough.
+const EDGES: [(&str, Records, usize); 6] = [
     ("fixed records", fixed::records, AT_ONCE),
     ("edges of lines", edges::lines, AT_ONCE),
     ("sizes of records", edges::record_sizes, AT_ONCE),
     ("sizes of replies", edges::reply_sizes, AT_ONCE),
     ("largest books", edges::largest_books, AT_ONCE),
-    // The first half of the seeds whose shares the tests of the independent implementation look at.
-    ("generated", || records_of(0..10_000), AT_ONCE),
-    // No reply says the supply curve, which document 02's request 12 takes into the equality.
-    ("generated, in another order", in_another_order, AT_ONCE),
     ("sizes of records, in pieces", edges::record_sizes, 5_000),
 ];
 
 fn in_another_order() -> Vec<Vec<u8>> {
-    let records = records_of(0..2_000);
+    let records = records_of(0..inputs(2_000));
     let put = records.iter().map(|record| Order::of(record).put(record));
     put.collect()
 }
