@@ -1,4 +1,4 @@
-"""The reference clearing of a firm-energy clock auction; every figure is the proved library's."""
+"""The reference clearing of a firm-energy clock auction: figures of the library and of `trace`."""
 
 from .calls import Step
 from .compare import Difference, differences

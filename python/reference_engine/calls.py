@@ -27,7 +27,7 @@ class SetUp:
 
 @dataclass(frozen=True)
 class Registration:
-    """Frame 02, or 08 where the agent is named. Kind 1 is an existing plant, 2 a new one."""
+    """Frame 02, or 08 where the agent is named."""
 
     project: int
     developer: int
@@ -90,6 +90,9 @@ class Malformed:
 Call = Union[
     SetUp, Registration, Opening, Offer, Closing, Settling, Lodging, Cancellation, Malformed
 ]
+
+#: The name of each kind of plant.
+KINDS: dict[int, str] = {1: "existing", 2: "new"}
 
 #: The name of each frame kind; FF is a malformed line.
 NAMES: dict[int, str] = {

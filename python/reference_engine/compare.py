@@ -13,6 +13,7 @@ from pathlib import Path
 from typing import Any, ContextManager, TextIO, Union
 
 from .calls import NAMES
+from .command import Commands
 from .record import Line, Record
 from .refusals import Refusal
 from .replies import Award, Reply, reply_in
@@ -198,7 +199,7 @@ def _award(award: Award | None) -> str:
 # ---- the command
 
 
-def add_to(commands: "argparse._SubParsersAction[argparse.ArgumentParser]") -> None:
+def add_to(commands: Commands) -> None:
     """Adds the command to the command line."""
     parser = commands.add_parser(
         "compare",

@@ -5,10 +5,10 @@ from __future__ import annotations
 import argparse
 import sys
 from collections.abc import Iterator
-from pathlib import Path
 
 from .auction import Auction, Round, Settled, read_auction
 from .calls import (
+    KINDS,
     NAMES,
     Call,
     Cancellation,
@@ -21,9 +21,9 @@ from .calls import (
     Settling,
     Step,
 )
+from .command import Commands, parser_of, status_of
 from .record import Line, Record
 from .replies import Closed
-from .status import status_of
 
 _UNITS = (
     "Prices in thousandths of US$ per MWh, quantities in kWh per day,"
@@ -37,11 +37,6 @@ the reference answers. The figures and awards of a settling stand below its line
 Bytes that are not printable are shown escaped, as in '05\\r'; a long malformed line is cut, and its
 length said. A record without lines gives "no line". For a record of more than 65,536 bytes, the
 most that trace reads, it is not said whether a closing closes the auction.
-"""
-
-_EPILOG = """\
-Exit status: 0, also where lines are refused; 1 where settling was asked for and each one was
-refused; 2 for bad usage.
 """
 
 
@@ -80,7 +75,7 @@ def _asked(call: Call) -> str:
 
 
 def _registered(call: Registration) -> str:
-    kind = {1: "existing", 2: "new"}.get(call.kind, f"kind {call.kind}")
+    kind = KINDS.get(call.kind, f"kind {call.kind}")
     agent = "" if call.agent is None else f" agent {call.agent},"
     return (
         f"project {call.project}, developer {call.developer},{agent} {kind},"
@@ -157,17 +152,10 @@ def explained(auction: Auction) -> Iterator[str]:
 # ---- the command
 
 
-def add_to(commands: "argparse._SubParsersAction[argparse.ArgumentParser]") -> None:
+def add_to(commands: Commands) -> None:
     """Adds the command to the command line."""
-    parser = commands.add_parser(
-        "explain",
-        help="each line of a record in words, with its reply",
-        description=_DESCRIPTION,
-        epilog=_EPILOG,
-        formatter_class=argparse.RawDescriptionHelpFormatter,
-    )
-    parser.add_argument("record", metavar="RECORD", type=Path, help="the file of the record")
-    parser.set_defaults(run=run)
+    summary = "each line of a record in words, with its reply"
+    parser_of(run, commands, "explain", summary, _DESCRIPTION)
 
 
 def run(chosen: argparse.Namespace) -> int:

@@ -3,8 +3,11 @@
 from __future__ import annotations
 
 from dataclasses import dataclass
+from functools import lru_cache
 
 from .refusals import Refusal
+
+_DIGITS = frozenset("0123456789ABCDEF")
 
 
 @dataclass(frozen=True)
@@ -62,7 +65,7 @@ class _Fields:
 
     def number(self, digits: int) -> int:
         field, self.rest = self.rest[:digits], self.rest[digits:]
-        if len(field) < digits or not set(field) <= set("0123456789ABCDEF"):
+        if len(field) < digits or not _DIGITS.issuperset(field):
             raise ValueError("not the digits of a reply")
         return int(field, 16)
 
@@ -73,6 +76,7 @@ class _Fields:
         return number == 1
 
 
+@lru_cache(maxsize=1_024)  # a long record has few different replies
 def reply_in(text: str) -> Reply:
     """The reply that a line says. Raises ValueError where it is none."""
     fields = _Fields(text)

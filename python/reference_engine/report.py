@@ -9,14 +9,18 @@ from pathlib import Path
 
 from . import figures
 from .auction import Auction, Round, Settled, read_auction
-from .calls import NAMES, Cancellation, Lodging, Malformed, Offer, Registration, Step
+from .calls import KINDS, NAMES, Cancellation, Lodging, Malformed, Offer, Registration, Step
+from .command import Commands, parser_of, status_of
 from .markup import Markup, element, escaped, joined, price, quantity
 from .record import Line, Record
-from .status import status_of
 
-_KINDS = {1: "existing", 2: "new"}
 _STEPS = "steps: US$ per MWh, kWh per day"
 _SHOWN = 200  # characters of a line; a frame has at most 160
+
+_DESCRIPTION = """\
+Writes an auction as one self-contained HTML page: settings, registrations, rounds, supply curve,
+settlement, refused lines.
+"""
 
 _STYLE = """
 body { font: 16px/1.45 sans-serif; color: #000; background: #fff; max-width: 56rem;
@@ -47,16 +51,10 @@ figcaption { font-size: 0.9rem; }
 """
 
 
-def add_to(commands: "argparse._SubParsersAction[argparse.ArgumentParser]") -> None:
+def add_to(commands: Commands) -> None:
     """Adds the command to the command line."""
-    parser = commands.add_parser(
-        "report",
-        help="an auction as one HTML page with figures",
-        description="Writes an auction as one self-contained HTML page: settings, registrations, "
-        "rounds, supply curve, settlement, refused lines. Exit status 1 where settling was asked "
-        "for and every time refused.",
-    )
-    parser.add_argument("record", metavar="RECORD", type=Path, help="the record's file")
+    summary = "an auction as one HTML page with figures"
+    parser = parser_of(run, commands, "report", summary, _DESCRIPTION)
     parser.add_argument(
         "-o",
         "--output",
@@ -64,7 +62,6 @@ def add_to(commands: "argparse._SubParsersAction[argparse.ArgumentParser]") -> N
         metavar="PAGE",
         help="the page's file; - for standard output",
     )
-    parser.set_defaults(run=run)
 
 
 def run(chosen: argparse.Namespace) -> int:
@@ -276,7 +273,7 @@ def _registrations(auction: Auction) -> list[Markup]:
         [
             str(call.project),
             str(call.developer),
-            _KINDS[call.kind],
+            KINDS[call.kind],
             _agent(call),
             quantity(call.study),
             quantity(call.day),
@@ -448,7 +445,7 @@ def _awards(auction: Auction, settled: Settled) -> list[Markup]:
             str(award.project),
             str(award.developer),
             _agent(call) if call else "",
-            _KINDS[call.kind] if call else "",
+            KINDS[call.kind] if call else "",
             quantity(award.quantity),
         ]
         for award, call in zip(awards, calls)

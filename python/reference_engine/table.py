@@ -13,10 +13,10 @@ from pathlib import Path
 from typing import Union
 
 from .auction import Auction, Settled, read_auction
-from .calls import Registration
+from .calls import KINDS, Registration
+from .command import Commands, parser_of, status_of
 from .record import Record
 from .replies import Award
-from .status import status_of
 
 # Units, broken as a narrow column of a paper needs them.
 _PRICE = ("thousandths", "of US$", "per MWh")
@@ -30,12 +30,10 @@ numbers stand without thousands separators. The figures of a round that is not c
 
 csv       Each row begins with the name of its table, and the first row of a table has its
           headings: tables.setdefault(row[0], []).append(row[1:]) for each row of csv.reader.
-latex     Plain tabulars without a package, to be read by \\input.
+latex     Plain tabulars to be read by \\input, in small print so that they fit a page of the class
+          article; no package is needed. A table of more than 32 rows goes on in further tabulars,
+          with its headings, as none is broken between pages.
 markdown  Tables with aligned columns.
-"""
-
-_EPILOG = """\
-Exit status: 0; 1 where settling was asked for and each one was refused; 2 for bad usage.
 """
 
 Value = Union[int, str, None]
@@ -132,8 +130,7 @@ def _award_row(award: Award, registered: Registration | None) -> tuple[Value, ..
     """An award with its agent: the one that is named, else that of the developer's number."""
     assert registered is not None, "the library awards registered developers alone"
     agent = award.developer if registered.agent is None else registered.agent
-    kind = "existing" if registered.kind == 1 else "new"
-    return (award.project, award.developer, agent, kind, award.quantity)
+    return (award.project, award.developer, agent, KINDS[registered.kind], award.quantity)
 
 
 def settlement_table(auction: Auction) -> Table:
@@ -180,6 +177,10 @@ def _cell(value: Value) -> str:
     return "" if value is None else str(value)
 
 
+def _sentence(words: str) -> str:
+    return f"{words.capitalize()}."
+
+
 def as_csv(tables: Sequence[Table]) -> str:
     """The tables as CSV: a row begins with its table's name, a table's first row has headings."""
     text = io.StringIO()
@@ -189,6 +190,15 @@ def as_csv(tables: Sequence[Table]) -> str:
         writer.writerows([table.name, *map(_cell, row)] for row in table.rows)
     return text.getvalue()
 
+
+# The largest numbers fit the width of an article, and so many rows its height.
+_LATEX_BEGIN = (
+    "\\begingroup\\footnotesize\\setlength{\\parindent}{0pt}\n"
+    "\\setlength{\\tabcolsep}{3pt}\\renewcommand{\\arraystretch}{1.1}\n"
+)
+_LATEX_GAP = "\n\\bigskip\n"
+_LATEX_END = "\\par\\endgroup\n"
+_LATEX_ROWS = 32
 
 _LATEX_SPECIAL = str.maketrans(
     {
@@ -205,30 +215,43 @@ def latex_escaped(text: str) -> str:
     return text.translate(_LATEX_SPECIAL)
 
 
-def _latex_row(cells: Sequence[str]) -> str:
-    return " & ".join(map(latex_escaped, cells)) + r" \\"
+def _latex_cell(value: Value) -> str:
+    """A value; a negative number in math, where the sign is no hyphen."""
+    text = latex_escaped(_cell(value))
+    return f"${text}$" if isinstance(value, int) and value < 0 else text
 
 
-def _latex_table(table: Table) -> str:
+def _latex_row(values: Sequence[Value]) -> str:
+    return " & ".join(map(_latex_cell, values)) + r" \\"
+
+
+def _latex_tabular(columns: Sequence[Column], rows: Sequence[Sequence[Value]]) -> list[str]:
     """A tabular: between the first two lines names and units, then the rows."""
-    alignment = "".join("l" if column.words else "r" for column in table.columns)
-    headings = zip_longest(*((each.name, *each.unit) for each in table.columns), fillvalue="")
-    lines = [
-        f"% {table.name}" + ("" if table.rows else f": {table.empty}"),
-        rf"\begin{{tabular}}{{{alignment}}}",
+    alignment = "".join("l" if column.words else "r" for column in columns)
+    headings = zip_longest(*((each.name, *each.unit) for each in columns), fillvalue="")
+    return [
+        rf"\begin{{tabular}}{{@{{}}{alignment}@{{}}}}",
         r"\hline",
         *map(_latex_row, headings),
         r"\hline",
-        *(_latex_row([*map(_cell, row)]) for row in table.rows),
-        *([r"\hline"] if table.rows else []),
+        *map(_latex_row, rows),
+        *([r"\hline"] if rows else []),
         r"\end{tabular}",
     ]
-    return "\n".join(lines) + "\n"
+
+
+def _latex_table(table: Table) -> str:
+    """The table in tabulars of few rows, a comment with its name above each."""
+    parts = [table.rows[at : at + _LATEX_ROWS] for at in range(0, len(table.rows), _LATEX_ROWS)]
+    tabulars = [[f"% {table.name}", *_latex_tabular(table.columns, part)] for part in parts or [[]]]
+    if not table.rows:
+        tabulars[-1] += ["", latex_escaped(_sentence(table.empty))]
+    return _LATEX_GAP.join("\n".join(lines) + "\n" for lines in tabulars)
 
 
 def as_latex(tables: Sequence[Table]) -> str:
-    """The tables as plain tabulars, a comment with its name above each."""
-    return "\n".join(map(_latex_table, tables))
+    """The tables as plain tabulars, in a group that sets them small."""
+    return _LATEX_BEGIN + _LATEX_GAP.join(map(_latex_table, tables)) + _LATEX_END
 
 
 def _markdown_table(table: Table) -> str:
@@ -248,7 +271,7 @@ def _markdown_table(table: Table) -> str:
         *(_markdown_row(row, table.columns, widths) for row in rows),
     ]
     if not table.rows:
-        lines += ["", table.empty.capitalize() + "."]
+        lines += ["", _sentence(table.empty)]
     return "\n".join(lines) + "\n"
 
 
@@ -275,16 +298,10 @@ _FORMATS: dict[str, Callable[[Sequence[Table]], str]] = {
 # ---- the command
 
 
-def add_to(commands: "argparse._SubParsersAction[argparse.ArgumentParser]") -> None:
+def add_to(commands: Commands) -> None:
     """Adds the command to the command line."""
-    parser = commands.add_parser(
-        "table",
-        help="rounds, supply curve and award as CSV, LaTeX or Markdown",
-        description=_DESCRIPTION,
-        epilog=_EPILOG,
-        formatter_class=argparse.RawDescriptionHelpFormatter,
-    )
-    parser.add_argument("record", metavar="RECORD", type=Path, help="the file of the record")
+    summary = "rounds, supply curve and award as CSV, LaTeX or Markdown"
+    parser = parser_of(run, commands, "table", summary, _DESCRIPTION)
     parser.add_argument(
         "--format", choices=_FORMATS, default="markdown", help="default: %(default)s"
     )
@@ -297,7 +314,6 @@ def add_to(commands: "argparse._SubParsersAction[argparse.ArgumentParser]") -> N
     parser.add_argument(
         "-o", "--output", metavar="FILE", type=Path, help="written instead of standard output"
     )
-    parser.set_defaults(run=run)
 
 
 def run(chosen: argparse.Namespace) -> int:

@@ -1,9 +1,10 @@
-"""Records that tests read: the sample, random auctions, and a long one."""
+"""Records that tests read: the sample, FORMAT's examples, random auctions, and a long one."""
 
 from __future__ import annotations
 
 import random
 from dataclasses import dataclass
+from functools import cache
 from pathlib import Path
 
 from reference_engine import Record
@@ -33,6 +34,35 @@ def sample() -> Record:
     return Record.read(ROOT / "crates" / "replay" / "stdin")
 
 
+def first_lines(count: int) -> Record:
+    """So many lines of the sample."""
+    return Record(b"".join(bytes(sample()).splitlines(True)[:count]))
+
+
+def ready() -> Record:
+    """The settings of FORMAT's examples of lodging and agents."""
+    return Record().set_up(20_000, 1_000_000, 900_000, 1_200_000, 40_000)
+
+
+def lodged(new: int) -> Record:
+    """The lodged list of docs/FORMAT.md, with a new plant of that level."""
+    record = ready().register(1, 1, 1, [300_000, 500_000]).register(2, 2, 1, [400_000])
+    record.register(3, 3, 2, [new]).lodge(1, [(30_000, 300_000), (29_990, 0)])
+    return record.open(30_000).offer(3).close().open(29_990).offer(3).close().settle()
+
+
+def with_agents(new: int) -> Record:
+    """The agents of docs/FORMAT.md, with a new plant of that level for agent 5."""
+    record = ready().register(1, 1, 1, [150_000], agent=5).register(2, 2, 2, [new], agent=5)
+    record.register(3, 3, 2, [600_000 - new]).register(4, 4, 1, [200_000], agent=4)
+    return record.open(29_990).offer(2).offer(3).close().settle()
+
+
+def untraced() -> Record:
+    """The sample and malformed lines, some hundreds, and more bytes than trace reads."""
+    return Record(bytes(sample()) + (b"0" * 99 + b"\n") * (LONGEST // 100 + 1))
+
+
 def random_record(choice: random.Random) -> Record:
     """An auction with refused and malformed lines among the others, often closed and settled."""
     auction = _RandomAuction(choice)
@@ -46,6 +76,11 @@ def random_record(choice: random.Random) -> Record:
 
 def long_record() -> Record:
     """A settled auction of 32 developers, thousands of lines and just below 64 KiB."""
+    return Record(_long())
+
+
+@cache
+def _long() -> bytes:
     choice = random.Random(64)
     record = Record().set_up(20_000, 1_000_000, 900_000, 1_200_000, 40_000)
     for number in range(1, 33):
@@ -60,7 +95,7 @@ def long_record() -> Record:
     for developer in range(17, 33):
         record.cancel(developer)
         record.offer(developer, [(30_000 + developer, 20_000)] if developer < 21 else [])
-    return record.close().settle()
+    return bytes(record.close().settle())
 
 
 @dataclass

@@ -10,9 +10,10 @@ import tempfile
 import time
 import unittest
 from pathlib import Path
+from unittest import mock
 
-from records import long_record, random_record, sample
-from reference_engine import MEANINGS, Record
+from records import first_lines, lodged, long_record, random_record, sample, untraced, with_agents
+from reference_engine import MEANINGS, Record, explain
 from reference_engine.__main__ import main
 from reference_engine.auction import Auction, read_auction
 from reference_engine.calls import NAMES
@@ -46,19 +47,6 @@ SAMPLE = f"""\
    participation sufficient
    price paid to existing plants 26,000
 """
-
-
-def first_lines(count: int) -> bytes:
-    """So many lines of the sample."""
-    return b"".join(bytes(sample()).splitlines(True)[:count])
-
-
-def lodged(new: int) -> Record:
-    """The lodged list of docs/FORMAT.md, with a new plant of that level."""
-    record = Record().set_up(20_000, 1_000_000, 900_000, 1_200_000, 40_000)
-    record.register(1, 1, 1, [300_000, 500_000]).register(2, 2, 1, [400_000])
-    record.register(3, 3, 2, [new]).lodge(1, [(30_000, 300_000), (29_990, 0)])
-    return record.open(30_000).offer(3).close().open(29_990).offer(3).close().settle()
 
 
 class ExplainTest(unittest.TestCase):
@@ -98,10 +86,7 @@ class ExplainTest(unittest.TestCase):
         self.assertIn("   second price 40,000, short\n", self.run_on(lodged(499_999))[1])
 
     def test_agents_and_participation(self) -> None:
-        record = Record().set_up(20_000, 1_000_000, 900_000, 1_200_000, 40_000)
-        record.register(1, 1, 1, [150_000], agent=5).register(2, 2, 2, [300_001], agent=5)
-        record.register(3, 3, 2, [299_999]).register(4, 4, 1, [200_000], agent=4)
-        text = self.run_on(record.open(29_990).offer(2).offer(3).close().settle())[1]
+        text = self.run_on(with_agents(300_001))[1]
         self.assertIn(
             "2  registration with agent: project 1, developer 1, agent 5, existing,"
             " study value 0, start day 0, level 150,000 -> accepted\n",
@@ -133,18 +118,18 @@ class ExplainTest(unittest.TestCase):
             (2, b"05", 5, "close"),
         ):
             with self.subTest(line=line):
-                said, _, answer = self.last_of(first_lines(behind) + line).partition(" -> ")
+                said, _, answer = self.last_of(bytes(first_lines(behind)) + line).partition(" -> ")
                 self.assertTrue(said.startswith(words), said)
                 self.assertEqual(answer, f"refused by {number}: {MEANINGS[number]}")
 
     def test_kinds_and_levels_that_are_none(self) -> None:
-        record = Record(first_lines(1)).register(1, 1, 7, [])
+        record = first_lines(1).register(1, 1, 7, [])
         said = self.last_of(record)
         self.assertIn("developer 1, kind 7, study value 0, start day 0, no level", said)
 
     def test_cancellation_accepted(self) -> None:
         self.assertEqual(
-            self.last_of(Record(first_lines(7)).cancel(2)), "cancellation: developer 2 -> accepted"
+            self.last_of(first_lines(7).cancel(2)), "cancellation: developer 2 -> accepted"
         )
 
     # ---- malformed lines and odd records
@@ -176,10 +161,10 @@ class ExplainTest(unittest.TestCase):
         self.assertEqual(self.run_on(b""), (0, "no line\n", ""))
 
     def test_record_that_trace_does_not_read(self) -> None:
-        status, text, err = self.run_on(bytes(sample()) + b"\n" * 65_536)
+        status, text, err = self.run_on(untraced())
         self.assertEqual((status, err), (0, ""))
-        self.assertIn("\n10    close -> excess -55, remainder 0\n", text)
-        self.assertIn("      choices: 4 admissible, 3 covering\n", text)
+        self.assertIn("\n10  close -> excess -55, remainder 0\n", text)
+        self.assertIn("    choices: 4 admissible, 3 covering\n", text)
 
     # ---- random records
 
@@ -222,7 +207,9 @@ class ExplainTest(unittest.TestCase):
         for _ in range(80):
             record = random_record(choice)
             auction = read_auction(record)
-            status, text, _ = self.run_on(record)
+            with mock.patch.object(explain, "read_auction", return_value=auction) as read:
+                status, text, _ = self.run_on(record)
+            read.assert_called_once_with(record)
             self.check_lines(auction, text)
             self.check_figures(auction, text)
             self.assertEqual(status, 1 if auction.settling_failed else 0)
@@ -234,7 +221,7 @@ class ExplainTest(unittest.TestCase):
     # ---- the command
 
     def test_each_settling_refused_is_1(self) -> None:
-        unsettled = Record(first_lines(10)).settle(0)
+        unsettled = first_lines(10).settle(0)
         status, text, err = self.run_on(unsettled)
         self.assertEqual(status, 1)
         self.assertIn("11 settling: at most 0 choices -> refused by 10: choices above the", text)

@@ -10,6 +10,7 @@ from concurrent.futures import ThreadPoolExecutor
 from pathlib import Path
 from unittest import mock
 
+from records import ROOT, ready
 from reference_engine import (
     MEANINGS,
     Forced,
@@ -25,7 +26,6 @@ from reference_engine import (
     who_can_force,
 )
 
-ROOT = Path(__file__).resolve().parents[2]
 SETTINGS = (20_000, 1_000, 900, 1_200)
 
 # The paper's ten marked cases: price, Dem, remainder (tests/c/demand_host.c).
@@ -166,8 +166,7 @@ class Forcing(Untouched):
 
     @staticmethod
     def between() -> Record:
-        record = Record().set_up(20_000, 1_000_000, 900_000, 1_200_000, 40_000)
-        record.register(1, 1, 1, [500_000, 900_000]).lodge(1, [(15_000, 500_000)])
+        record = ready().register(1, 1, 1, [500_000, 900_000]).lodge(1, [(15_000, 500_000)])
         record.register(2, 2, 2, [100_000]).register(3, 3, 2, [150_000])
         record.register(2, 4, 2, [60_000]).register(4, 5, 2, [50_000])
         return record.open(20_000).offer(2).offer(3).offer(4).close()

@@ -2,13 +2,16 @@
 
 from __future__ import annotations
 
+import contextlib
+import io
 import os
 import subprocess
 import sys
 import unittest
-from pathlib import Path
 
-ROOT = Path(__file__).resolve().parents[2]
+from records import ROOT
+from reference_engine.__main__ import main
+
 SAMPLE = str(ROOT / "crates/replay/stdin")
 COMMANDS = ("compare", "report", "table", "explain")
 
@@ -20,19 +23,35 @@ def run(*arguments: str, **options: object) -> subprocess.CompletedProcess[str]:
     return subprocess.run(command, stderr=subprocess.PIPE, text=True, **options)
 
 
+def left(*arguments: str) -> tuple[object, str, str]:
+    """Exit status, standard output and standard error of a command that argparse ends."""
+    out, err = io.StringIO(), io.StringIO()
+    with contextlib.redirect_stdout(out), contextlib.redirect_stderr(err):
+        try:
+            main([*arguments])
+        except SystemExit as stopped:
+            return stopped.code, out.getvalue(), err.getvalue()
+    raise AssertionError("the command was not ended")
+
+
 class CommandLine(unittest.TestCase):
     def test_help(self) -> None:
+        done = run("--help")
+        self.assertEqual((done.returncode, done.stderr), (0, ""))
         for command in COMMANDS:
-            done = run(command, "--help")
-            self.assertEqual((done.returncode, done.stderr), (0, ""))
-            self.assertIn(f"reference_engine {command}", done.stdout)
-            self.assertIn(command, run("--help").stdout)
+            status, out, err = left(command, "--help")
+            self.assertEqual((status, err), (0, ""))
+            self.assertIn(f"reference_engine {command}", out)
+            self.assertIn(command, done.stdout)
 
     def test_bad_usage(self) -> None:
+        done = run()
+        self.assertEqual((done.returncode, done.stdout), (2, ""))
+        self.assertIn("usage:", done.stderr)
         for arguments in ((), ("settle",), *((command,) for command in COMMANDS)):
-            done = run(*arguments)
-            self.assertEqual((done.returncode, done.stdout), (2, ""))
-            self.assertIn("usage:", done.stderr)
+            status, out, err = left(*arguments)
+            self.assertEqual((status, out), (2, ""))
+            self.assertIn("usage:", err)
 
     def test_no_such_file(self) -> None:
         done = run("explain", "nowhere/to/be/found")

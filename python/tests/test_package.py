@@ -13,7 +13,8 @@ import zipfile
 from pathlib import Path
 from unittest import mock
 
-ROOT = Path(__file__).resolve().parents[2]
+from records import ROOT
+
 sys.path.insert(0, str(ROOT / "python"))
 import backend  # noqa: E402  beside the package, not in it
 import reference_engine  # noqa: E402

@@ -8,6 +8,7 @@ from pathlib import Path
 from time import perf_counter
 from unittest import mock
 
+from records import ROOT, first_lines, lodged, ready, with_agents
 from reference_engine import Award, Closed, Record, Refused, Reply, Settlement, Step
 from reference_engine import library, replay
 from reference_engine.auction import CurvePoint, read_auction
@@ -23,7 +24,6 @@ from reference_engine.calls import (
     Settling,
 )
 
-ROOT = Path(__file__).resolve().parents[2]
 SAMPLE = (ROOT / "crates/replay/stdin").read_bytes()
 REPLIES = (ROOT / "crates/replay/stdout").read_bytes()
 
@@ -44,11 +44,6 @@ def sample() -> Record:
         .close()
         .settle(100)
     )
-
-
-def ready() -> Record:
-    """The settings of FORMAT's examples of lodging and agents."""
-    return Record().set_up(20_000, 1_000_000, 900_000, 1_200_000, 40_000)
 
 
 class Building(unittest.TestCase):
@@ -204,31 +199,23 @@ class Replaying(unittest.TestCase):
         self.assertEqual((auction.refused, auction.settling_failed), ([], False))
 
     def test_lodging(self) -> None:
-        def settled(new: int) -> Settlement:
-            record = ready().register(1, 1, 1, [300_000, 500_000]).register(2, 2, 1, [400_000])
-            record.register(3, 3, 2, [new]).lodge(1, [(30_000, 300_000), (29_990, 0)])
-            record.open(30_000).offer(3).close().open(29_990).offer(3).close().settle()
-            return record.replies()[-1]
-
-        found = settled(550_000)
+        found = lodged(550_000).replies()[-1]
         self.assertEqual((found.price, found.total), (29_990, 1_250_000))
         self.assertEqual((found.second_price, found.second_is_short), (30_000, False))
-        found = settled(499_999)
+        found = lodged(499_999).replies()[-1]
         self.assertEqual((found.second_price, found.second_is_short), (40_000, True))
 
     def test_agents(self) -> None:
         for new, insufficient, paid in ((300_001, True, 22_000), (300_000, False, 30_000)):
-            record = ready().register(1, 1, 1, [150_000], agent=5)
-            record.register(2, 2, 2, [new], agent=5).register(3, 3, 2, [600_000 - new])
-            record.register(4, 4, 1, [200_000], agent=4)
-            found = record.open(29_990).offer(2).offer(3).close().settle().replies()[-1]
+            record = with_agents(new)
+            found = record.replies()[-1]
             self.assertEqual((found.price, found.demand), (30_000, 950_000))
             self.assertEqual(found.participation_is_insufficient, insufficient)
             self.assertEqual(found.price_paid, paid)
         self.assertTrue(bytes(record).split(b"\n")[1].startswith(b"0801010105"))
 
     def test_cancellation(self) -> None:
-        before = Record(b"\n".join(SAMPLE.split(b"\n")[:6]))
+        before = first_lines(6)
         numbers = [reply.number for reply in before.cancel(2).replies()[6:]]
         self.assertEqual(numbers, [16])
         before.offer(2, [(26_000, 100)]).cancel(2).cancel(2).offer(2).offer(2).cancel(1)

@@ -13,8 +13,7 @@ import unittest
 import xml.etree.ElementTree as ET
 from pathlib import Path
 
-from records import ROOT, long_record, random_record, sample
-
+from records import ROOT, lodged, long_record, random_record, sample
 from reference_engine import Record, Settlement
 from reference_engine.__main__ import main
 from reference_engine.auction import read_auction
@@ -292,15 +291,11 @@ class Figures(unittest.TestCase):
             self.assertIn(f"{now.excess:,}", words)
 
     def test_second_price_is_marked_where_it_differs(self) -> None:
-        record = Record().set_up(20_000, 1_000_000, 900_000, 1_200_000, 40_000)
-        record.register(1, 1, 1, [300_000, 500_000]).register(2, 2, 1, [400_000])
-        record.register(3, 3, 2, [550_000]).lodge(1, [(30_000, 300_000), (29_990, 0)])
-        record.open(30_000).offer(3).close().open(29_990).offer(3).close().settle()
-        read = Page(record)
+        read = Page(lodged(550_000))
         words = {box[4] for box in _boxes(read.pictures()[1])}
         self.assertLessEqual({"closing price: 29.990", "second price: 30.000"}, words)
-        lodged = read.rows("line", "developer", "steps: US$ per MWh, kWh per day")
-        self.assertEqual(lodged, [["5", "1", "at 30.000 down to 300,000; at 29.990 down to 0"]])
+        rows = read.rows("line", "developer", "steps: US$ per MWh, kWh per day")
+        self.assertEqual(rows, [["5", "1", "at 30.000 down to 300,000; at 29.990 down to 0"]])
 
     def test_ticks(self) -> None:
         self.assertEqual(ticks(9_100, 41_000, 10), list(range(10_000, 41_000, 5_000)))

@@ -12,9 +12,19 @@ import time
 import unittest
 from pathlib import Path
 from typing import Union
+from unittest import mock
 
-from records import long_record, random_record, sample
-from reference_engine import Record
+from records import (
+    first_lines,
+    lodged,
+    long_record,
+    random_record,
+    ready,
+    sample,
+    untraced,
+    with_agents,
+)
+from reference_engine import Record, table
 from reference_engine.__main__ import main
 from reference_engine.auction import Auction, read_auction
 from reference_engine.table import latex_escaped
@@ -59,21 +69,30 @@ def tables_in_csv(text: str) -> Tables:
 def tables_in_latex(text: str) -> Tables:
     """The heading's rows joined by column, a unit set between brackets as in the other formats."""
     tables: Tables = {}
-    for found in re.finditer(
-        r"^% (\w+).*\n\\begin\{tabular\}\{([lr]+)\}\n\\hline\n((?:.*\n)*?)\\end\{tabular\}\n",
-        text,
-        re.MULTILINE,
-    ):
-        heading, _, body = found[3].partition("\\hline\n")
+    for name, columns, content in tabulars_in(text):
+        heading, _, body = content.partition("\\hline\n")
         names, *units = latex_rows(heading)
         headings: list[Cell] = []
-        for name, *unit in zip(names, *units):
+        for first, *unit in zip(names, *units):
             words = " ".join(word for word in unit if word)
-            headings.append(f"{name} ({words})" if words else name)
+            headings.append(f"{first} ({words})" if words else first)
         rows = [[cell_in(cell) for cell in row] for row in latex_rows(body)]
-        assert all(len(row) == len(found[2]) for row in [headings, *rows])
-        tables[found[1]] = [headings, *rows]
+        assert all(len(row) == len(columns) for row in [headings, *rows])
+        assert len(rows) <= 32
+        joined = tables.setdefault(name, [headings])
+        assert joined[0] == headings and (len(joined) - 1) % 32 == 0
+        joined += rows
     return tables
+
+
+def tabulars_in(text: str) -> list[tuple[str, str, str]]:
+    """Of each tabular the name of its table, its columns' alignment, and what it holds."""
+    return re.findall(
+        r"^% (\w+)\n\\begin\{tabular\}\{@\{\}([lr]+)@\{\}\}\n\\hline\n"
+        r"((?:.*\n)*?)\\end\{tabular\}\n",
+        text,
+        re.MULTILINE,
+    )
 
 
 def latex_rows(text: str) -> list[list[str]]:
@@ -81,8 +100,15 @@ def latex_rows(text: str) -> list[list[str]]:
     for line in text.splitlines():
         if line != r"\hline":
             assert line.endswith(r" \\"), line
-            rows.append([cell.strip().replace(r"\$", "$") for cell in line[:-3].split(" & ")])
+            rows.append([latex_read(cell.strip()) for cell in line[:-3].split(" & ")])
     return rows
+
+
+def latex_read(cell: str) -> str:
+    """A cell as it is read: a negative number stands in math, and no other."""
+    found = re.fullmatch(r"\$(-[0-9]+)\$", cell)
+    assert found or not cell.startswith("-"), cell
+    return found[1] if found else cell.replace(r"\$", "$")
 
 
 def tables_in_markdown(text: str) -> Tables:
@@ -137,12 +163,7 @@ def tables_of(auction: Auction) -> Tables:
 
 def unsettled() -> Record:
     """The sample with a limit that its settling goes beyond."""
-    return Record(b"".join(bytes(sample()).splitlines(True)[:-1])).settle(0)
-
-
-def untraced() -> Record:
-    """The sample and blank lines, more than the program trace reads."""
-    return Record(bytes(sample()) + b"\n" * 65_536)
+    return first_lines(10).settle(0)
 
 
 class TableTest(unittest.TestCase):
@@ -160,13 +181,15 @@ class TableTest(unittest.TestCase):
         return status, out.getvalue(), err.getvalue()
 
     def check_read_back(self, record: Record) -> Tables:
-        """Each format reads back to the auction's numbers."""
+        """Each format reads back to the auction's numbers; the auction is read but once."""
         auction = read_auction(record)
         expected = tables_of(auction)
-        for name, reader in READERS.items():
-            status, text, _ = self.run_on(record, "--format", name)
-            self.assertEqual(reader(text), expected, name)
-            self.assertEqual(status, 1 if auction.settling_failed else 0)
+        with mock.patch.object(table, "read_auction", return_value=auction) as read:
+            for name, reader in READERS.items():
+                status, text, _ = self.run_on(record, "--format", name)
+                self.assertEqual(reader(text), expected, name)
+                self.assertEqual(status, 1 if auction.settling_failed else 0)
+        self.assertEqual(read.mock_calls, [mock.call(record)] * len(READERS))
         return expected
 
     # ---- the tables
@@ -191,27 +214,18 @@ class TableTest(unittest.TestCase):
             self.assertGreater(count, 60, f"the random records have few rows of {name}")
 
     def test_marks_and_named_agents(self) -> None:
-        record = Record().set_up(20_000, 1_000_000, 900_000, 1_200_000, 40_000)
-        record.register(1, 1, 1, [150_000], agent=5).register(2, 2, 2, [300_001], agent=5)
-        record.register(3, 3, 2, [299_999]).register(4, 4, 1, [200_000], agent=4)
-        record.open(29_990).offer(2).offer(3).close().settle()
-        tables = self.check_read_back(record)
+        tables = self.check_read_back(with_agents(300_001))
         self.assertEqual([row[2] for row in tables["award"][1:]], [5, 5, 3, 4])
         self.assertIn(["participation is insufficient", "yes"], tables["settlement"])
         self.assertIn([f"price paid to existing plants {PRICE}", 22_000], tables["settlement"])
 
     def test_second_price_marked_short(self) -> None:
-        record = Record().set_up(20_000, 1_000_000, 900_000, 1_200_000, 40_000)
-        record.register(1, 1, 1, [300_000, 500_000]).register(2, 2, 1, [400_000])
-        record.register(3, 3, 2, [499_999]).lodge(1, [(30_000, 300_000), (29_990, 0)])
-        record.open(30_000).offer(3).close().open(29_990).offer(3).close().settle()
-        tables = self.check_read_back(record)
+        tables = self.check_read_back(lodged(499_999))
         self.assertIn([f"second price {PRICE}", 40_000], tables["settlement"])
         self.assertIn(["second price is short", "yes"], tables["settlement"])
 
     def test_round_that_is_not_closed_has_its_prices_alone(self) -> None:
-        record = Record(b"".join(bytes(sample()).splitlines(True)[:7]))
-        tables = self.check_read_back(record)
+        tables = self.check_read_back(first_lines(7))
         self.assertEqual(tables["rounds"][1:], [[1, 40_000, 25_000, None, None, None, None]])
 
     def test_odd_records(self) -> None:
@@ -222,7 +236,7 @@ class TableTest(unittest.TestCase):
     # ---- the formats
 
     def test_empty_tables_say_so(self) -> None:
-        for name, mark in (("latex", "% rounds: no round was opened\n"), ("markdown", "No round")):
+        for name, mark in (("latex", "\nNo round was opened.\n"), ("markdown", "No round")):
             self.assertIn(mark, self.run_on(Record(), "--format", name)[1])
             self.assertNotIn(mark, self.run_on(sample(), "--format", name)[1])
 
@@ -242,9 +256,28 @@ class TableTest(unittest.TestCase):
         self.assertEqual(
             latex_escaped("\\~^"), r"\textbackslash{}\textasciitilde{}\textasciicircum{}"
         )
-        text = self.run_on(sample(), "--format", "latex")[1]
+        text = self.run_on(sample(), "--format", "latex")[1].replace("$-55$", "")
         self.assertEqual(re.findall(r"(?<!\\)[$#_^~]", text), [])
-        self.assertEqual(set(re.findall(r"\\[a-z]+", text)), {r"\begin", r"\end", r"\hline"})
+
+    def test_latex_needs_no_package(self) -> None:
+        text = self.run_on(sample(), "--format", "latex")[1]
+        commands = set(re.findall(r"\\([a-z]+)", text))
+        layout = {"footnotesize", "setlength", "renewcommand", "arraystretch", "parindent"}
+        layout |= {"tabcolsep", "bigskip", "par", "begingroup", "endgroup"}
+        self.assertEqual(commands, {"begin", "end", "hline", *layout})
+        self.assertTrue(text.startswith("\\begingroup"))
+        self.assertTrue(text.endswith("\\end{tabular}\n\\par\\endgroup\n"))
+
+    def test_latex_tables_go_on_behind_32_rows(self) -> None:
+        for rows, lengths in ((32, [32]), (33, [32, 1]), (64, [32, 32]), (65, [32, 32, 1])):
+            record = ready().register(1, 1, 1, [1_200_000])
+            for c in range(39_999, 39_999 - rows, -1):
+                record.open(c).close()
+            self.check_read_back(record)
+            text = self.run_on(record, "--format", "latex", "--part", "rounds")[1]
+            bodies = [content.partition("\\hline\n")[2] for *_, content in tabulars_in(text)]
+            self.assertEqual([len(latex_rows(body)) for body in bodies], lengths)
+            self.assertEqual(text.count("\\end{tabular}\n\n\\bigskip\n"), len(lengths) - 1)
 
     def test_parts(self) -> None:
         parts = {"rounds": ["rounds"], "curve": ["curve"], "award": ["award", "settlement"]}
