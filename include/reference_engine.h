@@ -56,6 +56,10 @@ uint64_t demand_remainder(uint64_t ce, uint64_t d, uint64_t m1, uint64_t m2, uin
  * the replies do not fit, the buffer stays as it was and the call returns
  * REFERENCE_ENGINE_REFUSAL(11), which is 2^64 - 11.
  *
+ * A buffer of this size always fits: for each line of the record 5 bytes, 24 more if its second
+ * character is 5, 458 more if it is 6. So long are the longest replies, to a closing and to a
+ * settling with 32 awards. A shorter buffer may do; finding that out makes each call twice.
+ *
  * The record may hold any bytes in any number, and a length of 0 goes with any pointer, NULL
  * too. Refused calls and malformed lines are answered in the replies. The call keeps no state and
  * touches no other memory of the host, so any number of threads may make it at once, each with
