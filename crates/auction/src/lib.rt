@@ -1,4 +1,5 @@
-// The auction: its state, passed by value, and the calls that change it. Each call's contract is an equation with the ledger of document 01, for every list of calls (specs/Called.antt).
+// The auction: its state, passed by value, and the calls that change it. Each call's contract is an equation with the ledger of document 01, for
+// every list of calls (specs/Called.antt).
 ghost use mathlib.Core.Path.{_≡_};
 ghost use mathlib.Core.List.{[]};
 ghost use Rattle.rules.specs.Ledger.{Open, By, Offer, Lodge, Cancel};

@@ -7,6 +7,9 @@ ghost use Rattle.numbers.specs.Tails.{laid};
 ghost use Rattle.rules.specs.Settling.{recordOf};
 ghost use Rattle.award_records.specs.Records.{awardCount, recordsOf};
 
+// The bytes of a record.
+pub const RECORD: usize = 6;
+
 // How many projects are awarded a level above 0.
 pub fn count_awards(award: [u32; 32]) -> usize
     ensures { λ r. ⌜ (r ≡ awardCount award) × (r ≤ 32) ⌝ }
@@ -33,7 +36,7 @@ pub fn write_awards(awards: &mut [u8], award: [u32; 32], winners: [u8; 32])
         let v = award[i];
         if 0 < v {
             write_record(&mut awards[used..], (i + 1) as u8, winners[i], v);
-            used += 6;
+            used += RECORD;
         }
         i += 1;
     }

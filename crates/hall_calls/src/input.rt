@@ -11,7 +11,7 @@ pub struct Line {
 }
 
 impl Line {
-    // The most numbers of a line. The longest call, an offer of twelve prices and levels, has thirty.
+    // The most numbers of a line. The longest call, an offer, has six before its lists, and of each list sixteen are taken.
     pub const MOST: usize = 40;
 
     pub fn new() -> Line {

@@ -1,4 +1,5 @@
 // What is printed of a call: numbers with a blank before each, then what the seat reads.
+use history::History;
 use levels::Levels;
 use libc::STDOUT_FILENO;
 use seat_readings::Reading;
@@ -94,7 +95,7 @@ fn write_levels(levels: Levels) {
     let n = levels.count;
     let mut i: usize = 0;
     while i < n {
-        if 8 <= i {
+        if Levels::MOST <= i {
             return;
         }
         write_word(values[i]);
@@ -114,7 +115,7 @@ fn write_steps(offer: StandingOffer) {
     let n = offer.count;
     let mut i: usize = 0;
     while i < n {
-        if 8 <= i {
+        if History::MOST <= i {
             return;
         }
         write_step(prices[i], levels[i]);

@@ -11,13 +11,16 @@ pub struct Values {
     pub tail: [u64; 8],
 }
 
+// The bytes of 32 award records.
+pub const AWARD_ROOM: usize = 192;
+
 // The kind (255 for a malformed line) and the answer; what an accepted reply adds, with so many bytes of award records.
 pub struct Reply {
     pub kind: u8,
     pub number: u8,
     pub values: Values,
     pub filled: usize,
-    pub awards: [u8; 192],
+    pub awards: [u8; AWARD_ROOM],
 }
 
 // What a reply of a kind can add: the widths of its fields before its award records, the most bytes of those, and the widths behind them. A
@@ -39,7 +42,7 @@ const CLOSING: Form = Form {
 // price paid to existing plants.
 const SETTLING: Form = Form {
     head: [8, 10, 10, 8, 8, 2, 0, 0],
-    room: 192,
+    room: AWARD_ROOM,
     tail: [8, 8, 2, 2, 8, 0, 0, 0],
 };
 
@@ -87,7 +90,7 @@ fn size_of(kind: u8, filled: usize) -> usize
 pub fn most(kind: u8) -> usize
     ensures { λ r. ⌜ r ≡ mostOf kind ⌝ }
 {
-    size_of(kind, 192)
+    size_of(kind, AWARD_ROOM)
 }
 
 // How many bytes the reply has.

@@ -9,6 +9,7 @@ ghost use Rattle.rules.specs.Settling.{Settlement};
 ghost use Rattle.replies.specs.Replies.{twosComplement, valuesOf, closingFields};
 ghost use Rattle.settling.specs.Settles.{settledAs};
 ghost use Rattle.reply_sizes.specs.Texts.{Valued};
+use reply_sizes::AWARD_ROOM;
 use reply_sizes::Reply;
 use reply_sizes::Values;
 use settling::Settled;
@@ -27,7 +28,7 @@ pub fn blank(kind: u8, number: u8) -> Reply
         number: number,
         values: values,
         filled: 0,
-        awards: [0; 192],
+        awards: [0; AWARD_ROOM],
     }
 }
 
@@ -97,5 +98,5 @@ pub fn award_bytes(records: usize) -> usize
     if records < 32 {
         return 6 * records;
     }
-    192
+    AWARD_ROOM
 }

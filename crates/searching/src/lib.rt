@@ -81,6 +81,9 @@ fn explore(
     )
 }
 
+// The total of nothing found: more than any choice's.
+const NO_TOTAL: u64 = 18_446_744_073_709_551_615;
+
 // The search from nothing found on. The strides say how far two neighbouring levels of a row stand apart in the list of all choices.
 pub fn find(levels: &[u32; 288], ends: &[usize; 32], strides: &[u64; 32], demand: u64) -> Found
     requires { ⌜ Searchable (now levels) (now ends) (now strides) ⌝ }
@@ -94,7 +97,7 @@ pub fn find(levels: &[u32; 288], ends: &[usize; 32], strides: &[u64; 32], demand
     let none = Found {
         covering: 0,
         kept: 0,
-        total: 18_446_744_073_709_551_615,
+        total: NO_TOTAL,
         index: 0,
     };
     let first = ordering::start_of(ends, order[0]);

@@ -16,8 +16,8 @@ use seat_rights::Seat;
 pub struct StandingOffer {
     pub made: bool,
     pub count: usize,
-    pub prices: [u32; 8],
-    pub levels: [u32; 8],
+    pub prices: [u32; History::MOST],
+    pub levels: [u32; History::MOST],
 }
 
 // Both prices of the open or else the latest round, the excess of the latest closing and the phase, and of a developer its declared levels and
@@ -37,8 +37,8 @@ fn no_offer() -> StandingOffer
     StandingOffer {
         made: false,
         count: 0,
-        prices: [0; 8],
-        levels: [0; 8],
+        prices: [0; History::MOST],
+        levels: [0; History::MOST],
     }
 }
 
@@ -54,10 +54,10 @@ fn standing_offer(history: History) -> StandingOffer
     }
     let mut i: usize = 0;
     while i < k - 1 {
-        if 8 <= i {
+        if History::MOST <= i {
             return offer;
         }
-        if 8 - i <= n {
+        if History::MOST - i <= n {
             return offer;
         }
         offer.prices[i] = history.prices[n + i];

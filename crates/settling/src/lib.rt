@@ -96,7 +96,7 @@ pub fn settle(auction: Auction, limit: u32, awards: &mut [u8]) -> Settled
     }
     let award = selected.award;
     let records = award_records::count_awards(award);
-    if awards.len() < 6 * records {
+    if awards.len() < award_records::RECORD * records {
         return refused(11);
     }
     let studies = auction.studies;

@@ -9,10 +9,10 @@ fn reached(history: History, c: u32) -> usize
     let n = history.count;
     let mut i: usize = 0;
     while i < history.lodged {
-        if 8 <= i {
+        if History::MOST <= i {
             return i;
         }
-        if 8 - i <= n {
+        if History::MOST - i <= n {
             return i;
         }
         if history.prices[n + i] < c {
@@ -30,10 +30,10 @@ pub fn reach(history: History, c: u32) -> History
     let n = history.count;
     let k = reached(history, c);
     let mut h = history;
-    if 8 < k {
+    if History::MOST < k {
         return h;
     }
-    if 8 - k < n {
+    if History::MOST - k < n {
         return h;
     }
     if history.lodged < k {
@@ -52,7 +52,7 @@ pub fn last_level(history: History, before: u32) -> u32
     if n < 1 {
         return before;
     }
-    if 8 < n {
+    if History::MOST < n {
         return before;
     }
     history.levels[n - 1]
@@ -65,7 +65,7 @@ pub fn level_at(history: History, first: u32, p: u32) -> u32
     let n = history.count;
     let mut q = first;
     let mut i: usize = 0;
-    while i < 8 {
+    while i < History::MOST {
         if n <= i {
             return q;
         }
