@@ -1,13 +1,16 @@
 """The commands: python3 -m reference_engine compare|report|table|explain.
 
-Exit status 0; 1 for a difference or where each settling was refused; 2 for bad usage.
+Exit status 0; 1 for a difference or where each settling was refused; 2 for bad usage
+and where a command cannot go on.
 """
 
 from __future__ import annotations
 
 import argparse
+import io
 import os
 import sys
+from subprocess import CalledProcessError
 
 from . import compare, explain, report, table
 from .library import NotBuilt
@@ -23,6 +26,9 @@ def main(arguments: list[str] | None = None) -> int:
     for command in (compare, report, table, explain):
         command.add_to(commands)
     chosen = parser.parse_args(arguments)
+    if isinstance(sys.stdout, io.TextIOWrapper):
+        # A file's name can be printed whatever its bytes, as on standard error.
+        sys.stdout.reconfigure(errors="backslashreplace")
     try:
         status: int = chosen.run(chosen)
         sys.stdout.flush()
@@ -31,7 +37,7 @@ def main(arguments: list[str] | None = None) -> int:
         # Nobody reads on. Not 0, which would say that there is no difference.
         os.dup2(os.open(os.devnull, os.O_WRONLY), sys.stdout.fileno())
         return 1
-    except (OSError, NotBuilt) as error:
+    except (OSError, NotBuilt, CalledProcessError) as error:
         print(f"{parser.prog}: {error}", file=sys.stderr)
         return 2
 

@@ -1,11 +1,12 @@
-"""What the commands that show one auction share: the record they read, and their exit status."""
+"""What the commands share: the files they read and keep, and the exit status for one auction."""
 
 from __future__ import annotations
 
 import argparse
 import sys
-from collections.abc import Callable
+from collections.abc import Callable, Iterable
 from pathlib import Path
+from shutil import SameFileError
 from typing import TypeAlias
 
 from .auction import Auction
@@ -25,7 +26,7 @@ def parser_of(
     summary: str,
     description: str,
 ) -> argparse.ArgumentParser:
-    """Adds such a command to the command line and gives its parser, which takes a record."""
+    """Adds a command that shows one auction, and gives its parser, which takes a record."""
     parser = commands.add_parser(
         name,
         help=summary,
@@ -36,6 +37,13 @@ def parser_of(
     parser.add_argument("record", metavar="RECORD", type=Path, help="the file of the record")
     parser.set_defaults(run=run)
     return parser
+
+
+def keep(read: Iterable[Path], output: Path) -> None:
+    """Raises SameFileError, an OSError, where the output would replace a file that is read."""
+    for path in read:
+        if output.exists() and output.samefile(path):
+            raise SameFileError(f"the output would replace {path}")
 
 
 def status_of(auction: Auction) -> int:

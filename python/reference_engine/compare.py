@@ -13,7 +13,7 @@ from pathlib import Path
 from typing import Any, ContextManager, TextIO, Union
 
 from .calls import NAMES
-from .command import Commands
+from .command import Commands, keep
 from .record import Line, Record
 from .refusals import Refusal
 from .replies import Award, Reply, reply_in
@@ -23,6 +23,7 @@ _COLUMNS = ("record", "replies", "line", "call", "field", "value", "reference")
 
 Value = Union[int, str, None]
 Found = tuple[str, Value, Value]
+Row = tuple[Union[int, str], ...]
 
 
 @dataclass(frozen=True)
@@ -238,40 +239,36 @@ class _Pairs(argparse.Action):
 def run(chosen: argparse.Namespace) -> int:
     """Runs the command and gives its exit status: 1 where anything differs.
 
-    Raises OSError where a file cannot be read or written.
+    Raises OSError where a file cannot be read or written. The csv file is written when all are
+    read, so that an older one stays where one of them cannot be.
     """
-    if chosen.csv and any(_same(chosen.csv, path) for pair in chosen.files for path in pair):
-        print(f"{_name(chosen.csv)} is one of the compared files", file=sys.stderr)
-        return 2
+    if chosen.csv not in (None, "-"):
+        keep((Path(path) for pair in chosen.files for path in pair), Path(chosen.csv))
     words = sys.stderr if chosen.csv == "-" else sys.stdout
     progress = _Progress(len(chosen.files))
     counts: list[int] = []
-    with _opened(chosen.csv) as table:
-        rows = csv.writer(table, lineterminator="\n") if table else None
-        if rows:
-            rows.writerow(_COLUMNS)
-        for record, replies in chosen.files:
-            progress.show(len(counts))
-            try:
-                found, said = _compared(record, replies)
-            finally:
-                progress.clear()
-            if rows:
-                rows.writerows(_row(record, replies, each) for each in found)
-            print(said, file=words, flush=True)
-            counts.append(len(found))
+    rows: list[Row] = [_COLUMNS]
+    for record, replies in chosen.files:
+        progress.show(len(counts))
+        try:
+            found, said = _compared(record, replies)
+        finally:
+            progress.clear()
+        if chosen.csv is not None:
+            rows += [_row(record, replies, each) for each in found]
+        print(said, file=words, flush=True)
+        counts.append(len(found))
+    if chosen.csv is not None:
+        with _opened(chosen.csv) as table:
+            csv.writer(table, lineterminator="\n").writerows(rows)
     if len(counts) > 1:
         print(_sum(counts), file=words, flush=True)
     return 1 if any(counts) else 0
 
 
-def _same(path: str, other: str) -> bool:
-    return Path(path).resolve() == Path(other).resolve()
-
-
-def _opened(path: str | None) -> ContextManager[TextIO | None]:
-    if path is None or path == "-":
-        return nullcontext(sys.stdout if path else None)
+def _opened(path: str) -> ContextManager[TextIO]:
+    if path == "-":
+        return nullcontext(sys.stdout)
     return open(path, "w", encoding="utf-8", errors="backslashreplace", newline="")
 
 
@@ -283,12 +280,11 @@ def _compared(record_path: str, replies_path: str) -> tuple[list[Difference], st
     found = differences(record, replies)
     lines = max(len(_lines(text)) for text in (replies, bytes(record).decode("latin-1")))
     ending = "" if not replies or replies.endswith("\n") else "; the last reply has no 0A behind it"
-    name = _name(replies_path)
     if not found:
-        return found, f"{name}: no difference, {_count(lines, 'line')}{ending}"
+        return found, f"{replies_path}: no difference, {_count(lines, 'line')}{ending}"
     wrong = len({each.line for each in found})
     number = _count(len(found), "difference")
-    summary = f"{name}: {number} in {wrong} of {_count(lines, 'line')}{ending}"
+    summary = f"{replies_path}: {number} in {wrong} of {_count(lines, 'line')}{ending}"
     return found, f"{found[0].words()}\n{summary}"
 
 
@@ -296,14 +292,9 @@ def _count(number: int, name: str) -> str:
     return f"{number} {name}" if number == 1 else f"{number} {name}s"
 
 
-def _name(path: str) -> str:
-    """A file's name as it can be printed, whatever its bytes."""
-    return path.encode("utf-8", "backslashreplace").decode("utf-8")
-
-
-def _row(record: str, replies: str, found: Difference) -> tuple[str | int, ...]:
+def _row(record: str, replies: str, found: Difference) -> Row:
     value, reference = (_cell(each) for each in (found.value, found.reference))
-    return _name(record), _name(replies), found.line, found.call, found.field, value, reference
+    return record, replies, found.line, found.call, found.field, value, reference
 
 
 def _cell(value: Value) -> str | int:

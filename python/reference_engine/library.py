@@ -212,9 +212,12 @@ def has_trace(record: bytes) -> bool:
 
 
 def traced(record: bytes) -> str:
-    """What the program `trace` writes for a record. Raises ValueError where it is too long."""
+    """What the program `trace` writes for a record.
+
+    Raises ValueError where the record is too long, CalledProcessError where `trace` ends badly.
+    """
     if not has_trace(record):
         raise ValueError(f"a record of {len(record)} bytes has no trace")
     program = _built("REFERENCE_ENGINE_TRACE", "trace")
-    done = subprocess.run([program], input=record, stdout=subprocess.PIPE, check=True)
+    done = subprocess.run([str(program)], input=record, stdout=subprocess.PIPE, check=True)
     return done.stdout.decode("ascii")

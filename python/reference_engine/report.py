@@ -10,7 +10,7 @@ from pathlib import Path
 from . import figures
 from .auction import Auction, Round, Settled, read_auction
 from .calls import KINDS, NAMES, Cancellation, Lodging, Malformed, Offer, Registration, Step
-from .command import Commands, parser_of, status_of
+from .command import Commands, keep, parser_of, status_of
 from .markup import Markup, element, escaped, joined, price, quantity
 from .record import Line, Record
 
@@ -67,17 +67,15 @@ def add_to(commands: Commands) -> None:
 def run(chosen: argparse.Namespace) -> int:
     """Writes the page and gives the exit status: 1 where every settling was refused, else 0."""
     record: Path = chosen.record
+    if chosen.output != "-":
+        keep([record], Path(chosen.output))
     auction = read_auction(Record.read(record))
     written = page(auction, record.name).encode("utf-8")
     if chosen.output == "-":
         sys.stdout.buffer.write(written)
         sys.stdout.buffer.flush()
     else:
-        output = Path(chosen.output)
-        if output.exists() and output.samefile(record):
-            print(f"{output}: the page would replace the record", file=sys.stderr)
-            return 2
-        output.write_bytes(written)
+        Path(chosen.output).write_bytes(written)
     return status_of(auction)
 
 

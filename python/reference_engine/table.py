@@ -14,7 +14,7 @@ from typing import Union
 
 from .auction import Auction, Settled, read_auction
 from .calls import KINDS, Registration
-from .command import Commands, parser_of, status_of
+from .command import Commands, keep, parser_of, status_of
 from .record import Record
 from .replies import Award
 
@@ -318,6 +318,8 @@ def add_to(commands: Commands) -> None:
 
 def run(chosen: argparse.Namespace) -> int:
     """Runs the command and gives its exit status."""
+    if chosen.output is not None:
+        keep([chosen.record], chosen.output)
     auction = read_auction(Record.read(chosen.record))
     tables = [part(auction) for part in _PARTS[chosen.part]]
     text = _FORMATS[chosen.format](tables)

@@ -438,8 +438,16 @@ class Command(unittest.TestCase):
         before = Path(self.wrong).read_bytes()
         status, output, error = self.run_main(SAMPLE, self.wrong, "--csv", self.wrong)
         self.assertEqual((status, output), (2, ""))
-        self.assertIn("one of the compared files", error)
+        self.assertIn(f"the output would replace {self.wrong}\n", error)
         self.assertEqual(Path(self.wrong).read_bytes(), before)
+
+    def test_csv_stays_where_a_file_cannot_be_read(self) -> None:
+        path = self.folder / "differences.csv"
+        for record in (self.folder, self.folder / "nothing"):
+            path.write_text("older\n")
+            pairs = (SAMPLE, self.wrong, record, SAMPLE_REPLIES)
+            self.assertEqual(self.run_main(*pairs, "--csv", path)[0], 2)
+            self.assertEqual(path.read_text(), "older\n")
 
     def test_csv_to_standard_output(self) -> None:
         status, output, error = self.run_main(SAMPLE, self.wrong, "--csv", "-")

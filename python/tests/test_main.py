@@ -5,14 +5,17 @@ from __future__ import annotations
 import contextlib
 import io
 import os
+import shutil
 import subprocess
 import sys
+import tempfile
 import unittest
 
 from records import ROOT
 from reference_engine.__main__ import main
 
 SAMPLE = str(ROOT / "crates/replay/stdin")
+FALSE = shutil.which("false") or ""  # ends with status 1, whatever it is given
 COMMANDS = ("compare", "report", "table", "explain")
 
 
@@ -64,6 +67,32 @@ class CommandLine(unittest.TestCase):
         self.assertEqual(done.returncode, 2)
         self.assertIn("nowhere.so is missing; in the checkout, python/build makes it", done.stderr)
         self.assertNotIn("Traceback", done.stderr)
+
+    def test_trace_ends_badly(self) -> None:
+        done = run("explain", SAMPLE, env={**os.environ, "REFERENCE_ENGINE_TRACE": FALSE})
+        self.assertEqual((done.returncode, done.stdout), (2, ""))
+        said = f"Command '['{FALSE}']' returned non-zero exit status 1."
+        self.assertEqual(done.stderr, f"python3 -m reference_engine: {said}\n")
+
+    def test_names_that_cannot_be_printed(self) -> None:
+        with tempfile.TemporaryDirectory() as folder:
+            for name, encoding, shown in (
+                ("\xe9.rec", "ascii", r"\xe9.rec"),
+                ("\xe9.rec", "utf-8", "\xe9.rec"),
+                (os.fsdecode(b"\xff.rec"), "utf-8", r"\udcff.rec"),
+            ):
+                replies = os.path.join(folder, name)
+                shutil.copy(ROOT / "crates/replay/stdout", replies)
+                env = {**os.environ, "PYTHONIOENCODING": encoding}
+                done = run("compare", SAMPLE, replies, env=env, encoding="utf-8")
+                self.assertEqual((done.returncode, done.stderr), (0, ""))
+                said = f"{os.path.join(folder, shown)}: no difference, 11 lines\n"
+                self.assertEqual(done.stdout, said)
+                with open(replies, "a") as behind:
+                    behind.write("0500\n")
+                done = run("compare", SAMPLE, replies, "--csv", "-", env=env, encoding="utf-8")
+                self.assertEqual(done.returncode, 1)
+                self.assertIn(f",{os.path.join(folder, shown)},12,,line,0500,\n", done.stdout)
 
     def test_nobody_reads_on(self) -> None:
         """A closed pipe is no success: 0 from compare would say that nothing differs."""

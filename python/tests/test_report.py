@@ -421,7 +421,7 @@ class Command(unittest.TestCase):
     def test_record_is_not_replaced(self) -> None:
         status, errors = self.report(b"05\n", "record")
         self.assertEqual(status, 2)
-        self.assertIn("the page would replace the record", errors)
+        self.assertIn(f"the output would replace {self.folder / 'record'}\n", errors)
         self.assertEqual((self.folder / "record").read_bytes(), b"05\n")
 
     def test_bad_usage(self) -> None:

@@ -308,6 +308,17 @@ class TableTest(unittest.TestCase):
             shown = self.run_on(record, "--format", "csv")[1]
             self.assertEqual(target.read_bytes(), shown.encode("ascii"))
 
+    def test_record_is_not_replaced(self) -> None:
+        link = self.path.with_name("link")
+        for name in ("symlink_to", "hardlink_to"):
+            getattr(link, name)(self.path)
+            for output in (self.path, link):
+                status, text, err = self.run_on(sample(), "-o", str(output))
+                self.assertEqual((status, text), (2, ""))
+                self.assertIn(f"the output would replace {self.path}\n", err)
+                self.assertEqual(self.path.read_bytes(), bytes(sample()))
+            link.unlink()
+
     def test_each_settling_refused_is_1(self) -> None:
         status, text, err = self.run_on(unsettled())
         self.assertEqual(status, 1)
