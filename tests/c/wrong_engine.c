@@ -1,17 +1,20 @@
 /*
  * A deliberately wrong engine over the right one, to see that the comparisons report a fault.
- * WRONG in the environment names it: demand (one kWh more), remainder (that of the quotient, which
- * is CE less the right one), digit (the last digit of the replies), behind (the byte behind the
- * replies), mark (that of the second price is never short), sufficient (participation always is, by
- * its mark), paid (existing plants are always paid P), order (the first two awards change places),
- * arrival (the last digit of each closing, where the first offer is a higher developer's than the
- * second), step (the last digit of an offer's frame), width (an opening's price cut to its field), kind
- * (a lodging written as an offer), agent (a registration for the developer's own number), own (one for
- * it in frame 02), move (the rivals' first move: keep and withdraw change places), kept (the outcome
- * when both rivals keep), rivals (the second begins), beyond (the byte behind the move, and the number
- * behind the awards of a sealed auction), ties (of sealed offers alike the later one first), cut (one
- * may be awarded less than its minimum), listed (the first two awards change places) or ceiling (19
- * tested before 18); without it the engine is right.
+ * WRONG in the environment names it: demand (one kWh more), remainder (that of the quotient, which is
+ * CE less the right one), digit (the last digit of the replies), behind (the byte behind the replies),
+ * mark (that of the second price is never short), sufficient (participation always is, by its mark),
+ * paid (existing plants are always paid P), order (the first two awards change places), arrival (the
+ * last digit of each closing, where the first offer is a higher developer's than the second), step
+ * (the last digit of an offer's frame), width (an opening's price cut to its field), kind (a lodging
+ * written as an offer), agent (a registration for the developer's own number), own (one for it in
+ * frame 02), cost (the first digit of a set-up's CE), study (study value and start day of a
+ * registration change places), short (14 for a closing whose buffer is too short), early (13 tested
+ * before 14 for a settling), touched (the first byte of a refused settling's buffer), longer (a
+ * cancellation's frame said to have one byte more), move (the rivals' first move: keep and withdraw
+ * change places), kept (the outcome when both rivals keep), rivals (the second begins), beyond (the
+ * byte behind the move, and the number behind the awards of a sealed auction), ties (of sealed offers
+ * alike the later one first), cut (one may be awarded less than its minimum), listed (the first two
+ * awards change places) or ceiling (19 tested before 18); without it the engine is right.
  */
 #include "reference_engine.h"
 #include <stdlib.h>
@@ -21,6 +24,11 @@ uint64_t right_demand(uint64_t ce, uint64_t d, uint64_t m1, uint64_t m2, uint64_
 uint64_t right_demand_remainder(uint64_t ce, uint64_t d, uint64_t m1, uint64_t m2, uint64_t p);
 uint64_t right_replay(const uint8_t *record, size_t record_length, uint8_t *replies,
                       size_t replies_length);
+uint64_t right_write_set_up(uint64_t ce, uint64_t d, uint64_t m1, uint64_t m2, uint64_t a,
+                            uint8_t *frame, size_t frame_length);
+uint64_t right_write_registration(uint64_t project, uint64_t developer, uint64_t kind, uint64_t study,
+                                  uint64_t day, const uint64_t *levels, size_t levels_length,
+                                  uint8_t *frame, size_t frame_length);
 uint64_t right_write_registration_for(uint64_t project, uint64_t developer, uint64_t kind,
                                       uint64_t agent, uint64_t study, uint64_t day,
                                       const uint64_t *levels, size_t levels_length, uint8_t *frame,
@@ -29,9 +37,12 @@ uint64_t right_write_opening(uint64_t c, uint8_t *frame, size_t frame_length);
 uint64_t right_write_offer(uint64_t developer, const uint64_t *prices, size_t prices_length,
                            const uint64_t *levels, size_t levels_length, uint8_t *frame,
                            size_t frame_length);
+uint64_t right_write_closing(uint8_t *frame, size_t frame_length);
+uint64_t right_write_settling(uint64_t limit, uint8_t *frame, size_t frame_length);
 uint64_t right_write_lodging(uint64_t developer, const uint64_t *prices, size_t prices_length,
                              const uint64_t *levels, size_t levels_length, uint8_t *frame,
                              size_t frame_length);
+uint64_t right_write_cancellation(uint64_t developer, uint8_t *frame, size_t frame_length);
 uint64_t right_who_can_force(const uint8_t *record, size_t record_length, uint64_t first,
                              uint64_t second, const uint64_t *prices, size_t prices_length,
                              uint8_t *move, size_t move_length);
@@ -120,12 +131,29 @@ uint64_t replay(const uint8_t *record, size_t record_length, uint8_t *replies,
     return written;
 }
 
+uint64_t write_set_up(uint64_t ce, uint64_t d, uint64_t m1, uint64_t m2, uint64_t a, uint8_t *frame,
+                      size_t frame_length) {
+    uint64_t written = right_write_set_up(ce, d, m1, m2, a, frame, frame_length);
+    if (written <= frame_length && fault("cost"))
+        frame[2] ^= 1;
+    return written;
+}
+
+uint64_t write_registration(uint64_t project, uint64_t developer, uint64_t kind, uint64_t study,
+                            uint64_t day, const uint64_t *levels, size_t levels_length,
+                            uint8_t *frame, size_t frame_length) {
+    int exchanged = fault("study");
+    return right_write_registration(project, developer, kind, exchanged ? day : study,
+                                    exchanged ? study : day, levels, levels_length, frame,
+                                    frame_length);
+}
+
 uint64_t write_registration_for(uint64_t project, uint64_t developer, uint64_t kind, uint64_t agent,
                                 uint64_t study, uint64_t day, const uint64_t *levels,
                                 size_t levels_length, uint8_t *frame, size_t frame_length) {
     if (agent == developer && fault("own"))
-        return write_registration(project, developer, kind, study, day, levels, levels_length, frame,
-                                  frame_length);
+        return right_write_registration(project, developer, kind, study, day, levels, levels_length,
+                                        frame, frame_length);
     return right_write_registration_for(project, developer, kind,
                                         fault("agent") ? developer : agent, study, day, levels,
                                         levels_length, frame, frame_length);
@@ -145,11 +173,33 @@ uint64_t write_offer(uint64_t developer, const uint64_t *prices, size_t prices_l
     return written;
 }
 
+uint64_t write_closing(uint8_t *frame, size_t frame_length) {
+    uint64_t written = right_write_closing(frame, frame_length);
+    return written > frame_length && fault("short") ? REFERENCE_ENGINE_REFUSAL(14) : written;
+}
+
+/* The bytes of a settling's frame. */
+enum { SETTLING = 11 };
+
+uint64_t write_settling(uint64_t limit, uint8_t *frame, size_t frame_length) {
+    if (frame_length < SETTLING && fault("early"))
+        return REFERENCE_ENGINE_REFUSAL(13);
+    uint64_t written = right_write_settling(limit, frame, frame_length);
+    if (written > frame_length && frame_length > 0 && fault("touched"))
+        frame[0] ^= 1;
+    return written;
+}
+
 uint64_t write_lodging(uint64_t developer, const uint64_t *prices, size_t prices_length,
                        const uint64_t *levels, size_t levels_length, uint8_t *frame,
                        size_t frame_length) {
     return (fault("kind") ? right_write_offer : right_write_lodging)(
         developer, prices, prices_length, levels, levels_length, frame, frame_length);
+}
+
+uint64_t write_cancellation(uint64_t developer, uint8_t *frame, size_t frame_length) {
+    uint64_t written = right_write_cancellation(developer, frame, frame_length);
+    return written + (written <= frame_length && fault("longer"));
 }
 
 /* The lowest of the prices that is the outcome of a game of its own: in a game of one price no move

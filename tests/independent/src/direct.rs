@@ -26,8 +26,9 @@ fn numbers(line: &str) -> Vec<u64> {
     parts.map_while(|digits| digits.parse().ok()).collect()
 }
 
-/// Makes a line's call: its kind and its numbers. A lone 7 is a fresh auction, and 7 with numbers a
-/// lodging; a registration with an agent behind its levels is that of frame 08.
+/// Makes a line's call: the kind of its frame and its numbers, for a list how many of the first ones. A
+/// registration with an agent behind its levels is that of frame 08. 7 is a fresh auction; the program
+/// has no line for a lodging or a cancellation.
 fn make(auction: &mut Auction, line: &[u64]) -> String {
     match *line {
         [1, ce, d, m1, m2, a] => answered(1, auction.set_up(ce, d, m1, m2, a)),
@@ -53,11 +54,6 @@ fn make(auction: &mut Auction, line: &[u64]) -> String {
             *auction = Auction::new();
             String::new()
         }
-        [7, developer, n, m] => {
-            let (prices, levels) = (first(&PRICES, n), first(&FALLS, m));
-            answered(7, auction.lodge(byte(developer), prices, levels))
-        }
-        [9, developer] => answered(9, auction.cancel(byte(developer))),
         [] => String::new(),
         _ => panic!("no call: {line:?}"),
     }

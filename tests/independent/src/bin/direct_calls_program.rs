@@ -43,6 +43,10 @@ struct Seen {
     /// Registrations with an agent, accepted and refused by 3 (document 02, request 10).
     for_agents: u64,
     agents_refused: u64,
+    /// Offers refused by 6 with lists of unequal length, and settlings refused by 10 and by 11.
+    unequal_lists: u64,
+    over_limit: u64,
+    short_buffers: u64,
     difference: Option<String>,
 }
 
@@ -77,10 +81,17 @@ impl Seen {
         self.auctions += 1;
         self.accepted += accepted;
         self.refused += lines.len() as u64 - accepted;
-        let [for_agents, agents_refused] =
-            ["8 0", "8 3"].map(|answer| printed.lines().filter(|line| *line == answer).count());
-        self.for_agents += for_agents as u64;
-        self.agents_refused += agents_refused as u64;
+        let starting = |start: &str| {
+            let lines = printed.lines();
+            lines.filter(|line| line.starts_with(start)).count() as u64
+        };
+        self.for_agents += starting("8 0");
+        self.agents_refused += starting("8 3");
+        let answers = printed.lines().zip(lines);
+        let unequal = answers.filter(|(answer, line)| *answer == "4 6" && unequal(&line.text));
+        self.unequal_lists += unequal.count() as u64;
+        self.over_limit += starting("6 10 ");
+        self.short_buffers += starting("6 11 ");
         let settlings = printed.lines().filter(|line| line.starts_with("6 0 "));
         let records: Vec<u64> = settlings.map(records).collect();
         self.settled += u64::from(!records.is_empty());
@@ -98,6 +109,9 @@ impl Seen {
         self.refused += other.refused;
         self.for_agents += other.for_agents;
         self.agents_refused += other.agents_refused;
+        self.unequal_lists += other.unequal_lists;
+        self.over_limit += other.over_limit;
+        self.short_buffers += other.short_buffers;
         self.difference = self.difference.take().or(other.difference);
     }
 
@@ -105,28 +119,41 @@ impl Seen {
         println!(
             "direct calls: {} auctions, {} settle, each also without its refused calls; {} calls \
              accepted, {} refused; {} registrations with an agent accepted, {} refused by 3; {} \
-             settlings accepted, {} with several records: {}",
+             offers of unequal lists refused by 6; {} settlings accepted, {} with several records, \
+             {} refused by 10, {} by 11: {}",
             self.auctions,
             self.settled,
             self.accepted,
             self.refused,
             self.for_agents,
             self.agents_refused,
+            self.unequal_lists,
             self.settlings,
             self.several_records,
+            self.over_limit,
+            self.short_buffers,
             self.difference.as_deref().unwrap_or("ok")
         );
         // Too few would show nothing.
         let enough = self.settled >= AUCTIONS / 2
             && self.refused >= AUCTIONS
             && self.for_agents >= AUCTIONS
-            && self.agents_refused >= AUCTIONS / 5;
+            && self.agents_refused >= AUCTIONS / 5
+            && [self.unequal_lists, self.over_limit, self.short_buffers]
+                .iter()
+                .all(|&count| count >= AUCTIONS / 10);
         if self.difference.is_none() && (few() || enough) {
             ExitCode::SUCCESS
         } else {
             ExitCode::FAILURE
         }
     }
+}
+
+/// Whether the line of an offer, whose last two numbers are the lengths of its lists, has unequal ones.
+fn unequal(line: &str) -> bool {
+    let mut lengths = line.trim_end().rsplit(", ");
+    lengths.next() != lengths.next()
 }
 
 /// The number of award records in the line of an accepted settling.

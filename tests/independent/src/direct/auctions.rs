@@ -121,11 +121,22 @@ impl Script {
             } else {
                 0
             };
+            if self.random.chance(20) {
+                self.offer_unequal(developer.number);
+            }
             if self.random.chance(90) {
                 self.call(&[4, developer.number.into(), steps, steps]);
             }
         }
         self.call(&[5]);
+    }
+
+    /// An offer with more prices than levels, or fewer.
+    fn offer_unequal(&mut self, developer: u8) {
+        let more = self.random.between(1, PRICES.len() as u64);
+        let fewer = self.random.between(0, more - 1);
+        let [n, m] = self.random.one_of(&[[more, fewer], [fewer, more]]);
+        self.call(&[4, developer.into(), n, m]);
     }
 
     fn settlings(&mut self) {
