@@ -1,20 +1,18 @@
 -- A call that is refused and a call that is accepted, over the ledger that the auction holds.
 use Prim.Native.Nat.{ℕ}
-use mathlib.Core.Path.{_≡_, refl, sym, ap, _∙_}
-use mathlib.Core.Bool.{Bool, true, false, _&&_}
+use mathlib.Core.Path.{_≡_, refl, sym, ap, _∙_, subst}
+use mathlib.Core.Bool.{Bool, cond}
+use borrow.Author.Tests.{ne-eqb}
 use Rattle.rules.specs.Ledger.{Call, Ledger}
 use Rattle.rules.specs.Refusals.{number}
 use Rattle.rules.specs.Rounds.{accepted, ledger, Answered, numberAlone, granted}
 use Rattle.reachable.specs.Steps.{ledger-snoc, step-refused, step-accepted, answer-refused, answer-accepted}
 use Rattle.reachable.specs.Reachable.{sound}
+pub use Rattle.moves.specs.EntryLaws.{where-true}
 use Rattle.auction.specs.declared.Auction.{Auction}
 use Rattle.auction.specs.Holds.{auctionOf, Holding}
-use Rattle.auction.specs.Called.{Called}
-
--- a place of the arrays is read only under a developer's number
-pub where-true : (b : Bool) {x y : Bool} → (b ≡ true → x ≡ y) → b && x ≡ b && y
-where-true true h = h refl
-where-true false h = refl
+use Rattle.auction.specs.Called.{Called, refusedAnswer}
+use Rattle.auction.specs.Decided.{unlessRefused}
 
 -- refused by n
 abbrev pub Refused : Call → Auction → ℕ → Type 0
@@ -40,3 +38,11 @@ taken c a b r z f = record {
   answer = λ cs h. let t = f (ledger cs) (sound cs) h in t .answer ∙ sym (answer-accepted (ledger cs) c (t .number));
   next = λ cs h. let t = f (ledger cs) (sound cs) h in t .next ∙ ap auctionOf (sym (ledger-snoc cs c ∙ step-accepted (ledger cs) c (t .number)));
 }
+
+-- ---- stored unless it is refused
+
+pub answer-kept : (a b : Auction) (k : ℕ) → (k ≡ 0 → ⊥) → refusedAnswer a k ≡ unlessRefused a b k
+answer-kept a b k z = ap (λ (t : Bool). refusedAnswer (cond t b a) k) (sym (ne-eqb k 0 z))
+
+pub answer-stored : (a b : Auction) (k : ℕ) → k ≡ 0 → refusedAnswer b 0 ≡ unlessRefused a b k
+answer-stored a b k z = subst (λ (j : ℕ). refusedAnswer b 0 ≡ unlessRefused a b j) (sym z) refl

@@ -4,7 +4,4 @@ mod Registering
 mod Opening
 pub mod DeveloperHeld
 mod Moving
-mod Offering
-mod Cancelling
-mod Lodging
 mod ClosingRound

@@ -1,47 +1,41 @@
--- An accepted move of a developer's own: the auction changes in that developer's history alone, and the supply curve stays.
-use Prim.Native.Nat.{ℕ, _-_, _≤_}
+-- A move, decided over its developer's entry: refused by its number, else its history stored at the developer's place.
+use Prim.Native.Nat.{ℕ}
 use mathlib.Core.Path.{_≡_, refl, sym, ap, _∙_}
-use lib.ListN.{set}
-use Rattle.rules.specs.Ledger.{Move, By, Ledger, put}
+use mathlib.Core.Bool.{Bool, true, false, cond}
+use lib.Dec.{eqb}
+use lib.ListN.{getD}
+use borrow.Author.Tests.{eqb-true, eqb-false}
+use Rattle.rules.specs.Ledger.{Move, By, Ledger}
 use Rattle.rules.specs.Refusals.{number}
-use Rattle.rules.specs.Rounds.{moved, accepted, numberAlone, granted}
-use Rattle.reachable.specs.Held.{by-put}
+use Rattle.rules.specs.Rounds.{numberAlone, granted}
+use Rattle.sound.specs.Sound.{Sound}
+use Rattle.reachable.specs.Steps.{step-accepted}
+use Rattle.supply.specs.ByProject.{placeOf}
+use Rattle.levels.specs.Held.{noLevels}
 use Rattle.history.specs.declared.History.{History}
+use Rattle.moves.specs.Entries.{noHistory, Held, MovedTo, Moves}
 use Rattle.auction.specs.declared.Auction.{Auction}
-use Rattle.auction.specs.Holds.{heldCourse, auctionOf, Holding}
+use Rattle.auction.specs.Holds.{auctionOf}
 use Rattle.auction.specs.Called.{Called}
-use Rattle.auction.specs.Parts.{lasting, withHistory, courses-held, curve-stays}
-use Rattle.courses.specs.Places.{put-at, put-keeps}
-use Rattle.auction.proofs.Calls.{Refused, refused, taken}
+use Rattle.auction.specs.Storing.{withHistoryAt, entry-held, move-stored}
+use Rattle.auction.proofs.Calls.{refused, taken}
 
--- the move m of developer n is accepted, keeps its declaration, its agent, its quantity and its withdrawals, and r is its history after it
-pub record Moves (n : ℕ) (m : Move) (r : History) (l : Ledger) : Type 0 where
-  pub number : number l (By n m) ≡ 0
-  pub lasting : lasting (moved (l .developers n) m) ≡ lasting (l .developers n)
-  pub quantity : moved (l .developers n) m .quantity ≡ l .developers n .quantity
-  pub withdrawals : moved (l .developers n) m .withdrawals ≡ l .developers n .withdrawals
-  pub history : r ≡ heldCourse (moved (l .developers n) m)
+module _ (n : ℕ) (m : Move) (a : Auction) (i k : ℕ) (h : History) (ei : i ≡ placeOf n)
+    (w : Moves n m (Held (a .phase) (a .settings) (a .opening) (a .closing) (getD (a .kinds) i 0) (getD (a .declared) i noLevels) (getD (a .quantities) i 0) (getD (a .histories) i noHistory)) k h) where
+  moved-to : (l : Ledger) → Sound l → a ≡ auctionOf l → MovedTo l n m k h
+  moved-to l s e = w .right l s (entry-held a l n i e ei)
 
--- refused by k, the number that the move has by what the auction holds
-pub move-refused :
-    (n : ℕ) (m : Move) (a : Auction) (k held : ℕ) → Holding a (λ l. held ≡ number l (By n m)) → k ≡ held → (k ≡ 0 → ⊥) →
-    Refused (By n m) a k
-move-refused n m a k held f e z = refused _ a k z (λ l s h. e ∙ f l s h)
-
-pub move-taken :
-    (n : ℕ) (m : Move) (a : Auction) (r : History) → 1 ≤ n → n ≤ 32 → Holding a (Moves n m r) →
-    Called (By n m) a (withHistory a n r) (numberAlone 0)
-unfolding granted accepted auctionOf
-move-taken n m a r low high f = taken _ a _ _ refl (λ l s h.
-    let k = f l s h in
-    let entry = moved (l .developers n) m in
-    let next = put n entry (l .developers) in
-    let same : (j : ℕ) → lasting (next j) ≡ lasting (l .developers j) = by-put (λ j y. lasting y ≡ lasting (l .developers j)) n entry _ (k .lasting) (λ j. refl) in
-    record {
-      number = k .number;
-      answer = refl;
-      next = courses-held a l next h same
-          (ap (λ (x : Auction). x .quantities) h ∙ sym (put-keeps (λ x. x .quantity) l n entry (k .quantity)))
-          (ap (λ (x : Auction). set (x .histories) (n - 1) r) h ∙ put-at heldCourse l n entry r low high (k .history))
-          (curve-stays a l next h same (by-put (λ j y. y .withdrawals ≡ l .developers j .withdrawals) n entry _ (k .withdrawals) (λ j. refl)));
-    })
+  pub move-called : Called (By n m) a (cond (eqb k 0) (withHistoryAt a i h) a) (numberAlone k)
+  unfolding granted
+  move-called = go (eqb k 0) refl
+    where
+      go : (b : Bool) → eqb k 0 ≡ b → Called (By n m) a (cond b (withHistoryAt a i h) a) (numberAlone k)
+      go true e = let z = eqb-true k 0 e in taken (By n m) a (withHistoryAt a i h) (numberAlone k) z (λ l s q.
+          let t = moved-to l s q in
+          let y : number l (By n m) ≡ 0 = sym (t .number) ∙ z in
+          record {
+            number = y;
+            answer = ap numberAlone z;
+            next = ap (λ (j : ℕ). withHistoryAt a j h) ei ∙ move-stored a l n m k h q t ∙ ap auctionOf (step-accepted l (By n m) y);
+          })
+      go false e = refused (By n m) a k (eqb-false k 0 e) (λ l s q. moved-to l s q .number)

@@ -1,27 +1,15 @@
 -- The one auction that holds a ledger: developer n stands at place n - 1 of each array, what is not used is zero; and the
 -- supply curve, computed from the histories.
-use Prim.Native.Nat.{ℕ}
 use mathlib.Core.Path.{_≡_}
-use Rattle.rules.specs.Ledger.{Phase, Fresh, Ready, Round, Between, Closed, Ledger}
-use Rattle.rules.specs.Ledger as rules
+use Rattle.rules.specs.Ledger.{Ledger}
 use Rattle.rules.specs.Clearing.{ofEach}
 use Rattle.sound.specs.Sound.{Sound}
 use Rattle.supply_curve.specs.Curve.{supplyCurve}
 use Rattle.levels.specs.Held.{heldLevels}
 pub use Rattle.courses.specs.Courses.{heldCourse}
 use Rattle.kept_curve.specs.Held.{heldCurve}
-use Rattle.clock.specs.declared.Settings.{Settings}
+pub use Rattle.clock.specs.Held.{phaseNumber, settingsHeld}
 use Rattle.auction.specs.declared.Auction.{Auction}
-
-abbrev pub phaseNumber : Phase → ℕ
-phaseNumber Fresh = 0
-phaseNumber Ready = 1
-phaseNumber Round = 2
-phaseNumber Between = 3
-phaseNumber Closed = 4
-
-abbrev pub settingsHeld : rules.Settings → Settings
-settingsHeld s = record { ce = s .ce; d = s .d; m1 = s .m1; m2 = s .m2; a = s .a }
 
 unfoldable pub auctionOf : Ledger → Auction
 auctionOf l = record {

@@ -1,9 +1,8 @@
 -- The auction with some of its parts replaced, and the ledger that it then holds: the only laws that name its arrays, besides those of a
 -- registration, which stores to most of them.
-use Prim.Native.Nat.{ℕ, _-_}
+use Prim.Native.Nat.{ℕ}
 use mathlib.Core.Path.{_≡_, refl, sym, ap, _∙_, fun-ext}
 use mathlib.Core.List.{List, [], map}
-use lib.ListN.{set}
 use Rattle.numbers.specs.Lists.{oneTo}
 use Rattle.rules.specs.Ledger.{none, Developer, withCourse, Phase, Ledger, withPhase, withSettings, withPrices, withDevelopers}
 use Rattle.rules.specs.Ledger as rules
@@ -79,10 +78,6 @@ withCourses a quantities histories curve = record {
   histories = histories;
   curve = curve;
 }
-
--- the history r for developer n
-abbrev pub withHistory : Auction → ℕ → History → Auction
-withHistory a n r = withCourses a (a .quantities) (set (a .histories) (n - 1) r) (a .curve)
 
 -- what a developer's offers and a closing leave of its entry
 abbrev pub lasting : Developer → Developer

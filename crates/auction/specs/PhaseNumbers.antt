@@ -5,9 +5,10 @@ use mathlib.Core.Bool.{Bool}
 use lib.Dec.{eqb}
 use Rattle.rules.specs.Ledger.{Phase, Fresh, Ready, Round, Between, Closed, Ledger}
 use Rattle.rules.specs.Refusals.{isFresh, isReady, mayOpen, inRound, isClosed}
+use Rattle.clock.specs.Held.{by-number}
 use Rattle.clock.specs.Tests.{mayOpenBy}
 use Rattle.auction.specs.declared.Auction.{Auction}
-use Rattle.auction.specs.Holds.{phaseNumber, auctionOf}
+use Rattle.auction.specs.Holds.{auctionOf}
 
 module _ (a : Auction) (l : Ledger) (h : a ≡ auctionOf l) where
   -- a test that says of each phase what another says of its number
@@ -15,14 +16,7 @@ module _ (a : Auction) (l : Ledger) (h : a ≡ auctionOf l) where
       (t : Phase → Bool) (u : ℕ → Bool) → t Fresh ≡ u 0 → t Ready ≡ u 1 → t Round ≡ u 2 → t Between ≡ u 3 → t Closed ≡ u 4 →
       t (l .phase) ≡ u (a .phase)
   unfolding auctionOf
-  phase-by-number t u fresh ready round between closed = of-number (l .phase) ∙ ap (λ (x : Auction). u (x .phase)) (sym h)
-    where
-      of-number : (p : Phase) → t p ≡ u (phaseNumber p)
-      of-number Fresh = fresh
-      of-number Ready = ready
-      of-number Round = round
-      of-number Between = between
-      of-number Closed = closed
+  phase-by-number t u fresh ready round between closed = by-number t u fresh ready round between closed (l .phase) ∙ ap (λ (x : Auction). u (x .phase)) (sym h)
 
   pub fresh-is : isFresh (l .phase) ≡ eqb (a .phase) 0
   fresh-is = phase-by-number isFresh (λ n. eqb n 0) refl refl refl refl refl

@@ -2,14 +2,20 @@
 // every list of calls (specs/Called.antt).
 ghost use mathlib.Core.Path.{_≡_};
 ghost use mathlib.Core.List.{[]};
+ghost use Prim.Native.Nat.{_<_};
 ghost use Rattle.rules.specs.Ledger.{Open, By, Offer, Lodge, Cancel};
 ghost use Rattle.rules.specs.Rounds.{ledger};
 ghost use Rattle.auction.specs.Holds.{auctionOf};
 ghost use Rattle.auction.specs.Called.{AnswersNumber, AnswersClosing, setsUp, registers, registersFor, refusedAnswer};
+ghost use Rattle.auction.specs.Parts.{withClock};
+ghost use Rattle.auction.specs.Storing.{withHistoryAt};
+ghost use Rattle.auction.specs.Decided.{Turns, Opens, withEntered, Enters, Closes, turnedAnswer, unlessRefused};
+ghost use Rattle.auction.specs.declared.Auction.{Auction};
 use clock::Settings;
 use history::History;
 use kept_curve::Curve;
 use levels::Levels;
+use moves::Moved;
 
 // Developer n stands at place n - 1 of each array; a place that is not used is zero. The curve is that of the histories (document 02, 9).
 pub struct Auction {
@@ -40,6 +46,205 @@ pub struct Closing {
     pub excess: i64,
     pub remainder: u32,
     pub auction: Auction,
+}
+
+// What a call of the clock answers: 0 or a refusal's number, and the clock behind it, the same where the call is refused.
+pub struct Turned {
+    pub number: u8,
+    pub phase: u8,
+    pub settings: Settings,
+    pub opening: u32,
+    pub closing: u32,
+}
+
+// What a registration answers: 0 or a refusal's number, and what it stores at which place where it is accepted.
+pub struct Entered {
+    pub number: u8,
+    pub place: usize,
+    pub project: u8,
+    pub kind: u8,
+    pub agent: u8,
+    pub study: u32,
+    pub day: u32,
+    pub quantity: u32,
+    pub declared: Levels,
+}
+
+// What the closing of an open round answers, and what it changes.
+pub struct Rounded {
+    pub excess: i64,
+    pub remainder: u32,
+    pub phase: u8,
+    pub quantities: [u32; 32],
+    pub histories: [History; 32],
+    pub curve: Curve,
+}
+
+// A set-up. Checks: 2, 1.
+pub fn setting_up(
+    phase: u8,
+    settings: Settings,
+    opening: u32,
+    closing: u32,
+    ce: u64,
+    d: u64,
+    m1: u64,
+    m2: u64,
+    a: u64,
+) -> Turned
+    ensures { λ r. ⌜ ((x : Auction) → Turns (setsUp ce d m1 m2 a) (withClock x phase settings opening closing) r) ⌝ }
+{
+    if phase != clock::FRESH {
+        return Turned {
+            number: 2,
+            phase,
+            settings,
+            opening,
+            closing,
+        };
+    }
+    if !checks::settings_ok(ce, d, m1, m2, a) {
+        return Turned {
+            number: 1,
+            phase,
+            settings,
+            opening,
+            closing,
+        };
+    }
+    let stored = Settings {
+        ce: ce as u32,
+        d,
+        m1,
+        m2,
+        a: a as u32,
+    };
+    Turned {
+        number: 0,
+        phase: clock::READY,
+        settings: stored,
+        opening,
+        closing,
+    }
+}
+
+// An opening that announces c. Checks: 2, 5, 9.
+pub fn opening_at(
+    phase: u8,
+    settings: Settings,
+    opening: u32,
+    closing: u32,
+    projects: [u8; 32],
+    quantities: [u32; 32],
+    c: u32,
+) -> Turned
+    ensures { λ r. ⌜ Opens c phase settings opening closing projects quantities r ⌝ }
+{
+    let number = clock::opening_number(phase, settings, closing, projects, quantities, c);
+    if number != 0 {
+        return Turned {
+            number,
+            phase,
+            settings,
+            opening,
+            closing,
+        };
+    }
+    Turned {
+        number: 0,
+        phase: clock::ROUND,
+        settings,
+        opening: clock::opening_price(phase, settings.a, closing),
+        closing: c,
+    }
+}
+
+// A registration by an agent (document 02, 10). Checks: 2, 3, 4.
+pub fn entering(
+    phase: u8,
+    projects: [u8; 32],
+    kinds: [u8; 32],
+    project: u8,
+    developer: u8,
+    kind: u8,
+    agent: u8,
+    study: u32,
+    day: u32,
+    levels: &[u32],
+) -> Entered
+    ensures { λ r. ⌜ Enters phase projects kinds project developer kind agent study day (now (levels .entry)) r ⌝ }
+{
+    let number = registrations::registration_number(
+        phase,
+        projects,
+        kinds,
+        project,
+        developer,
+        kind,
+        agent,
+        levels,
+    );
+    let declared = Levels::copied(levels);
+    Entered {
+        number,
+        place: supply::place(developer),
+        project,
+        kind,
+        agent,
+        study,
+        day,
+        quantity: declared.highest(),
+        declared,
+    }
+}
+
+// The closing of an open round. The supply curve is left alone where nobody moved, so that nothing is withdrawn.
+pub fn closing_round(
+    settings: Settings,
+    opening: u32,
+    closing: u32,
+    projects: [u8; 32],
+    kinds: [u8; 32],
+    quantities: [u32; 32],
+    declared: [Levels; 32],
+    histories: [History; 32],
+    curve: Curve,
+) -> Rounded
+    ensures { λ r. ⌜ Closes settings opening closing projects kinds quantities declared histories curve r ⌝ }
+{
+    let after = courses::with_offers_applied(kinds, quantities, histories, opening, closing);
+    let left = after.quantities;
+    let withdrawn = after.histories;
+    let figures = closing_figures::figures_at(settings, closing, projects, left);
+    if !after.moved {
+        return Rounded {
+            excess: figures.excess,
+            remainder: figures.remainder,
+            phase: figures.phase,
+            quantities: left,
+            histories: withdrawn,
+            curve,
+        };
+    }
+    let highest = lows::highest_levels(declared);
+    let mut extended = curve;
+    let points = curve.count;
+    extended.count = curve_closing::extend(
+        &mut extended.words,
+        points,
+        projects,
+        highest,
+        withdrawn,
+        opening,
+    );
+    Rounded {
+        excess: figures.excess,
+        remainder: figures.remainder,
+        phase: figures.phase,
+        quantities: left,
+        histories: withdrawn,
+        curve: extended,
+    }
 }
 
 impl Auction {
@@ -109,30 +314,80 @@ impl Auction {
         }
     }
 
-    // Set-up. Checks: 2, 1.
-    pub fn set_up(self, ce: u64, d: u64, m1: u64, m2: u64, a: u64) -> Answer
-        ensures { λ r. ⌜ AnswersNumber (setsUp ce d m1 m2 a) self r ⌝ }
+    // The auction with the clock that was decided.
+    fn with_clock(self, turned: Turned) -> Answer
+        ensures { λ r. ⌜ r ≡ turnedAnswer self turned ⌝ }
     {
-        if self.phase != Auction::FRESH {
-            return self.refused(2);
-        }
-        if !checks::settings_ok(ce, d, m1, m2, a) {
-            return self.refused(1);
-        }
-        let settings = Settings {
-            ce: ce as u32,
-            d: d,
-            m1: m1,
-            m2: m2,
-            a: a as u32,
-        };
+        let settings = turned.settings;
         let mut next = self;
-        next.phase = Auction::READY;
+        next.phase = turned.phase;
         next.settings = settings;
+        next.opening = turned.opening;
+        next.closing = turned.closing;
+        Answer {
+            number: turned.number,
+            auction: next,
+        }
+    }
+
+    // The auction with the newcomer that was decided, if it is not refused.
+    fn with_newcomer(self, entered: Entered) -> Answer
+        requires { ⌜ entered .place < 32 ⌝ }
+        ensures { λ r. ⌜ r ≡ unlessRefused self (withEntered self entered) (entered .number) ⌝ }
+    {
+        if entered.number != 0 {
+            return self.refused(entered.number);
+        }
+        let place = entered.place;
+        let declared = entered.declared;
+        let mut next = self;
+        next.projects[place] = entered.project;
+        next.kinds[place] = entered.kind;
+        next.agents[place] = entered.agent;
+        next.studies[place] = entered.study;
+        next.days[place] = entered.day;
+        next.quantities[place] = entered.quantity;
+        next.declared[place] = declared;
         Answer {
             number: 0,
             auction: next,
         }
+    }
+
+    // The auction with the history that was decided at place i, if the move is not refused.
+    fn with_move(self, i: usize, moved: Moved) -> Answer
+        requires { ⌜ i < 32 ⌝ }
+        ensures { λ r. ⌜ r ≡ unlessRefused self (withHistoryAt self i (moved .history)) (moved .number) ⌝ }
+    {
+        if moved.number != 0 {
+            return self.refused(moved.number);
+        }
+        let history = moved.history;
+        let mut next = self;
+        next.histories[i] = history;
+        Answer {
+            number: 0,
+            auction: next,
+        }
+    }
+
+    // Set-up. Checks: 2, 1.
+    pub fn set_up(self, ce: u64, d: u64, m1: u64, m2: u64, a: u64) -> Answer
+        ensures { λ r. ⌜ AnswersNumber (setsUp ce d m1 m2 a) self r ⌝ }
+    {
+        let settings = self.settings;
+        let turned = setting_up(
+            self.phase,
+            settings,
+            self.opening,
+            self.closing,
+            ce,
+            d,
+            m1,
+            m2,
+            a,
+        );
+        self.with_clock(turned)
     }
 
     // The agent has the developer's number. Checks: 2, 3, 4.
@@ -165,7 +420,7 @@ impl Auction {
     {
         let projects = self.projects;
         let kinds = self.kinds;
-        let number = registrations::registration_number(
+        let entered = entering(
             self.phase,
             projects,
             kinds,
@@ -173,131 +428,83 @@ impl Auction {
             developer,
             kind,
             agent,
+            study,
+            day,
             levels,
         );
-        if number != 0 {
-            return self.refused(number);
-        }
-        let i = (developer - 1) as usize;
-        let declared = Levels::copied(levels);
-        let mut next = self;
-        next.projects[i] = project;
-        next.kinds[i] = kind;
-        next.agents[i] = agent;
-        next.studies[i] = study;
-        next.days[i] = day;
-        next.quantities[i] = declared.highest();
-        next.declared[i] = declared;
-        Answer {
-            number: 0,
-            auction: next,
-        }
+        self.with_newcomer(entered)
     }
 
     // Checks: 2, 5, 9.
     pub fn open(self, c: u32) -> Answer
         ensures { λ r. ⌜ AnswersNumber (Open c) self r ⌝ }
     {
-        let phase = self.phase;
         let settings = self.settings;
-        let closing = self.closing;
         let projects = self.projects;
         let quantities = self.quantities;
-        let number = clock::opening_number(phase, settings, closing, projects, quantities, c);
-        if number != 0 {
-            return self.refused(number);
-        }
-        let mut next = self;
-        next.phase = Auction::ROUND;
-        next.opening = clock::opening_price(phase, settings.a, closing);
-        next.closing = c;
-        Answer {
-            number: 0,
-            auction: next,
-        }
+        let turned = opening_at(
+            self.phase,
+            settings,
+            self.opening,
+            self.closing,
+            projects,
+            quantities,
+            c,
+        );
+        self.with_clock(turned)
     }
 
     // Checks: 2, 3, 8, 6, 7; all prices before any level.
     pub fn offer(self, developer: u8, prices: &[u32], levels: &[u32]) -> Answer
         ensures { λ r. ⌜ AnswersNumber (By developer (Offer (now (prices .entry)) (now (levels .entry)))) self r ⌝ }
     {
-        let kinds = self.kinds;
-        let histories = self.histories;
-        let declared = self.declared;
-        let quantities = self.quantities;
-        let number = moves::offer_number(
+        let i = supply::place(developer);
+        let declared = self.declared[i];
+        let history = self.histories[i];
+        let moved = moves::offered(
             self.phase,
-            kinds,
-            developer,
-            histories,
-            self.closing,
             self.opening,
+            self.closing,
+            developer,
+            self.kinds[i],
             declared,
-            quantities,
+            self.quantities[i],
+            history,
             prices,
             levels,
         );
-        if number != 0 {
-            return self.refused(number);
-        }
-        let i = (developer - 1) as usize;
-        let history = histories[i];
-        let mut next = self;
-        next.histories[i] = history.offer(prices, levels);
-        Answer {
-            number: 0,
-            auction: next,
-        }
+        self.with_move(i, moved)
     }
 
     // Taking back an offer (document 02, 7). Checks: 2, 3, 16.
     pub fn cancel(self, developer: u8) -> Answer
         ensures { λ r. ⌜ AnswersNumber (By developer Cancel) self r ⌝ }
     {
-        let kinds = self.kinds;
-        let histories = self.histories;
-        let number = moves::cancel_number(self.phase, kinds, developer, histories);
-        if number != 0 {
-            return self.refused(number);
-        }
-        let place = (developer - 1) as usize;
-        let standing = histories[place];
-        let mut next = self;
-        next.histories[place] = standing.cancel();
-        Answer {
-            number: 0,
-            auction: next,
-        }
+        let place = supply::place(developer);
+        let history = self.histories[place];
+        let moved = moves::cancelled(self.phase, developer, self.kinds[place], history);
+        self.with_move(place, moved)
     }
 
     // Lodging a withdrawal list (document 02, 5). Checks: 2, 15, 6, 7; all prices before any level.
     pub fn lodge(self, developer: u8, prices: &[u32], levels: &[u32]) -> Answer
         ensures { λ r. ⌜ AnswersNumber (By developer (Lodge (now (prices .entry)) (now (levels .entry)))) self r ⌝ }
     {
+        let i = supply::place(developer);
         let settings = self.settings;
-        let kinds = self.kinds;
-        let declared = self.declared;
-        let highest = lows::highest_levels(declared);
-        let number = moves::lodge_number(
+        let declared = self.declared[i];
+        let history = self.histories[i];
+        let moved = moves::lodged(
             self.phase,
             settings,
-            kinds,
             developer,
+            self.kinds[i],
             declared,
-            highest,
+            history,
             prices,
             levels,
         );
-        if number != 0 {
-            return self.refused(number);
-        }
-        let i = (developer - 1) as usize;
-        let mut next = self;
-        next.histories[i] = History::lodge(prices, levels);
-        Answer {
-            number: 0,
-            auction: next,
-        }
+        self.with_move(i, moved)
     }
 
     // Checks: 2. The answer is the excess at C, and the remainder of Dem(C).
@@ -312,30 +519,36 @@ impl Auction {
                 auction: self,
             };
         }
+        let settings = self.settings;
+        let projects = self.projects;
         let kinds = self.kinds;
         let quantities = self.quantities;
-        let histories = self.histories;
-        let opening = self.opening;
-        let closing = self.closing;
-        let after = courses::with_offers_applied(kinds, quantities, histories, opening, closing);
-        let left = after.quantities;
-        let withdrawn = after.histories;
-        let projects = self.projects;
         let declared = self.declared;
+        let histories = self.histories;
         let curve = self.curve;
-        let highest = lows::highest_levels(declared);
-        let longer = curve_closing::extended(curve, projects, highest, withdrawn, opening);
-        let settings = self.settings;
-        let figures = closing_figures::figures_at(settings, closing, projects, left);
+        let rounded = closing_round(
+            settings,
+            self.opening,
+            self.closing,
+            projects,
+            kinds,
+            quantities,
+            declared,
+            histories,
+            curve,
+        );
+        let left = rounded.quantities;
+        let withdrawn = rounded.histories;
+        let extended = rounded.curve;
         let mut next = self;
-        next.phase = figures.phase;
+        next.phase = rounded.phase;
         next.quantities = left;
         next.histories = withdrawn;
-        next.curve = longer;
+        next.curve = extended;
         Closing {
             number: 0,
-            excess: figures.excess,
-            remainder: figures.remainder,
+            excess: rounded.excess,
+            remainder: rounded.remainder,
             auction: next,
         }
     }

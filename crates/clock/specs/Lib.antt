@@ -1,2 +1,3 @@
+pub mod Held
 pub mod Tests
 pub mod Demands

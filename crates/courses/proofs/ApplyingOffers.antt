@@ -2,16 +2,16 @@
 use Prim.Native.Nat.{ℕ, suc, _+_, _≤_, _<_}
 use mathlib.Core.Path.{_≡_, refl, sym, ap, subst, _∙_}
 use mathlib.Core.Logic.{_⊎_, inl, inr, ⊎-elim}
-use mathlib.Core.Bool.{Bool, true, false, cond}
+use mathlib.Core.Bool.{Bool, true, false, cond, _||_, true≢false}
 use mathlib.Core.List.{List, [], _∷_, _++_, append-nil, append-assoc}
 use native.Mathlib.Omega.{arith}
 use lib.ListN.{length, getD, set, length-append}
-use lib.Dec.{eqb}
-use borrow.Author.Tests.{eqb-true}
+use lib.Dec.{eqb, ltb}
+use borrow.Author.Tests.{eqb-true, ltb-false}
 use Rattle.numbers.specs.Cases.{and-true}
 use Rattle.numbers.specs.Lists.{keep}
 use Rattle.numbers.specs.ListLaws.{numbered-nth}
-use Rattle.rules.specs.Ledger.{Step, Standing, none, made, Developer, Phase, Round, Ledger, nobody}
+use Rattle.rules.specs.Ledger.{Step, Standing, none, made, Developer, Phase, Round, Ledger, nobody, withCourse}
 use Rattle.rules.specs.Clearing.{ofEach, highest}
 use Rattle.rules.specs.Refusals.{floor, falling}
 use Rattle.rules.specs.Rounds.{withdrawsAll, reached, unreached, added, lastLevel, applied}
@@ -19,11 +19,12 @@ use Rattle.sound.specs.Sound.{appliedTo, pricesOf, SoundOffer, SoundLodged, Reg
 use Rattle.reachable.specs.Histories.{last-level-append, lowering-append}
 use Rattle.reachable.specs.Bounds.{falls-few, lodged-fits}
 use Rattle.reachable.specs.Closing.{added-lowers}
-use Rattle.history.specs.Held.{heldHistory, additions, Reached, Applied, LastLevel}
+use Rattle.history.specs.Held.{heldHistory, offeredNumber, additions, Reached, Applied, LastLevel}
 use Rattle.history.specs.declared.History.{History}
+use Rattle.courses.specs.declared.Course.{Course}
 use Rattle.courses.specs.declared.Courses.{Courses}
-use Rattle.courses.specs.Courses.{heldCourse, afterRound, OffersApplied}
-use Rattle.courses.specs.Places.{numbered-length, Filling, filling-next, filling-all}
+use Rattle.courses.specs.Courses.{heldCourse, afterRound, moves, OfferApplied, OffersApplied}
+use Rattle.courses.specs.Places.{filling-all, Replacing, replacing-first, replacing-stored, replacing-kept}
 
 -- ---- one developer
 
@@ -104,15 +105,53 @@ module _ (c o : ℕ) (x : Developer) (f : Applicable c o x) (h r : History) wher
   unfolding applied
   applied-quantity q e h = h .right _ _ e (f .few) ∙ last-level-append (x .quantity) (x .withdrawals) _ ∙ ap (λ (v : ℕ). lastLevel v (added c o x (x .offer))) (f .last)
 
+-- what the functions over histories computed of a developer is its course after the round
+pub offer-applied :
+    (kind q : ℕ) (h g r : History) (o c : ℕ) (missing : Bool) (v : ℕ) → missing ≡ withdrawsAll kind q → Reached h c g → Applied g missing o r → LastLevel r q v →
+    OfferApplied kind q h o c (record { quantity = v; history = r })
+offer-applied kind q h g r o c missing v em er ea el = record {
+  right = λ l n s round ek eq eh eo ec.
+      let x = l .developers n in
+      let f = applicable l s round n in
+      let history = applied-history (l .closing) (l .opening) x f g r (rw (eh, ec) at er) (rw (em, ek, eq, eo) at ea) in
+      (applied-quantity (l .closing) (l .opening) x f g r v history (rw eq at el), history);
+}
+
+-- ---- a developer that no closing moves
+
+none-stands : (s : Standing) → offeredNumber s ≡ 0 → s ≡ none
+none-stands none e = refl
+none-stands (made ss) e = absurd (omega arith)
+
+none-lodged : (ls : List Step) → length ls ≡ 0 → ls ≡ []
+none-lodged [] e = refl
+none-lodged (s ∷ ls) e = absurd (omega arith)
+
+none-of : (a b c : Bool) → a || (b || c) ≡ false → (a ≡ false) × ((b ≡ false) × (c ≡ false))
+none-of true b c e = absurd (true≢false e)
+none-of false true c e = absurd (true≢false e)
+none-of false false c e = (refl, (refl, e))
+
+unmoved : (c o : ℕ) (x : Developer) → moves (offeredNumber (x .offer)) (length (x .lodged)) (x .declared .kind) (x .quantity) ≡ false → applied c o x ≡ x
+unfolding moves applied added unreached reached keep lastLevel
+unmoved c o x e =
+    let t = none-of (ltb 0 (offeredNumber (x .offer))) (ltb 0 (length (x .lodged))) (withdrawsAll (x .declared .kind) (x .quantity)) e in
+    let s : x .offer ≡ none = none-stands (x .offer) (omega (arith, ltb-false 0 (offeredNumber (x .offer)) (t .0))) in
+    let ls : x .lodged ≡ [] = none-lodged (x .lodged) (omega (arith, ltb-false 0 (length (x .lodged)) (t .1 .0))) in
+    let nothing : added c o x (x .offer) ≡ [] = ap (added c o x) s ∙ rw (t .1 .1, ls) in
+    let stays : unreached c o (x .lodged) ≡ x .lodged = ap (unreached c o) ls ∙ sym ls in
+    ap (λ (vs : List Step). withCourse x (lastLevel (x .quantity) vs) (x .withdrawals ++ vs) none (unreached c o (x .lodged))) nothing
+    ∙ (λ i. withCourse x (x .quantity) (append-nil (x .withdrawals) i) (sym s i) (stays i))
+
 -- ---- the loop
 
--- the first i places of the next courses are those after the round
+-- the first i places of the next courses are those after the round, the others those before it
 record Part (l : Ledger) (next : Courses) (i : ℕ) : Type 0 where
-  quantities : Filling (λ n. afterRound l (l .developers n) .quantity) 0 (next .quantities) i
-  histories : Filling (λ n. heldCourse (afterRound l (l .developers n))) (heldCourse nobody) (next .histories) i
+  quantities : Replacing (λ n. l .developers n .quantity) (λ n. afterRound l (l .developers n) .quantity) 0 (next .quantities) i
+  histories : Replacing (λ n. heldCourse (l .developers n)) (λ n. heldCourse (afterRound l (l .developers n))) (heldCourse nobody) (next .histories) i
 
 module _ (ks qs : List ℕ) (hs : List History) (o c : ℕ) where
-  -- the arrays and prices that the loop reads are those of the ledger
+  -- the arrays and prices that the loop starts from are those of the ledger
   record Held (l : Ledger) : Type 0 where
     sound : Sound l
     round : l .phase ≡ Round
@@ -125,54 +164,64 @@ module _ (ks qs : List ℕ) (hs : List History) (o c : ℕ) where
   pub record Turn (next : Courses) (i : ℕ) : Type 0 where
     pub within : i ≤ 32
     part : (l : Ledger) → Held l → Part l next i
+    stays : next .moved ≡ false → next .histories ≡ hs
 
-  pub turn-first : Turn (record { quantities = qs; histories = hs }) 0
+  pub turn-first : Turn (record { moved = false; quantities = qs; histories = hs }) 0
   turn-first = record {
     within = omega arith;
+    stays = λ _. refl;
     part = λ l h. record {
-      quantities = record { long = ap length (h .quantities) ∙ numbered-length _; done = λ j w. absurd (omega arith) };
-      histories = record { long = ap length (h .histories) ∙ numbered-length _; done = λ j w. absurd (omega arith) };
+      quantities = replacing-first _ _ _ _ (h .quantities);
+      histories = replacing-first _ _ _ _ (h .histories);
     };
   }
 
-  -- one turn: what the functions over histories computed of place i is the developer's entry after the round
-  module _
-      (i q : ℕ) (d g r : History) (missing : Bool) (w : i < 32)
-      (em : missing ≡ withdrawsAll (getD ks i 0) (getD qs i 0)) (er : Reached (getD hs i d) c g) (ea : Applied g missing o r) (el : LastLevel r (getD qs i 0) q) where
+  module _ (next : Courses) (i : ℕ) (d : History) (t : Turn next i) (w : i < 32) where
+    -- the developer of this turn, as it is before the round
     module _ (l : Ledger) (h : Held l) where
       abbrev x : Developer
       x = l .developers (suc i)
 
-      f : Applicable (l .closing) (l .opening) x
-      f = applicable l (h .sound) (h .round) (suc i)
-
       kind : getD ks i 0 ≡ x .declared .kind
       kind = numbered-nth _ 32 ks i 0 (h .kinds) w
 
-      quantity : getD qs i 0 ≡ x .quantity
-      quantity = numbered-nth _ 32 qs i 0 (h .quantities) w
+      quantity : getD (next .quantities) i 0 ≡ x .quantity
+      quantity = t .part l h .quantities .left i 0 (omega arith) w
 
-      history : getD hs i d ≡ heldCourse x
-      history = numbered-nth _ 32 hs i d (h .histories) w
+      history : getD (next .histories) i d ≡ heldCourse x
+      history = t .part l h .histories .left i d (omega arith) w
 
-      history-next : r ≡ heldCourse (afterRound l x)
-      history-next = applied-history (l .closing) (l .opening) x f g r (rw (history, h .closing) at er) (rw (em, kind, quantity, h .opening) at ea)
-
-      quantity-next : q ≡ afterRound l x .quantity
-      quantity-next = applied-quantity (l .closing) (l .opening) x f g r q history-next (rw quantity at el)
-
-    pub turn-more : (next : Courses) → Turn next i → Turn (record { quantities = set (next .quantities) i q; histories = set (next .histories) i r }) (i + 1)
-    turn-more next t = record {
+    pub turn-moved :
+        (r : Course) → OfferApplied (getD ks i 0) (getD (next .quantities) i 0) (getD (next .histories) i d) o c r →
+        Turn (record { moved = true; quantities = set (next .quantities) i (r .quantity); histories = set (next .histories) i (r .history) }) (i + 1)
+    turn-moved r a = record {
       within = omega arith;
-      part = λ l h. record {
-        quantities = filling-next _ _ _ i q (t .part l h .quantities) w (quantity-next l h);
-        histories = filling-next _ _ _ i r (t .part l h .histories) w (history-next l h);
-      };
+      stays = λ e. absurd (true≢false e);
+      part = λ l h.
+          let e = a .right l (suc i) (h .sound) (h .round) (kind l h) (quantity l h) (history l h) (h .opening) (h .closing) in
+          record {
+            quantities = replacing-stored _ _ _ _ i _ (t .part l h .quantities) w (e .0);
+            histories = replacing-stored _ _ _ _ i _ (t .part l h .histories) w (e .1);
+          };
+    }
+
+    pub turn-passed :
+        (b : Bool) → b ≡ moves (getD (next .histories) i d .offered) (getD (next .histories) i d .lodged) (getD ks i 0) (getD (next .quantities) i 0) → b ≡ false → Turn next (i + 1)
+    turn-passed b e f = record {
+      within = omega arith;
+      stays = t .stays;
+      part = λ l h.
+          let same = unmoved (l .closing) (l .opening) (x l h) (sym (rw (history l h, kind l h, quantity l h) at e) ∙ f) in
+          record {
+            quantities = replacing-kept _ _ _ _ i (t .part l h .quantities) w (ap (λ (y : Developer). y .quantity) (sym same));
+            histories = replacing-kept _ _ _ _ i (t .part l h .histories) w (ap heldCourse (sym same));
+          };
     }
 
   pub turn-last : (next : Courses) → Turn next 32 → OffersApplied ks qs hs o c next
   turn-last next t = record {
     right = λ l s r k q h eo ec.
         let p = t .part l (record { sound = s; round = r; kinds = k; quantities = q; histories = h; opening = eo; closing = ec }) in
-        (filling-all _ _ _ (p .quantities), filling-all _ _ _ (p .histories));
+        (filling-all _ _ _ (p .quantities .filled), filling-all _ _ _ (p .histories .filled));
+    stays = t .stays;
   }

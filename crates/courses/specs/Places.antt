@@ -1,4 +1,4 @@
--- Laws of the arrays of 32 places, developer n at place n - 1: reading one place, storing to one, and filling all.
+-- Laws of the arrays of 32 places, developer n at place n - 1: reading one place, storing to one, filling all and replacing all.
 use Prim.Native.Nat.{ℕ, suc, _+_, _-_, _≤_, _<_}
 use mathlib.Core.Path.{_≡_, refl, sym, ap, _∙_}
 use mathlib.Core.Logic.{⊎-elim}
@@ -39,6 +39,37 @@ module _ {A : Type 0} where
 
   pub filling-all : (g : ℕ → A) (d : A) (xs : List A) → Filling g d xs 32 → xs ≡ map g (oneTo 32)
   filling-all g d xs f = numbered g d xs (f .long) (f .done)
+
+  -- replaced place by place: the first i places are those of g, the others still those of f
+  pub record Replacing (f g : ℕ → A) (d : A) (xs : List A) (i : ℕ) : Type 0 where
+    pub filled : Filling g d xs i
+    pub left : (j : ℕ) (e : A) → i ≤ j → j < 32 → getD xs j e ≡ f (suc j)
+
+  pub replacing-first : (f g : ℕ → A) (d : A) (xs : List A) → xs ≡ map f (oneTo 32) → Replacing f g d xs 0
+  replacing-first f g d xs q = record {
+    filled = record { long = ap length q ∙ numbered-length f; done = λ j w. absurd (omega arith) };
+    left = λ j e w v. numbered-nth f 32 xs j e q v;
+  }
+
+  -- a store to place i
+  pub replacing-stored : (f g : ℕ → A) (d : A) (xs : List A) (i : ℕ) (v : A) → Replacing f g d xs i → i < 32 → v ≡ g (suc i) → Replacing f g d (set xs i v) (i + 1)
+  replacing-stored f g d xs i v r h e = record {
+    filled = filling-next g d xs i v (r .filled) h e;
+    left = λ j b w k. getD-set-other xs i j v b (λ q. omega arith) ∙ r .left j b (omega arith) k;
+  }
+
+  -- place i as it was
+  pub replacing-kept : (f g : ℕ → A) (d : A) (xs : List A) (i : ℕ) → Replacing f g d xs i → i < 32 → f (suc i) ≡ g (suc i) → Replacing f g d xs (i + 1)
+  replacing-kept f g d xs i r h e = record {
+    filled = record {
+      long = r .filled .long;
+      done = λ j w. ⊎-elim (λ k. r .filled .done j k) (λ k. here j (omega arith)) (le-or-lt (suc j) i);
+    };
+    left = λ j b w k. r .left j b (omega arith) k;
+  }
+    where
+      here : (j : ℕ) → j ≡ i → getD xs j d ≡ g (suc j)
+      here j q = rw q (r .left i d (omega arith) h ∙ e)
 
   module _ (f : Developer → A) where
     -- a store to the place of developer n

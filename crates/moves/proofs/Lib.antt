@@ -1,1 +1,5 @@
 mod Standing
+mod Deciding
+mod Cancelling
+mod Offering
+mod Lodging

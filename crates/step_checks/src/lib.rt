@@ -6,15 +6,22 @@ ghost use lib.ListN.{getD};
 ghost use Rattle.rules.specs.Refusals.{isOfKind, falling, pricesOk};
 use history::History;
 
-// Whether a number is that of a developer of this kind: kind 2 makes offers, kind 1 lodges lists.
-pub fn is_of_kind(kinds: [u8; 32], developer: u8, kind: u8) -> bool
-    ensures { λ r. ⌜ r ≡ isOfKind kind developer (getD kinds (developer - 1) 0) ⌝ }
+// Whether a number, under which this kind is registered, is that of a developer of the kind wanted: kind 2 makes offers, kind 1 lodges lists.
+pub fn is_of(kind: u8, developer: u8, wanted: u8) -> bool
+    ensures { λ r. ⌜ r ≡ isOfKind wanted developer kind ⌝ }
 {
     if !supply::is_number(developer) {
         return false;
     }
-    let i = (developer - 1) as usize;
-    kinds[i] == kind
+    kind == wanted
+}
+
+// The same, by the kinds of all developers.
+pub fn is_of_kind(kinds: [u8; 32], developer: u8, kind: u8) -> bool
+    ensures { λ r. ⌜ r ≡ isOfKind kind developer (getD kinds (developer - 1) 0) ⌝ }
+{
+    let i = supply::place(developer);
+    is_of(kinds[i], developer, kind)
 }
 
 // Whether there are as many prices as levels, at most 8, and the prices fall from below `opening` and are at least `closing`.

@@ -57,8 +57,8 @@ pub fn is_number(n: u8) -> bool
     n <= MOST_DEVELOPERS
 }
 
-// The place of project k; the first place for a number that is none.
-fn place(k: u8) -> usize
+// The place of project or developer k; the first place for a number that is none.
+pub fn place(k: u8) -> usize
     ensures { λ r. ⌜ (r ≡ placeOf k) × (r < 32) ⌝ }
 {
     if !is_number(k) {

@@ -1,59 +1,54 @@
--- The offers applied from developer 1 to 32, read from the arrays as they were.
+-- The offers applied from developer 1 to 32, in place: those that a closing cannot move stay as they are.
 use mathlib.Core.Path.{_≡_}
+use mathlib.Core.Logic.{⊎-elim}
 use Prim.Native.Nat.{_-_}
 use native.Mathlib.Omega.{arith}
 use borrow.Author.Needs.{needs}
-use Rattle.courses.proofs.ApplyingOffers.{Turn, turn-first, turn-more, turn-last}
+use Rattle.courses.proofs.ApplyingOffers.{Turn, turn-first, turn-moved, turn-passed, turn-last}
 use Rattle.courses.proofs.with_offers_applied.Statement.{statement}
 use Rattle.courses.proofs.with_offers_applied.Tie as tie
 
 abbrev Inv-loop : tie.InvT-loop
-Inv-loop opening closing kinds quantities histories next₀ i₀ next i = Turn kinds quantities histories opening closing next i
+Inv-loop opening closing kinds next₀ i₀ next i = Turn kinds (next₀ .quantities) (next₀ .histories) opening closing next i
 
 abbrev μ-loop : tie.MeasureT-loop
-μ-loop opening closing kinds quantities histories next₀ i₀ next i = 32 - i
+μ-loop opening closing kinds next₀ i₀ next i = 32 - i
 
 loop-holds : tie.Need-loop-holds Inv-loop μ-loop
 loop-holds c = turn-first _ _ _ _ _
 
-mul-h : tie.Need-mul-h Inv-loop μ-loop
-mul-h c = omega arith
+array-read-kind : tie.Need-array-read-kind Inv-loop μ-loop
+array-read-kind c = omega arith
 
-array-copy-out-h : tie.Need-array-copy-out-h Inv-loop μ-loop
-array-copy-out-h c = omega arith
+mul-quantity : tie.Need-mul-quantity Inv-loop μ-loop
+mul-quantity c = omega arith
 
-mul-q : tie.Need-mul-q Inv-loop μ-loop
-mul-q c = omega arith
+element-copy-out-quantity : tie.Need-element-copy-out-quantity Inv-loop μ-loop
+element-copy-out-quantity c = omega arith
 
-array-read-q : tie.Need-array-read-q Inv-loop μ-loop
-array-read-q c = omega arith
+mul-history : tie.Need-mul-history Inv-loop μ-loop
+mul-history c = omega arith
 
-array-read-withdraws : tie.Need-array-read-withdraws Inv-loop μ-loop
-array-read-withdraws c = omega arith
+element-copy-out-history : tie.Need-element-copy-out-history Inv-loop μ-loop
+element-copy-out-history c = omega arith
 
-withdraws-requires : tie.Need-withdraws-requires Inv-loop μ-loop
-withdraws-requires c κs = search needs
+is-moved-requires : tie.Need-is-moved-requires Inv-loop μ-loop
+is-moved-requires c κs = search needs
 
-reach-requires : tie.Need-reach-requires Inv-loop μ-loop
-reach-requires c κs = search needs
-
-close-requires : tie.Need-close-requires Inv-loop μ-loop
-close-requires c κs = search needs
-
-mul-applied : tie.Need-mul-applied Inv-loop μ-loop
-mul-applied c = omega arith
-
-element-set-from-applied : tie.Need-element-set-from-applied Inv-loop μ-loop
-element-set-from-applied c = omega arith
-
-last-level-requires : tie.Need-last-level-requires Inv-loop μ-loop
-last-level-requires c κs = search needs
+with-offer-applied-requires : tie.Need-with-offer-applied-requires Inv-loop μ-loop
+with-offer-applied-requires c κs = search needs
 
 mul-next : tie.Need-mul-next Inv-loop μ-loop
 mul-next c = omega arith
 
 element-write-next : tie.Need-element-write-next Inv-loop μ-loop
 element-write-next c = omega arith
+
+mul-after : tie.Need-mul-after Inv-loop μ-loop
+mul-after c = omega arith
+
+element-set-from-after : tie.Need-element-set-from-after Inv-loop μ-loop
+element-set-from-after c = omega arith
 
 add-i : tie.Need-add-i Inv-loop μ-loop
 add-i c = omega arith
@@ -63,8 +58,12 @@ loop-less c = omega arith
 
 loop-again : tie.Need-loop-again Inv-loop μ-loop
 loop-again c =
-    turn-more _ _ _ _ _ _ _ _ _ _ _ (omega arith) (c .before .before .before .withdraws .ensures) (c .before .before .reach .ensures) (c .before .close .ensures)
-    (c .last-level .ensures) _ (c .before .before .before .before .before .before .loop .inv)
+    let l = c .before .before .before .before .before .loop in
+    let t = c .before .before .before .before .loop-test .taken in
+    ⊎-elim
+    (λ w. rw (w .3) (turn-moved _ _ _ _ _ _ _ _ (l .inv) t _ (w .1 .ensures)))
+    (λ w. rw (w .1) (turn-passed _ _ _ _ _ _ _ _ (l .inv) t _ (c .before .is-moved .ensures) (w .0 .left)))
+    (c .if1 .came)
 
 returns : tie.Need-returns Inv-loop μ-loop
 returns c =
@@ -78,19 +77,17 @@ with-offers-applied-spec =
     Inv-loop
     μ-loop
     loop-holds
-    mul-h
-    array-copy-out-h
-    mul-q
-    array-read-q
-    array-read-withdraws
-    withdraws-requires
-    reach-requires
-    close-requires
-    mul-applied
-    element-set-from-applied
-    last-level-requires
+    array-read-kind
+    mul-quantity
+    element-copy-out-quantity
+    mul-history
+    element-copy-out-history
+    is-moved-requires
+    with-offer-applied-requires
     mul-next
     element-write-next
+    mul-after
+    element-set-from-after
     add-i
     loop-less
     loop-again

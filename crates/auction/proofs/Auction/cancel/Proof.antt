@@ -1,64 +1,44 @@
--- A cancellation: refused by its number; else the withdrawals are held alone.
-use Prim.Native.Nat.{_≤_}
-use native.Mathlib.Omega.{arith}
+-- A cancellation, decided over its developer's entry.
 use borrow.Author.Needs.{needs}
-use Rattle.auction.proofs.Cancelling.{cancel-refused, cancel-bounds, cancel-taken}
+use Rattle.rules.specs.Ledger.{Cancel}
+use Rattle.auction.proofs.Moving.{move-called}
 use Rattle.auction.proofs.Auction.cancel.Statement.{statement}
 use Rattle.auction.proofs.Auction.cancel.Tie as tie
 
--- accepted, so the developer's number is good
-bounds : (c : tie.Else1) → let n = c .before .before .before .before .args .developer in (1 ≤ n) × (n ≤ 32)
-bounds c =
-    let s = c .before .before .before .before .args in
-    cancel-bounds (s .developer) (s .self) _ (c .before .cancel-number .ensures) (c .if1 .left)
+place-requires : tie.Need-place-requires
+place-requires c κs = search needs
 
-cancel-number-requires : tie.Need-cancel-number-requires
-cancel-number-requires c κs = search needs
+mul-history : tie.Need-mul-history
+mul-history c = search needs
 
-refused-requires : tie.Need-refused-requires
-refused-requires c κs = search needs
+element-copy-out-history : tie.Need-element-copy-out-history
+element-copy-out-history c = search needs
+
+element-copy-out-cancelled : tie.Need-element-copy-out-cancelled
+element-copy-out-cancelled c = search needs
+
+cancelled-requires : tie.Need-cancelled-requires
+cancelled-requires c κs = search needs
+
+with-move-requires : tie.Need-with-move-requires
+with-move-requires c κs = search needs
 
 returns : tie.Need-returns
-returns c = rw (c .refused .ensures) (cancel-refused _ _ _ (c .before .before .cancel-number .ensures) (c .before .if1 .taken))
-
-sub-place : tie.Need-sub-place
-sub-place c = let b = bounds c in omega arith
-
-cast-place : tie.Need-cast-place
-cast-place c = search needs
-
-mul-standing : tie.Need-mul-standing
-mul-standing c = search needs
-
-array-copy-out-standing : tie.Need-array-copy-out-standing
-array-copy-out-standing c = let b = bounds c in omega arith
-
-cancel-requires : tie.Need-cancel-requires
-cancel-requires c κs = search needs
-
-mul-t12 : tie.Need-mul-t12
-mul-t12 c = search needs
-
-element-set-from-next : tie.Need-element-set-from-next
-element-set-from-next c = let b = bounds (c .before .before) in omega arith
-
-returns-2 : tie.Need-returns-2
-returns-2 c =
-    let x = c .before .before in
-    cancel-taken _ _ _ (x .before .cancel-number .ensures) (x .if1 .left) _ (c .cancel .ensures)
+returns c =
+    let x = c .before .before .before .before in
+    let s = x .before .args in
+    rw (c .with-move .ensures)
+    (move-called (s .developer) Cancel _ (x .place .result) _ _ (x .place .ensures .0)
+    (c .before .cancelled .ensures _ _ _ _ _))
 
 pub cancel-spec : {M : Type 1} → statement M
 cancel-spec =
     tie.close
     (tie.spec
-    cancel-number-requires
-    refused-requires
-    returns
-    sub-place
-    cast-place
-    mul-standing
-    array-copy-out-standing
-    cancel-requires
-    mul-t12
-    element-set-from-next
-    returns-2)
+    place-requires
+    mul-history
+    element-copy-out-history
+    element-copy-out-cancelled
+    cancelled-requires
+    with-move-requires
+    returns)

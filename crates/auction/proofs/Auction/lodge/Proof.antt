@@ -1,62 +1,52 @@
--- Lodging a list: refused by its number; else the list is held alone.
-use Prim.Native.Nat.{_≤_}
-use native.Mathlib.Omega.{arith}
+-- A lodged list, decided over its developer's entry.
 use borrow.Author.Needs.{needs}
-use Rattle.auction.proofs.Lodging.{lodge-refused, lodge-bounds, lodge-taken}
+use Rattle.rules.specs.Ledger.{Lodge}
+use Rattle.auction.proofs.Moving.{move-called}
 use Rattle.auction.proofs.Auction.lodge.Statement.{statement}
 use Rattle.auction.proofs.Auction.lodge.Tie as tie
 
--- accepted, so the developer's number is good
-bounds : (c : tie.Else1) → let n = c .before .before .before .before .before .before .before .before .args .developer in (1 ≤ n) × (n ≤ 32)
-bounds c =
-    let s = c .before .before .before .before .before .before .before .before .args in
-    lodge-bounds (s .developer) _ _ (s .self) _ (c .before .before .highest-levels .ensures) _ (c .before .lodge-number .ensures) (c .if1 .left)
+place-requires : tie.Need-place-requires
+place-requires c κs = search needs
 
-highest-levels-requires : tie.Need-highest-levels-requires
-highest-levels-requires c κs = search needs
+mul-declared : tie.Need-mul-declared
+mul-declared c = search needs
 
-lodge-number-requires : tie.Need-lodge-number-requires
-lodge-number-requires c κs = search needs
+element-copy-out-declared : tie.Need-element-copy-out-declared
+element-copy-out-declared c = search needs
 
-refused-requires : tie.Need-refused-requires
-refused-requires c κs = search needs
+mul-history : tie.Need-mul-history
+mul-history c = search needs
+
+element-copy-out-history : tie.Need-element-copy-out-history
+element-copy-out-history c = search needs
+
+element-copy-out-lodged : tie.Need-element-copy-out-lodged
+element-copy-out-lodged c = search needs
+
+lodged-requires : tie.Need-lodged-requires
+lodged-requires c κs = search needs
+
+with-move-requires : tie.Need-with-move-requires
+with-move-requires c κs = search needs
 
 returns : tie.Need-returns
 returns c =
-    let x = c .before .before in
-    rw (c .refused .ensures) (lodge-refused _ _ _ _ _ (x .before .highest-levels .ensures) _ (x .lodge-number .ensures) (c .before .if1 .taken))
-
-sub-i : tie.Need-sub-i
-sub-i c = let b = bounds c in omega arith
-
-cast-i : tie.Need-cast-i
-cast-i c = search needs
-
-lodge-requires : tie.Need-lodge-requires
-lodge-requires c κs = search needs
-
-mul-t15 : tie.Need-mul-t15
-mul-t15 c = search needs
-
-element-set-from-next : tie.Need-element-set-from-next
-element-set-from-next c = let b = bounds (c .before) in omega arith
-
-returns-2 : tie.Need-returns-2
-returns-2 c =
-    let x = c .before in
-    lodge-taken _ _ _ _ _ (x .before .before .highest-levels .ensures) _ (x .before .lodge-number .ensures) (x .if1 .left) _ (c .lodge .ensures)
+    let x = c .before .before .before .before .before .before in
+    let s = x .before .before .before .args in
+    rw (c .with-move .ensures)
+    (move-called (s .developer) (Lodge (s .prices .now) (s .levels .now)) _ (x .place .result) _ _ (x .place .ensures .0)
+    (c .before .lodged .ensures _ _ _))
 
 pub lodge-spec : {M : Type 1} → statement M
 lodge-spec =
     tie.close
     (tie.spec
-    highest-levels-requires
-    lodge-number-requires
-    refused-requires
-    returns
-    sub-i
-    cast-i
-    lodge-requires
-    mul-t15
-    element-set-from-next
-    returns-2)
+    place-requires
+    mul-declared
+    element-copy-out-declared
+    mul-history
+    element-copy-out-history
+    element-copy-out-lodged
+    lodged-requires
+    with-move-requires
+    returns)

@@ -1,64 +1,59 @@
--- An offer: refused by its number; else the steps are held behind the withdrawals.
-use Prim.Native.Nat.{_≤_}
-use native.Mathlib.Omega.{arith}
+-- An offer, decided over its developer's entry.
 use borrow.Author.Needs.{needs}
-use Rattle.auction.proofs.Offering.{offer-refused, offer-bounds, offer-taken}
+use Rattle.rules.specs.Ledger.{Offer}
+use Rattle.auction.proofs.Moving.{move-called}
 use Rattle.auction.proofs.Auction.offer.Statement.{statement}
 use Rattle.auction.proofs.Auction.offer.Tie as tie
 
--- accepted, so the developer's number is good
-bounds : (c : tie.Else1) → let n = c .before .before .before .before .before .before .before .before .args .developer in (1 ≤ n) × (n ≤ 32)
-bounds c =
-    let s = c .before .before .before .before .before .before .before .before .args in
-    offer-bounds (s .developer) _ _ (s .self) _ (c .before .offer-number .ensures) (c .if1 .left)
+place-requires : tie.Need-place-requires
+place-requires c κs = search needs
 
-offer-number-requires : tie.Need-offer-number-requires
-offer-number-requires c κs = search needs
+mul-declared : tie.Need-mul-declared
+mul-declared c = search needs
 
-refused-requires : tie.Need-refused-requires
-refused-requires c κs = search needs
-
-returns : tie.Need-returns
-returns c = rw (c .refused .ensures) (offer-refused _ _ _ _ _ (c .before .before .offer-number .ensures) (c .before .if1 .taken))
-
-sub-i : tie.Need-sub-i
-sub-i c = let b = bounds c in omega arith
-
-cast-i : tie.Need-cast-i
-cast-i c = search needs
+element-copy-out-declared : tie.Need-element-copy-out-declared
+element-copy-out-declared c = search needs
 
 mul-history : tie.Need-mul-history
 mul-history c = search needs
 
-array-copy-out-history : tie.Need-array-copy-out-history
-array-copy-out-history c = let b = bounds c in omega arith
+element-copy-out-history : tie.Need-element-copy-out-history
+element-copy-out-history c = search needs
 
-offer-requires : tie.Need-offer-requires
-offer-requires c κs = search needs
+element-copy-out-offered : tie.Need-element-copy-out-offered
+element-copy-out-offered c = search needs
 
-mul-t16 : tie.Need-mul-t16
-mul-t16 c = search needs
+mul-offered : tie.Need-mul-offered
+mul-offered c = search needs
 
-element-set-from-next : tie.Need-element-set-from-next
-element-set-from-next c = let b = bounds (c .before .before) in omega arith
+element-copy-out-offered-2 : tie.Need-element-copy-out-offered-2
+element-copy-out-offered-2 c = search needs
 
-returns-2 : tie.Need-returns-2
-returns-2 c =
-    let x = c .before .before in
-    offer-taken _ _ _ _ _ (x .before .offer-number .ensures) (x .if1 .left) _ (c .offer .ensures)
+offered-requires : tie.Need-offered-requires
+offered-requires c κs = search needs
+
+with-move-requires : tie.Need-with-move-requires
+with-move-requires c κs = search needs
+
+returns : tie.Need-returns
+returns c =
+    let x = c .before .before .before .before .before .before in
+    let s = x .before .before .before .args in
+    rw (c .with-move .ensures)
+    (move-called (s .developer) (Offer (s .prices .now) (s .levels .now)) _ (x .place .result) _ _ (x .place .ensures .0) (c .before .offered .ensures _))
 
 pub offer-spec : {M : Type 1} → statement M
 offer-spec =
     tie.close
     (tie.spec
-    offer-number-requires
-    refused-requires
-    returns
-    sub-i
-    cast-i
+    place-requires
+    mul-declared
+    element-copy-out-declared
     mul-history
-    array-copy-out-history
-    offer-requires
-    mul-t16
-    element-set-from-next
-    returns-2)
+    element-copy-out-history
+    element-copy-out-offered
+    mul-offered
+    element-copy-out-offered-2
+    offered-requires
+    with-move-requires
+    returns)

@@ -1,0 +1,30 @@
+-- Refused, the auction as it was; else the history stored.
+use mathlib.Core.Path.{_∙_}
+use borrow.Author.Needs.{needs}
+use Rattle.auction.proofs.Calls.{answer-kept, answer-stored}
+use Rattle.auction.specs.Storing.{withHistoryAt}
+use Rattle.auction.proofs.Auction.with_move.Statement.{statement}
+use Rattle.auction.proofs.Auction.with_move.Tie as tie
+
+refused-requires : tie.Need-refused-requires
+refused-requires c κs = search needs
+
+returns : tie.Need-returns
+returns c =
+    let s = c .before .before .before .args in
+    c .refused .ensures ∙ answer-kept (s .self) (withHistoryAt (s .self) (s .i) (s .moved .history)) _ (c .before .if1 .taken)
+
+mul-history : tie.Need-mul-history
+mul-history c = search needs
+
+element-set-from-history : tie.Need-element-set-from-history
+element-set-from-history c = search needs
+
+returns-2 : tie.Need-returns-2
+returns-2 c =
+    let s = c .before .before .before .args in
+    answer-stored (s .self) (withHistoryAt (s .self) (s .i) (s .moved .history)) _ (c .before .if1 .left)
+
+pub with-move-spec : {M : Type 1} → statement M
+with-move-spec =
+    tie.close (tie.spec refused-requires returns mul-history element-set-from-history returns-2)
