@@ -19,7 +19,7 @@ use Rattle.lows.specs.Lows.{Highests, Lows, nextPrice}
 use Rattle.lows.specs.PriceLaws.{next-price}
 use Rattle.auction.specs.Holds.{auctionOf}
 use Rattle.auction.specs.declared.Auction.{Auction}
-use Rattle.price.specs.Prices.{ClosingPrice}
+use Rattle.price.specs.Prices.{HoldsSettings, ByCurve, ClosingPrice}
 use Rattle.second_price.specs.Taken.{SecondPrice}
 use Rattle.cleared.specs.declared.Cleared.{Cleared}
 use Rattle.cleared.specs.Clears.{clearedAt, Clears}
@@ -29,11 +29,11 @@ module _
     (a : Auction) (r : Cleared) (first next : ℕ)
     (highests : Highests (a .declared) (r .highest))
     (supplied : first ≡ supplyOf (a .projects) (r .highest))
-    (priced : ClosingPrice a (a .projects) (r .highest) true first (r .price))
+    (priced : ClosingPrice (a .settings) (a .closing) (ByCurve (a .curve .words) (a .curve .count) first) (r .price))
     (lows-at : Lows (a .histories) (r .highest) (r .price) (r .lows))
     (above : next ≡ nextPrice (r .price))
     (highs-at : Lows (a .histories) (r .highest) next (r .highs))
-    (second-at : SecondPrice a (r .highest) (r .price) (record { price = r .second; short = r .short }))
+    (second-at : SecondPrice (a .settings) (a .closing) (a .projects) (a .kinds) (a .histories) (r .highest) (r .price) (record { price = r .second; short = r .short }))
     (demand-at : r .demand ≡ demandBy (a .settings) (r .price))
     (remainder-at : r .remainder ≡ remainderBy (a .settings) (r .price))
   where
@@ -48,16 +48,16 @@ module _
       unfolding auctionOf
       firsts = highests .right l s (ap (λ (x : Auction). x .declared) h)
 
+      settings-held : HoldsSettings (a .settings) l
+      unfolding auctionOf
+      settings-held = record { sound = s; began = began; settings-are = ap (λ (x : Auction). x .settings) h }
+
       price-is : p ≡ closingPrice l
       unfolding auctionOf
-      price-is = priced .right l l (record {
-        sound = s;
-        began = began;
-        held = h;
-        firsts-are = firsts;
-        part = whole l;
-        projects-are = ap (λ (x : Auction). x .projects) h;
-        where-whole = λ _. (refl, supplied ∙ ap₂ supplyOf (ap (λ (x : Auction). x .projects) h) firsts ∙ supply-of highest l);
+      price-is = priced .right l l settings-held (ap (λ (x : Auction). x .closing) h) (whole l) (record {
+        all = refl;
+        curve-is = ap (λ (x : Auction). x .curve) h;
+        first-is = supplied ∙ ap₂ supplyOf (ap (λ (x : Auction). x .projects) h) firsts ∙ supply-of highest l;
       })
 
       passed : (l .closing ≤ p) × (p ≤ l .settings .a)
@@ -74,7 +74,9 @@ module _
       highs-are = subst (λ (q : ℕ). r .highs ≡ ofEach (low q) l) next-is (highs-at .right l s (ap (λ (x : Auction). x .histories) h) firsts)
 
       seconds : (r .second ≡ secondPrice l) × (r .short ≡ short l)
-      seconds = second-at .right l s began h firsts price-is
+      unfolding auctionOf
+      seconds = second-at .right l settings-held (ap (λ (x : Auction). x .closing) h) (ap (λ (x : Auction). x .projects) h) (ap (λ (x : Auction). x .kinds) h)
+          (ap (λ (x : Auction). x .histories) h) firsts price-is
 
       figures : r ≡ clearedAt l (closingPrice l)
       unfolding auctionOf demandBy remainderBy

@@ -19,15 +19,27 @@ pub fn clear(auction: Auction) -> Cleared
     ensures { λ r. ⌜ Clears auction r ⌝ }
 {
     let projects = auction.projects;
+    let kinds = auction.kinds;
     let settings = auction.settings;
+    let closing = auction.closing;
     let declared = auction.declared;
     let histories = auction.histories;
+    let curve = auction.curve;
+    let words = curve.words;
     let highest = lows::highest_levels(declared);
     let first = supply::supply(projects, highest);
-    let p = price::closing_price(auction, projects, highest, true, first);
+    let p = price::closing_price(settings, closing, &words, curve.count, first);
     let lows = lows::lows_at(histories, highest, p);
     let highs = lows::lows_at(histories, highest, lows::above(p));
-    let second = second_price::second_price(auction, highest, p);
+    let second = second_price::second_price(
+        settings,
+        closing,
+        projects,
+        kinds,
+        histories,
+        highest,
+        p,
+    );
     Cleared {
         highest: highest,
         price: p,

@@ -17,7 +17,7 @@ use Rattle.supply_curve.specs.Curve.{Point, noPoint, suppliedAt}
 use Rattle.supply_curve.specs.CurveLaws.{Joined}
 use Rattle.supply_curve.specs.Closings.{trimmed}
 use Rattle.kept_curve.specs.declared.Curve.{Curve}
-use Rattle.kept_curve.specs.Held.{wordOf, heldCurve, Fits, Trimmed, WithPoint, supplyBefore, PointAt, SuppliedAt}
+use Rattle.kept_curve.specs.Held.{wordOf, heldCurve, Fits, Trimmed, WithPoint, supplyBefore, PointAt, curveOf, SuppliedAt}
 
 abbrev unit : ℕ
 unit = 1099511627776
@@ -201,49 +201,49 @@ before-later words s (suc i) h = ap (λ (j : ℕ). getD words j 0 % unit) (omega
 
 -- ---- the supply at a price
 
-module _ (c : Curve) (s p : ℕ) where
+module _ (words : List ℕ) (count s p : ℕ) where
   -- the points before place i are above p: the look-up goes on with those that are left
   pub record Looking (left i : ℕ) : Type 0 where
     pub within : i ≤ 256
-    pub rest : (xs : List Point) → c ≡ heldCurve xs → length xs ≤ 256 → Each Fits xs → suppliedAt left (drop i xs) p ≡ suppliedAt s xs p
+    pub rest : (xs : List Point) → curveOf words count ≡ heldCurve xs → length xs ≤ 256 → Each Fits xs → suppliedAt left (drop i xs) p ≡ suppliedAt s xs p
 
   pub looking-first : Looking s 0
   looking-first = record { within = omega arith; rest = λ xs e l f. refl }
 
-  pub looking-past : (left i : ℕ) → Looking left i → ((xs : List Point) → c ≡ heldCurve xs → length xs ≤ 256 → length xs ≤ i) → SuppliedAt c s p left
+  pub looking-past : (left i : ℕ) → Looking left i → ((xs : List Point) → curveOf words count ≡ heldCurve xs → length xs ≤ 256 → length xs ≤ i) → SuppliedAt words count s p left
   unfolding suppliedAt
   looking-past left i t h = record { right = λ xs e l f. ap (λ (ys : List Point). suppliedAt left ys p) (sym (drop-of-length-le xs (h xs e l))) ∙ t .rest xs e l f }
 
-  pub looking-end : (left i : ℕ) → Looking left i → c .count ≤ i → SuppliedAt c s p left
+  pub looking-end : (left i : ℕ) → Looking left i → count ≤ i → SuppliedAt words count s p left
   unfolding heldCurve
   looking-end left i t h = looking-past left i t (λ xs e l. omega (arith, ap (λ (d : Curve). d .count) e))
 
-  pub looking-all : (left i : ℕ) → Looking left i → 256 ≤ i → SuppliedAt c s p left
+  pub looking-all : (left i : ℕ) → Looking left i → 256 ≤ i → SuppliedAt words count s p left
   looking-all left i t h = looking-past left i t (λ xs e l. omega arith)
 
-  module _ (left i : ℕ) (t : Looking left i) (inside : i < c .count) where
+  module _ (left i : ℕ) (t : Looking left i) (inside : i < count) where
     -- the look-up at place i: the price of its word is that of the point
-    at-place : (xs : List Point) → c ≡ heldCurve xs → length xs ≤ 256 → Each Fits xs → let w = getD (c .words) i 0 in suppliedAt s xs p ≡ cond (ltb p (w / unit)) (suppliedAt (w % unit) (drop (i + 1) xs) p) left
+    at-place : (xs : List Point) → curveOf words count ≡ heldCurve xs → length xs ≤ 256 → Each Fits xs → let w = getD words i 0 in suppliedAt s xs p ≡ cond (ltb p (w / unit)) (suppliedAt (w % unit) (drop (i + 1) xs) p) left
     unfolding heldCurve suppliedAt
     at-place xs e l f =
         let k : i < length xs = omega (arith, ap (λ (d : Curve). d .count) e) in
         let x = getD xs i noPoint in
         let fits : Fits x = f x (nth-in xs i k) in
-        let w = word-at c xs i e k in
-        let price : getD (c .words) i 0 / unit ≡ x .price = ap (λ (v : ℕ). v / unit) w ∙ price-back x fits in
-        let after : getD (c .words) i 0 % unit ≡ x .after = ap (λ (v : ℕ). v % unit) w ∙ after-back x fits in
+        let w = word-at (curveOf words count) xs i e k in
+        let price : getD words i 0 / unit ≡ x .price = ap (λ (v : ℕ). v / unit) w ∙ price-back x fits in
+        let after : getD words i 0 % unit ≡ x .after = ap (λ (v : ℕ). v % unit) w ∙ after-back x fits in
         let d : drop i xs ≡ x ∷ drop (i + 1) xs = rw add-one (drop-cons xs i noPoint k) in
         sym (t .rest xs e l f) ∙ ap (λ (ys : List Point). suppliedAt left ys p) d
         ∙ sym (ap₂ (λ (q a : ℕ). cond (ltb p q) (suppliedAt a (drop (i + 1) xs) p) left) price after)
 
-    pub looking-stop : getD (c .words) i 0 / unit ≤ p → SuppliedAt c s p left
+    pub looking-stop : getD words i 0 / unit ≤ p → SuppliedAt words count s p left
     looking-stop h = record {
       right = λ xs e l f.
-          sym (at-place xs e l f ∙ ap (λ (b : Bool). cond b (suppliedAt (getD (c .words) i 0 % unit) (drop (i + 1) xs) p) left) (le-ltb p (getD (c .words) i 0 / unit) h));
+          sym (at-place xs e l f ∙ ap (λ (b : Bool). cond b (suppliedAt (getD words i 0 % unit) (drop (i + 1) xs) p) left) (le-ltb p (getD words i 0 / unit) h));
     }
 
-    pub looking-next : i < 256 → p < getD (c .words) i 0 / unit → Looking (getD (c .words) i 0 % unit) (i + 1)
+    pub looking-next : i < 256 → p < getD words i 0 / unit → Looking (getD words i 0 % unit) (i + 1)
     looking-next m h = record {
       within = omega arith;
-      rest = λ xs e l f. sym (at-place xs e l f ∙ ap (λ (b : Bool). cond b (suppliedAt (getD (c .words) i 0 % unit) (drop (i + 1) xs) p) left) (lt-ltb p (getD (c .words) i 0 / unit) h));
+      rest = λ xs e l f. sym (at-place xs e l f ∙ ap (λ (b : Bool). cond b (suppliedAt (getD words i 0 % unit) (drop (i + 1) xs) p) left) (lt-ltb p (getD words i 0 / unit) h));
     }

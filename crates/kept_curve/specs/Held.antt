@@ -15,6 +15,10 @@ use Rattle.kept_curve.specs.declared.CurvePoint.{CurvePoint}
 abbrev pub wordOf : Point → ℕ
 wordOf x = x .price * 1099511627776 + x .after
 
+-- the curve in lent words, of which the first `count` are points
+abbrev pub curveOf : List ℕ → ℕ → Curve
+curveOf words count = record { words = words; count = count }
+
 unfoldable pub heldCurve : List Point → Curve
 heldCurve xs = record { words = padded 256 (map wordOf xs); count = length xs }
 
@@ -43,6 +47,6 @@ pointIn r = record { price = r .price; before = r .before; after = r .after }
 pub record PointAt (c : Curve) (first place : ℕ) (r : CurvePoint) : Type 0 where
   pub right : (xs : List Point) → c ≡ heldCurve xs → length xs ≤ 256 → Each Fits xs → Joined first xs → pointIn r ≡ getD xs place noPoint
 
--- the supply at a price, looked up
-pub record SuppliedAt (c : Curve) (first p r : ℕ) : Type 0 where
-  pub right : (xs : List Point) → c ≡ heldCurve xs → length xs ≤ 256 → Each Fits xs → r ≡ suppliedAt first xs p
+-- the supply at a price, looked up in the words of a curve
+pub record SuppliedAt (words : List ℕ) (count first p r : ℕ) : Type 0 where
+  pub right : (xs : List Point) → curveOf words count ≡ heldCurve xs → length xs ≤ 256 → Each Fits xs → r ≡ suppliedAt first xs p

@@ -3,7 +3,7 @@
 ghost use mathlib.Core.Path.{_≡_};
 ghost use mathlib.Core.List.{[]};
 ghost use Prim.Native.Nat.{_<_};
-ghost use Rattle.kept_curve.specs.Held.{heldCurve, Trimmed, WithPoint, supplyBefore, PointAt, SuppliedAt};
+ghost use Rattle.kept_curve.specs.Held.{curveOf, heldCurve, Trimmed, WithPoint, supplyBefore, PointAt, SuppliedAt};
 
 // The first `count` words are points: the price times 2^40, and the supply after it. Zeros stand behind them.
 pub struct Curve {
@@ -34,44 +34,38 @@ impl Curve {
         }
     }
 
-    // The curve without its last point, where that stands at p.
-    pub fn trimmed(self, p: u32) -> Curve
-        ensures { λ r. ⌜ Trimmed self p r ⌝ }
+    // The points without the last one, where that stands at p, in lent words: how many are left.
+    pub fn trim(words: &mut [u64; 256], count: usize, p: u32) -> usize
+        ensures { λ r. ⌜ Trimmed (curveOf (now (words .entry)) count) p (curveOf (now (words .exit)) r) ⌝ }
     {
-        let n = self.count;
-        if n < 1 {
-            return self;
+        if count < 1 {
+            return count;
         }
-        if Curve::MOST < n {
-            return self;
+        if Curve::MOST < count {
+            return count;
         }
-        if self.words[n - 1] / Curve::PRICE != p as u64 {
-            return self;
+        if words[count - 1] / Curve::PRICE != p as u64 {
+            return count;
         }
-        let mut next = self;
-        next.words[n - 1] = 0;
-        next.count = n - 1;
-        next
+        words[count - 1] = 0;
+        count - 1
     }
 
-    // The curve with one point more, as far as there is room.
-    pub fn with_point(self, price: u32, after: u64) -> Curve
-        ensures { λ r. ⌜ WithPoint self price after r ⌝ }
+    // The points and one more behind them, as far as there is room, in lent words: how many there are.
+    pub fn put_point(words: &mut [u64; 256], count: usize, price: u32, after: u64) -> usize
+        ensures { λ r. ⌜ WithPoint (curveOf (now (words .entry)) count) price after (curveOf (now (words .exit)) r) ⌝ }
     {
-        let n = self.count;
-        if Curve::MOST <= n {
-            return self;
+        if Curve::MOST <= count {
+            return count;
         }
         if checks::TOP_PRICE < price {
-            return self;
+            return count;
         }
         if Curve::PRICE <= after {
-            return self;
+            return count;
         }
-        let mut next = self;
-        next.words[n] = price as u64 * Curve::PRICE + after;
-        next.count = n + 1;
-        next
+        words[count] = price as u64 * Curve::PRICE + after;
+        count + 1
     }
 
     // The supply before the point at a place: `first` before the first one.
@@ -108,22 +102,22 @@ impl Curve {
             after: word % Curve::PRICE,
         }
     }
+}
 
-    // The supply at p, looked up: what is left after the lowest point above p; `first` is the supply before the first one.
-    pub fn supplied_at(self, first: u64, p: u32) -> u64
-        ensures { λ r. ⌜ SuppliedAt self first p r ⌝ }
-    {
-        let mut left = first;
-        for i in 0..Curve::MOST {
-            if self.count <= i {
-                return left;
-            }
-            let word = self.words[i];
-            if word / Curve::PRICE <= p as u64 {
-                return left;
-            }
-            left = word % Curve::PRICE;
+// The supply at p, looked up in the words of a curve: what is left after the lowest point above p; `first` is the supply before the first one.
+pub fn supplied_at(words: &[u64; 256], count: usize, first: u64, p: u32) -> u64
+    ensures { λ r. ⌜ SuppliedAt (now (words .entry)) count first p r ⌝ }
+{
+    let mut left = first;
+    for i in 0..Curve::MOST {
+        if count <= i {
+            return left;
         }
-        left
+        let word = words[i];
+        if word / Curve::PRICE <= p as u64 {
+            return left;
+        }
+        left = word % Curve::PRICE;
     }
+    left
 }

@@ -1,8 +1,10 @@
-// The closing price: the lowest covered price of those that the clock passed, found by halving.
+// The closing price: the lowest covered price of those that the clock passed, found by halving. Supply at a price is looked up in the supply
+// curve; where developers are taken out, it is the sum of the highs of the projects that remain.
 ghost use mathlib.Core.Path.{_≡_};
 ghost use Prim.Native.Nat.{_<_};
-ghost use Rattle.price.specs.Prices.{SupplyAt, CoveredAt, ClosingPrice, halvedAt};
-use auction::Auction;
+ghost use Rattle.price.specs.Prices.{ByCurve, ByHistories, CoveredAt, ClosingPrice, passedBy, halvedAt};
+use clock::Settings;
+use history::History;
 
 // The prices among which the lowest covered one lies: hi is covered or A, nothing below lo is covered.
 struct Bracket {
@@ -10,41 +12,14 @@ struct Bracket {
     hi: u32,
 }
 
-// The sum of these projects' highs at p. Where they are the whole auction's, it is looked up in the supply curve (document 02, 9), `first` being
-// the supply of the highest levels.
-fn supply_at(
-    auction: Auction,
-    projects: [u8; 32],
-    highest: [u32; 32],
-    whole: bool,
-    first: u64,
-    p: u32,
-) -> u64
-    ensures { λ r. ⌜ SupplyAt auction projects highest whole first p r ⌝ }
+// The prices that the clock passed: from the last C to A.
+fn passed(settings: Settings, closing: u32) -> Bracket
+    ensures { λ r. ⌜ r ≡ passedBy settings closing ⌝ }
 {
-    if whole {
-        let curve = auction.curve;
-        return curve.supplied_at(first, p);
+    Bracket {
+        lo: closing,
+        hi: settings.a,
     }
-    let histories = auction.histories;
-    let highs = lows::lows_at(histories, highest, lows::above(p));
-    supply::supply(projects, highs)
-}
-
-// Whether the sum of these projects' highs at p is at least Dem(p).
-pub fn covered_at(
-    auction: Auction,
-    projects: [u8; 32],
-    highest: [u32; 32],
-    whole: bool,
-    first: u64,
-    p: u32,
-) -> bool
-    ensures { λ r. ⌜ CoveredAt auction projects highest whole first p r ⌝ }
-{
-    let settings = auction.settings;
-    let demand = settings.demand_at(p);
-    demand <= supply_at(auction, projects, highest, whole, first, p)
 }
 
 fn halved(b: Bracket, mid: u32, covered: bool) -> Bracket
@@ -60,23 +35,63 @@ fn halved(b: Bracket, mid: u32, covered: bool) -> Bracket
     }
 }
 
-// P (document 01, Closing price and award) of these projects: the auction's, or with 0 in the place of a developer that is taken out.
+// Whether p is covered: supply at p, looked up in the supply curve (document 02, 9), is at least Dem(p). `first` is the supply of the highest
+// levels.
+fn covered_at(settings: Settings, words: &[u64; 256], count: usize, first: u64, p: u32) -> bool
+    ensures { λ r. ⌜ CoveredAt settings (ByCurve (now (words .entry)) count first) p r ⌝ }
+{
+    let demand = settings.demand_at(p);
+    demand <= kept_curve::supplied_at(words, count, first, p)
+}
+
+// P (document 01, Closing price and award).
 pub fn closing_price(
-    auction: Auction,
-    projects: [u8; 32],
-    highest: [u32; 32],
-    whole: bool,
+    settings: Settings,
+    closing: u32,
+    words: &[u64; 256],
+    count: usize,
     first: u64,
 ) -> u32
-    ensures { λ r. ⌜ ClosingPrice auction projects highest whole first r ⌝ }
+    ensures { λ r. ⌜ ClosingPrice settings closing (ByCurve (now (words .entry)) count first) r ⌝ }
 {
-    let mut b = Bracket {
-        lo: auction.closing,
-        hi: auction.settings.a,
-    };
+    let mut b = passed(settings, closing);
     while b.lo < b.hi {
         let mid = b.lo + (b.hi - b.lo) / 2;
-        let covered = covered_at(auction, projects, highest, whole, first, mid);
+        let covered = covered_at(settings, words, count, first, mid);
+        b = halved(b, mid, covered);
+    }
+    b.lo
+}
+
+// Whether p is covered by these projects alone: 0 stands in the place of a developer that is taken out.
+pub fn covered_by(
+    settings: Settings,
+    projects: [u8; 32],
+    histories: [History; 32],
+    highest: [u32; 32],
+    p: u32,
+) -> bool
+    ensures { λ r. ⌜ CoveredAt settings (ByHistories projects histories highest) p r ⌝ }
+{
+    let highs = lows::lows_at(histories, highest, lows::above(p));
+    let demand = settings.demand_at(p);
+    demand <= supply::supply(projects, highs)
+}
+
+// The closing price of these projects alone; A where no price is covered.
+pub fn price_by(
+    settings: Settings,
+    closing: u32,
+    projects: [u8; 32],
+    histories: [History; 32],
+    highest: [u32; 32],
+) -> u32
+    ensures { λ r. ⌜ ClosingPrice settings closing (ByHistories projects histories highest) r ⌝ }
+{
+    let mut b = passed(settings, closing);
+    while b.lo < b.hi {
+        let mid = b.lo + (b.hi - b.lo) / 2;
+        let covered = covered_by(settings, projects, histories, highest, mid);
         b = halved(b, mid, covered);
     }
     b.lo

@@ -17,10 +17,10 @@ use Rattle.rules.specs.Second.{lodgedApplied, takenOut, remaining, short}
 use Rattle.sound.specs.Sound.{Sound}
 use Rattle.clearing.specs.Second.{remaining-part, second-price, second-is-first, remaining-is}
 use Rattle.history.specs.declared.History.{History}
-use Rattle.auction.specs.Holds.{heldCourse, auctionOf}
+use Rattle.clock.specs.declared.Settings.{Settings}
+use Rattle.auction.specs.Holds.{heldCourse}
 use Rattle.courses.specs.Places.{Filling, filling-next, filling-all, numbered-length}
-use Rattle.auction.specs.declared.Auction.{Auction}
-use Rattle.price.specs.Prices.{HoldsPart, CoveredAt, ClosingPrice}
+use Rattle.price.specs.Prices.{ByHistories, CoveredAt, ClosingPrice}
 use Rattle.second_price.specs.Taken.{takenBy, NoneTaken, leftOf, Remain, SecondPrice}
 
 -- ---- one developer
@@ -124,32 +124,25 @@ remain-all projects kinds histories out i t w =
 
 -- ---- the price and the mark
 
-module _ (a : Auction) (firsts : List ℕ) (p : ℕ) where
+module _ (settings : Settings) (closing : ℕ) (projects kinds : List ℕ) (histories : List History) (firsts : List ℕ) (p : ℕ) where
   -- nobody is taken out: the first price, not short
-  pub second-first : (b : Bool) → b ≡ true → NoneTaken (a .kinds) (a .histories) b → SecondPrice a firsts p (record { price = p; short = false })
-  unfolding auctionOf
+  pub second-first : (b : Bool) → b ≡ true → NoneTaken kinds histories b → SecondPrice settings closing projects kinds histories firsts p (record { price = p; short = false })
   second-first b e n = record {
-    right = λ l s g h f q.
-        let k = second-is-first l s g (n .right e l (ap (λ (x : Auction). x .kinds) h) (ap (λ (x : Auction). x .histories) h)) in
-        (q ∙ sym (k .0), sym (k .1));
+    right = λ l s c j k h f q.
+        let w = second-is-first l (s .sound) (s .began) (n .right e l k h) in
+        (q ∙ sym (w .0), sym (w .1));
   }
 
-  pub second : (out : List ℕ) (r : ℕ) (c : Bool) → Remain (a .projects) (a .kinds) (a .histories) out → CoveredAt a out firsts false 0 (a .settings .a) c → ClosingPrice a out firsts false 0 r → SecondPrice a firsts p (record { price = r; short = not c })
-  unfolding short auctionOf
-  second out r c m k q = record {
-    right = λ l s b h f _.
-        let holds : HoldsPart a out firsts false 0 l (remaining l) = record {
-          sound = s;
-          began = b;
-          held = h;
-          firsts-are = f;
-          part = remaining-part l;
-          projects-are = m .right l s (ap (λ (x : Auction). x .projects) h) (ap (λ (x : Auction). x .kinds) h) (ap (λ (x : Auction). x .histories) h);
-          where-whole = λ e. absurd (clash e refl);
-        } in
-        let top : a .settings .a ≡ l .settings .a = ap (λ (x : Auction). x .settings .a) h in
-        let g = s .prices b in (
-          q .right l (remaining l) holds ∙ sym (second-price l s b),
-          ap not (k .right l (remaining l) holds (omega arith) (omega arith) ∙ ap (covered (remaining l)) top),
+  pub second :
+      (out : List ℕ) (r : ℕ) (t : Bool) → Remain projects kinds histories out → CoveredAt settings (ByHistories out histories firsts) (settings .a) t →
+      ClosingPrice settings closing (ByHistories out histories firsts) r → SecondPrice settings closing projects kinds histories firsts p (record { price = r; short = not t })
+  unfolding short
+  second out r t m v q = record {
+    right = λ l s c j k h f _.
+        let by : ByHistories out histories firsts l (remaining l) = record { histories-are = h; firsts-are = f; projects-are = m .right l (s .sound) j k h } in
+        let top : settings .a ≡ l .settings .a = ap (λ (x : Settings). x .a) (s .settings-are) in
+        let g = s .sound .prices (s .began) in (
+          q .right l (remaining l) s c (remaining-part l) by ∙ sym (second-price l (s .sound) (s .began)),
+          ap not (v .right l (remaining l) s (remaining-part l) by (omega arith) (omega arith) ∙ ap (covered (remaining l)) top),
         );
   }

@@ -1,4 +1,4 @@
--- What the functions to the second price ensure, for an auction that holds a sound ledger.
+-- What the functions to the second price ensure, over the arrays of a sound ledger.
 use Prim.Native.Nat.{ℕ}
 use mathlib.Core.Path.{_≡_}
 use mathlib.Core.Bool.{Bool, true, false, cond, not, _&&_}
@@ -7,10 +7,11 @@ use lib.Dec.{eqb}
 use Rattle.rules.specs.Ledger.{Ledger}
 use Rattle.rules.specs.Clearing.{highest, closingPrice, ofEach}
 use Rattle.rules.specs.Second.{takenOut, remaining, short, secondPrice}
-use Rattle.sound.specs.Sound.{Sound, started}
+use Rattle.sound.specs.Sound.{Sound}
 use Rattle.history.specs.declared.History.{History}
-use Rattle.auction.specs.Holds.{heldCourse, auctionOf}
-use Rattle.auction.specs.declared.Auction.{Auction}
+use Rattle.clock.specs.declared.Settings.{Settings}
+use Rattle.auction.specs.Holds.{heldCourse}
+use Rattle.price.specs.Prices.{HoldsSettings}
 use Rattle.second_price.specs.declared.Second.{Second}
 
 -- an existing plant with withdrawals is taken out
@@ -31,8 +32,8 @@ pub record Remain (projects kinds : List ℕ) (histories : List History) (r : Li
       (l : Ledger) → Sound l → projects ≡ ofEach (λ x. x .declared .project) l → kinds ≡ ofEach (λ x. x .declared .kind) l → histories ≡ ofEach heldCourse l →
       r ≡ ofEach (λ x. x .declared .project) (remaining l)
 
--- the second price and its mark, from the first price p
-pub record SecondPrice (a : Auction) (firsts : List ℕ) (p : ℕ) (r : Second) : Type 0 where
+-- the second price and its mark, from the first price p; `firsts` are the highest levels
+pub record SecondPrice (settings : Settings) (closing : ℕ) (projects kinds : List ℕ) (histories : List History) (firsts : List ℕ) (p : ℕ) (r : Second) : Type 0 where
   pub right :
-      (l : Ledger) → Sound l → started (l .phase) ≡ true → a ≡ auctionOf l → firsts ≡ ofEach highest l → p ≡ closingPrice l →
-      (r .price ≡ secondPrice l) × (r .short ≡ short l)
+      (l : Ledger) → HoldsSettings settings l → closing ≡ l .closing → projects ≡ ofEach (λ x. x .declared .project) l → kinds ≡ ofEach (λ x. x .declared .kind) l →
+      histories ≡ ofEach heldCourse l → firsts ≡ ofEach highest l → p ≡ closingPrice l → (r .price ≡ secondPrice l) × (r .short ≡ short l)

@@ -2,6 +2,7 @@
 ghost use mathlib.Core.Path.{_≡_};
 ghost use Rattle.second_price.specs.Taken.{takenBy, NoneTaken, leftOf, Remain, SecondPrice};
 use auction::Auction;
+use clock::Settings;
 use history::History;
 
 // The second price, and whether it is short: A is then not covered.
@@ -56,23 +57,27 @@ fn remaining_projects(projects: [u8; 32], kinds: [u8; 32], histories: [History; 
 
 // The lowest covered price passed with these projects taken out; A, and short, where A is then not covered. It is the first price p where
 // nobody is taken out.
-pub fn second_price(auction: Auction, highest: [u32; 32], p: u32) -> Second
-    ensures { λ r. ⌜ SecondPrice auction highest p r ⌝ }
+pub fn second_price(
+    settings: Settings,
+    closing: u32,
+    projects: [u8; 32],
+    kinds: [u8; 32],
+    histories: [History; 32],
+    highest: [u32; 32],
+    p: u32,
+) -> Second
+    ensures { λ r. ⌜ SecondPrice settings closing projects kinds histories highest p r ⌝ }
 {
-    let kinds = auction.kinds;
-    let histories = auction.histories;
     if none_taken_out(kinds, histories) {
         return Second {
             price: p,
             short: false,
         };
     }
-    let projects = auction.projects;
     let remaining = remaining_projects(projects, kinds, histories);
-    let a = auction.settings.a;
-    let covered = price::covered_at(auction, remaining, highest, false, 0, a);
+    let covered = price::covered_by(settings, remaining, histories, highest, settings.a);
     Second {
-        price: price::closing_price(auction, remaining, highest, false, 0),
+        price: price::price_by(settings, closing, remaining, histories, highest),
         short: !covered,
     }
 }

@@ -36,7 +36,7 @@ returns c =
     let h = c .before .before .before in
     let p = h .before .before .before in
     clears _ _ _ _
-    (p .before .before .highest-levels .ensures) (p .before .supply .ensures .0) (p .closing-price .ensures)
+    (p .before .before .before .highest-levels .ensures) (p .before .before .supply .ensures .0) (p .closing-price .ensures)
     (h .before .before .lows-at .ensures) (h .before .above .ensures) (h .lows-at2 .ensures)
     (c .before .before .second-price .ensures) (c .before .demand-at .ensures .0) (c .remainder-at .ensures)
 

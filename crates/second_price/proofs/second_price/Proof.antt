@@ -8,19 +8,19 @@ none-taken-out-requires : tie.Need-none-taken-out-requires
 none-taken-out-requires c κs = search needs
 
 returns : tie.Need-returns
-returns c = second-first _ _ _ _ (c .if1 .taken) (c .before .none-taken-out .ensures)
+returns c = second-first _ _ _ _ _ _ _ _ (c .if1 .taken) (c .before .none-taken-out .ensures)
 
 remaining-projects-requires : tie.Need-remaining-projects-requires
 remaining-projects-requires c κs = search needs
 
-covered-at-requires : tie.Need-covered-at-requires
-covered-at-requires c κs = search needs
+covered-by-requires : tie.Need-covered-by-requires
+covered-by-requires c κs = search needs
 
-closing-price-requires : tie.Need-closing-price-requires
-closing-price-requires c κs = search needs
+price-by-requires : tie.Need-price-by-requires
+price-by-requires c κs = search needs
 
 returns-2 : tie.Need-returns-2
-returns-2 c = second _ _ _ _ _ _ (c .before .before .remaining-projects .ensures) (c .before .covered-at .ensures) (c .closing-price .ensures)
+returns-2 c = second _ _ _ _ _ _ _ _ _ _ (c .before .before .remaining-projects .ensures) (c .before .covered-by .ensures) (c .price-by .ensures)
 
 pub second-price-spec : {M : Type 1} → statement M
 second-price-spec =
@@ -29,6 +29,6 @@ second-price-spec =
     none-taken-out-requires
     returns
     remaining-projects-requires
-    covered-at-requires
-    closing-price-requires
+    covered-by-requires
+    price-by-requires
     returns-2)

@@ -2,8 +2,8 @@
 use Rattle.kept_curve.proofs.Keeping.{trim-none, trim-too-long, trim-other, trim-last}
 use native.Mathlib.Omega.{arith}
 use borrow.Author.Needs.{needs}
-use Rattle.kept_curve.proofs.Curve.trimmed.Statement.{statement}
-use Rattle.kept_curve.proofs.Curve.trimmed.Tie as tie
+use Rattle.kept_curve.proofs.Curve.trim.Statement.{statement}
+use Rattle.kept_curve.proofs.Curve.trim.Tie as tie
 
 returns : tie.Need-returns
 returns c = trim-none _ _ (c .if1 .taken)
@@ -20,17 +20,17 @@ element-copy-out-if3 c = search needs
 returns-3 : tie.Need-returns-3
 returns-3 c = trim-other _ _ (let h = c .before .before .before .if1 .left in omega arith) (c .if3 .taken)
 
-mul-next : tie.Need-mul-next
-mul-next c = search needs
+mul-words : tie.Need-mul-words
+mul-words c = search needs
 
-element-write-next : tie.Need-element-write-next
-element-write-next c = search needs
+element-write-words : tie.Need-element-write-words
+element-write-words c = search needs
 
 returns-4 : tie.Need-returns-4
 returns-4 c = trim-last _ _ (let h = c .before .before .before .if1 .left in omega arith) (c .if3 .left)
 
-pub trimmed-spec : {M : Type 1} → statement M
-trimmed-spec =
+pub trim-spec : {M : Type 1} → statement M
+trim-spec =
     tie.close
     (tie.spec
     returns
@@ -38,6 +38,6 @@ trimmed-spec =
     mul-if3
     element-copy-out-if3
     returns-3
-    mul-next
-    element-write-next
+    mul-words
+    element-write-words
     returns-4)

@@ -2,20 +2,20 @@
 use Prim.Native.Nat.{_-_}
 use native.Mathlib.Omega.{arith}
 use Rattle.kept_curve.proofs.Keeping.{Looking, looking-first, looking-end, looking-all, looking-stop, looking-next}
-use Rattle.kept_curve.proofs.Curve.supplied_at.Statement.{statement}
-use Rattle.kept_curve.proofs.Curve.supplied_at.Tie as tie
+use Rattle.kept_curve.proofs.supplied_at.Statement.{statement}
+use Rattle.kept_curve.proofs.supplied_at.Tie as tie
 
 abbrev Inv-loop : tie.InvT-loop
-Inv-loop first p self left₀ i₀ left i = Looking self first p left i
+Inv-loop words count first p left₀ i₀ left i = Looking words count first p left i
 
 abbrev μ-loop : tie.MeasureT-loop
-μ-loop first p self left₀ i₀ left i = 256 - i
+μ-loop words count first p left₀ i₀ left i = 256 - i
 
 loop-holds : tie.Need-loop-holds Inv-loop μ-loop
-loop-holds c = looking-first _ _ _
+loop-holds c = looking-first _ _ _ _
 
 returns : tie.Need-returns Inv-loop μ-loop
-returns c = looking-end _ _ _ _ _ (c .before .before .loop .inv) (c .if1 .taken)
+returns c = looking-end _ _ _ _ _ _ (c .before .before .loop .inv) (c .if1 .taken)
 
 mul-word : tie.Need-mul-word Inv-loop μ-loop
 mul-word c = omega arith
@@ -24,7 +24,7 @@ element-copy-out-word : tie.Need-element-copy-out-word Inv-loop μ-loop
 element-copy-out-word c = omega arith
 
 returns-2 : tie.Need-returns-2 Inv-loop μ-loop
-returns-2 c = looking-stop _ _ _ _ _ (c .before .before .before .before .loop .inv) (c .before .before .if1 .left) (c .if2 .taken)
+returns-2 c = looking-stop _ _ _ _ _ _ (c .before .before .before .before .loop .inv) (c .before .before .if1 .left) (c .if2 .taken)
 
 add-i : tie.Need-add-i Inv-loop μ-loop
 add-i c = omega arith
@@ -33,10 +33,10 @@ loop-less : tie.Need-loop-less Inv-loop μ-loop
 loop-less c = omega arith
 
 loop-again : tie.Need-loop-again Inv-loop μ-loop
-loop-again c = looking-next _ _ _ _ _ (c .before .before .before .before .loop .inv) (c .before .before .if1 .left) (omega arith) (c .if2 .left)
+loop-again c = looking-next _ _ _ _ _ _ (c .before .before .before .before .loop .inv) (c .before .before .if1 .left) (omega arith) (c .if2 .left)
 
 returns-3 : tie.Need-returns-3 Inv-loop μ-loop
-returns-3 c = looking-all _ _ _ _ _ (c .before .loop .inv) (omega arith)
+returns-3 c = looking-all _ _ _ _ _ _ (c .before .loop .inv) (omega arith)
 
 pub supplied-at-spec : {M : Type 1} → statement M
 supplied-at-spec =
