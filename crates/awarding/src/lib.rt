@@ -25,9 +25,11 @@ pub fn winners(
     while i < 32 {
         let k = projects[i] as usize;
         let v = awarded(award, k);
-        let levels = declared[i];
-        if may_get(levels, lows[i], highs[i], v) {
-            best[k - 1] = preferred(studies, days, best[k - 1], i);
+        if 0 < v {
+            let levels = declared[i];
+            if may_get(levels, lows[i], highs[i], v) {
+                best[k - 1] = preferred(studies, days, best[k - 1], i);
+            }
         }
         i += 1;
     }

@@ -25,7 +25,7 @@ fn row_is_laid(levels: &[u32; 288], at: usize, end: usize) -> bool
 }
 
 // Whether the table holds 32 rows, none empty, each as above.
-pub fn is_laid(levels: &[u32; 288], ends: &[usize; 32]) -> bool
+pub fn is_laid<'a>(levels: &'a [u32; 288], ends: &'a [usize; 32]) -> bool
     requires { ⌜ Long (now levels) (now ends) ⌝ }
     ensures { λ r. ⌜ Tells r (Laid (now (levels .entry)) 0 (now (ends .entry))) ⌝ }
 {

@@ -21,5 +21,8 @@ module _ (f : ℕ → ℕ) (sum i : ℕ) (s : Summing f sum i) where
   pub summing-next : (x : ℕ) → i < 32 → x < 4294967296 → x ≡ f (suc i) → Summing f (sum + x) (i + 1)
   summing-next x h w e = record { within = omega arith; small = omega arith; part = rw add-one (omega (arith, s .part, total-numbers-more f i)) }
 
+  pub summing-none : i < 32 → 0 ≡ f (suc i) → Summing f sum (i + 1)
+  summing-none h e = record { within = omega arith; small = omega arith; part = rw add-one (omega (arith, s .part, total-numbers-more f i)) }
+
   pub summing-end : 32 ≤ i → (sum ≡ total (map f (oneTo 32))) × (sum ≤ 137438953472)
   summing-end h = let e : i ≡ 32 = let k = s .within in omega arith in (s .part ∙ ap (λ (n : ℕ). total (map f (oneTo n))) e, omega arith)

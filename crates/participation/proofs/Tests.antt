@@ -20,3 +20,10 @@ both true true v e f = f ∙ e
 both true false v e f = f
 both false true v e f = f ∙ e
 both false false v e f = f
+
+-- what counts nothing by the first test counts nothing by both
+pub neither : (s t : Bool) (v : ℕ) → 0 ≡ cond s v 0 → 0 ≡ cond (s && t) v 0
+neither true true v e = e
+neither true false v e = refl
+neither false true v e = refl
+neither false false v e = refl

@@ -7,7 +7,7 @@ ghost use lib.Dec.{eqb};
 ghost use Rattle.numbers.specs.Numbered.{atNumber};
 ghost use Rattle.participation.specs.Judged.{isNewBy, existingLevels, isSmallBy, insufficientBy, paidBy};
 
-// Whether twice the new award given to small agents is below the whole new award.
+// Whether twice the new award given to small agents is below the whole new award. Where nothing new is awarded no agent is judged.
 pub fn insufficient(
     d: u64,
     agents: [u8; 32],
@@ -24,9 +24,11 @@ pub fn insufficient(
     while i < 32 {
         let winner = winners[i];
         let level = new_level(kinds, winner, award[i]);
-        let small = small_level(d, agents, kinds, highest, winner, level);
-        new_award = new_award + level as u64;
-        to_small = to_small + small as u64;
+        if 0 < level {
+            let small = small_level(d, agents, kinds, highest, winner, level);
+            new_award = new_award + level as u64;
+            to_small = to_small + small as u64;
+        }
         i += 1;
     }
     2 * to_small < new_award

@@ -19,7 +19,7 @@ use Rattle.rows_behind.specs.Behind.{Orders, rowsBehind, EachBehind, Beh
 use Rattle.rows_behind.specs.InOrder.{number-at, from-cons, from-none, from-few, from-fits}
 
 -- one more is stored at place k
-stored : (f : List (List ℕ) → ℕ) (levels ends order out : List ℕ) (k x : ℕ) → length out ≡ 32 → k < 32 → x ≡ f (rowsBehind levels ends order k) →
+pub stored : (f : List (List ℕ) → ℕ) (levels ends order out : List ℕ) (k x : ℕ) → length out ≡ 32 → k < 32 → x ≡ f (rowsBehind levels ends order k) →
     EachBehind f levels ends order out (k + 1) → EachBehind f levels ends order (set out k x) k
 stored f levels ends order out k x l h e b j g i =
     ⊎-elim
@@ -28,6 +28,16 @@ stored f levels ends order out k x l h e b j g i =
     let d : k ≡ j = omega arith in
     subst (λ (m : ℕ). getD (set out k x) m 0 ≡ f (rowsBehind levels ends order m)) d (getD-set-same out k x 0 (omega arith) ∙ e))
     (le-or-lt (k + 1) j)
+
+-- the row at place i multiplies the choices of those behind it by its length
+pub count-here : {levels ends order : List ℕ} → LaidOut levels ends → Orders levels ends order → (i : ℕ) → i < 32 →
+    let k = getD order i 0 in
+    count (rowsBehind levels ends order i) * (getD ends k 0 - startOf ends k) ≡ count (map (rowIn levels ends) (drop i order))
+count-here {levels} {ends} {order} t o i h =
+    let k : ℕ = getD order i 0 in
+    mul-comm (count (rowsBehind levels ends order i)) (getD ends k 0 - startOf ends k)
+    ∙ ap (λ (m : ℕ). m * count (rowsBehind levels ends order i)) (sym (row-length t k (number-at t o i h)))
+    ∙ sym (ap count (from-cons t o i h) ∙ count-row (rowIn levels ends k) (rowsBehind levels ends order i))
 
 -- the loop below place i: what the rows from i on have
 pub record Looking (levels ends order ways lows highs : List ℕ) (n low high i : ℕ) : Type 0 where
@@ -83,11 +93,7 @@ module _ {levels ends order : List ℕ} (t : LaidOut levels ends) (o : Orders le
     looking-row = let h = number-at t o i row in let b = row-ends t k h in (h, b .0, b .1)
 
     n-here : n * (end - start) ≡ count (map (rowIn levels ends) (drop i order))
-    n-here =
-        ap (λ (m : ℕ). m * (end - start)) (l .n-is)
-        ∙ mul-comm (count (rowsBehind levels ends order i)) (end - start)
-        ∙ ap (λ (m : ℕ). m * count (rowsBehind levels ends order i)) (sym (row-length t k (looking-row .0)))
-        ∙ sym (ap count here ∙ count-row (rowIn levels ends k) (rowsBehind levels ends order i))
+    n-here = ap (λ (m : ℕ). m * (end - start)) (l .n-is) ∙ count-here t o i row
 
     low-here : low + getD levels start 0 ≡ lowestTotal (map (rowIn levels ends) (drop i order))
     low-here = omega (arith, l .low-is, ap lowestTotal here, lowest-total-cons (rowIn levels ends k) (rowsBehind levels ends order i), row-low t k (looking-row .0))

@@ -10,7 +10,15 @@ use Rattle.placing.specs.Numbers.{numbersFrom, in-numbers}
 use Rattle.table.specs.Rows.{rowsIn}
 use Rattle.table.specs.Places.{LaidOut}
 use Rattle.table.specs.PlaceLaws.{rows-numbered}
-use Rattle.rows_behind.specs.Behind.{Orders}
+use Rattle.rows_behind.specs.Behind.{Orders, EachBehind}
+
+-- a table that is laid out and has few enough choices
+abbrev pub FewChoices : List ℕ → List ℕ → Type 0
+FewChoices levels ends = LaidOut levels ends × (count (rowsIn levels 0 ends) ≤ 65536)
+
+-- strides that number the choices of every such table with these ends as they are listed
+abbrev pub Numbers : List ℕ → List ℕ → Type 0
+Numbers ends strides = (levels : List ℕ) → FewChoices levels ends → EachBehind count levels ends (numbersFrom 0 32) strides 0
 
 pub number-is : (k n i : ℕ) → i < n → getD (numbersFrom k n) i 0 ≡ k + i
 unfolding numbersFrom

@@ -19,7 +19,7 @@ use Rattle.rows_behind.specs.Behind.{Orders}
 
 -- ---- sums of rows whose levels are at most 10^9
 
-low-fits : (row : List ℕ) → RowLaid row → lowOf row ≤ 1000000000
+pub low-fits : (row : List ℕ) → RowLaid row → lowOf row ≤ 1000000000
 low-fits [] r = zero-le
 low-fits (v ∷ vs) r = r .1 v (List·Memᴰ·head refl)
 

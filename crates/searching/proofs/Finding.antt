@@ -30,11 +30,12 @@ use Rattle.ordering.specs.Ranks.{searchOrder}
 use Rattle.rows_behind.specs.Behind.{Orders, Behind}
 use Rattle.tally.specs.Tally.{more}
 use Rattle.tally.specs.TallyLaws.{keeping, more-case, more-above}
-use Rattle.searching.specs.Going.{offered, strided, left, Ready}
+use Rattle.searching.specs.Going.{offered, strided, left, Passed, Ready}
 use Rattle.searching.specs.Searches.{Searchable, Searches}
-use Rattle.rows_behind.specs.InOrder.{high-fits, number-at, order-cons, from-cons, from-each, from-levels, from-fits}
+use Rattle.rows_behind.specs.InOrder.{high-fits, number-at, from-cons, from-each, from-levels, from-few, from-fits}
 use Rattle.searching.proofs.Orders.{top, numbers-order, strides-small, in-order, ordered, ordered-rows-are, same-choices}
 use Rattle.searching.proofs.Tallying.{through-covers}
+use Rattle.searching.proofs.Passing.{passed-through}
 
 -- none found yet: no total is above its
 abbrev pub none : Found
@@ -200,36 +201,34 @@ module _ {levels ends strides : List ℕ} (q : Searchable levels ends strides) (
       some-levels : Each (λ row. 0 < length row) rows
       some-levels = each-row (λ row. 0 < length row) (row-some (q .table))
 
-  -- ---- from the first place of the order on
+  -- ---- from the first place of the order on, or a later one behind rows with one level
 
   module _ {order : List ℕ} (o : order ≡ searchOrder levels ends) where
     pub find-order : Orders levels ends order
     find-order = rw o (in-order q)
 
-    abbrev first : ℕ
-    first = getD order 0 0
+    module _ {i base : ℕ} (p : Passed levels ends order i base) where
+      abbrev first : ℕ
+      first = getD order i 0
 
-    pub first-number : first < 32
-    first-number = number-at (q .table) find-order 0 (omega arith)
+      pub first-number : first < 32
+      first-number = number-at (q .table) find-order i (p .place)
 
-    pub find-ready : {ways lows highs : List ℕ} → Behind levels ends order ways lows highs 0 →
-        Ready levels ends order strides ways lows highs 0 (startOf ends first) 0 0 none
-    find-ready b = record {
-      table = q .table;
-      orders = find-order;
-      behind = b;
-      small = strides-small q;
-      place = omega arith;
-      inside = row-ends (q .table) first first-number .0;
-      row = row-laid (q .table) first first-number;
-      base-fits = omega arith;
-      index-fits = omega arith;
-      room = omega (arith, ap count (from-cons (q .table) find-order 0 (omega arith)), find-order .few);
-      fewer = omega arith;
-    }
+      pub find-ready : {ways lows highs : List ℕ} → Behind levels ends order ways lows highs 0 →
+          Ready levels ends order strides ways lows highs i (startOf ends first) base 0 none
+      find-ready b = record {
+        table = q .table;
+        orders = find-order;
+        behind = b;
+        small = strides-small q;
+        place = p .place;
+        inside = row-ends (q .table) first first-number .0;
+        row = row-laid (q .table) first first-number;
+        base-fits = p .base-fits;
+        index-fits = zero-le;
+        room = omega (arith, ap count (from-cons (q .table) find-order i (p .place)), from-few (q .table) find-order i (omega (arith, p .place)));
+        fewer = omega arith;
+      }
 
-    pub find-searches : (r : Found) → r ≡ through (offered d) (left levels ends order strides 0 (startOf ends first)) 0 0 none → Searches d rows r
-    find-searches r e =
-        let l : left levels ends order strides 0 (startOf ends first) ≡ ordered q =
-        ap (map (strided levels ends strides)) (sym (order-cons (q .table) find-order 0 (omega arith)) ∙ o) in
-        rw (e, l) searches
+      pub find-searches : (r : Found) → r ≡ through (offered d) (left levels ends order strides i (startOf ends first)) base 0 none → Searches d rows r
+      find-searches r e = rw (e, passed-through (q .table) find-order p (offered d) strides none, o) searches

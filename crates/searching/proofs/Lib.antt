@@ -1,4 +1,5 @@
 mod Tallying
 mod Exploring
 mod Orders
+mod Passing
 mod Finding

@@ -1,10 +1,13 @@
 -- Going through choices with a tally: how many cover, how many of these are kept, and the best of them, by its total and its place.
 use Prim.Native.Nat.{ℕ, _+_, _*_, _≤_, _<_}
+use mathlib.Core.Path.{_≡_}
 use mathlib.Core.Bool.{cond}
 use mathlib.Core.List.{List, _∷_, map}
 use lib.Dec.{leb}
-use lib.ListN.{drop, getD}
+use lib.ListN.{length, take, drop, getD}
 use Rattle.numbers.specs.Lists.{part}
+use Rattle.numbers.specs.ListLaws.{Each}
+use Rattle.choices.specs.Search.{lowestTotal}
 use Rattle.choices.specs.Numbered.{count}
 use Rattle.choices.specs.Through.{Strided}
 use Rattle.table.specs.Places.{RowLaid, LaidOut, rowIn}
@@ -23,6 +26,13 @@ strided levels ends strides k = (getD strides k 0, rowIn levels ends k)
 abbrev pub left : List ℕ → List ℕ → List ℕ → List ℕ → ℕ → ℕ → List Strided
 left levels ends order strides i at =
     (getD strides (getD order i 0) 0, part levels at (getD ends (getD order i 0) 0)) ∷ map (strided levels ends strides) (drop (i + 1) order)
+
+-- the rows before place i of the order have one level each, of the total base
+pub record Passed (levels ends order : List ℕ) (i base : ℕ) : Type 0 where
+  pub place : i < 32
+  pub single : Each (λ k. length (rowIn levels ends k) ≡ 1) (take i order)
+  pub sum : base ≡ lowestTotal (map (rowIn levels ends) (take i order))
+  pub base-fits : base ≤ i * 1000000000
 
 -- where going through what is left may begin, with the total base of the rows before and the place index
 pub record Ready (levels ends order strides ways lows highs : List ℕ) (i at base index : ℕ) (found : Found) : Type 0 where

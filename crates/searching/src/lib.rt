@@ -3,7 +3,9 @@
 ghost use mathlib.Core.Path.{_≡_};
 ghost use Rattle.choices.specs.Through.{through};
 ghost use Rattle.table.specs.Rows.{rowsIn};
-ghost use Rattle.searching.specs.Going.{offered, left, Ready};
+ghost use Rattle.table.specs.Places.{LaidOut};
+ghost use Rattle.rows_behind.specs.Behind.{Orders};
+ghost use Rattle.searching.specs.Going.{offered, left, Passed, Ready};
 ghost use Rattle.searching.specs.Searches.{Searchable, Searches};
 use tally::Found;
 
@@ -81,11 +83,42 @@ fn explore(
     )
 }
 
+// Where going into the rows begins: a place of the order, and the total of the rows before it.
+struct Start {
+    place: usize,
+    base: u64,
+}
+
+// Past the rows with one level, which stand first in the order and leave nothing to choose; the last row is not passed.
+fn past_single(levels: &[u32; 288], ends: &[usize; 32], order: &[usize; 32]) -> Start
+    requires { ⌜ LaidOut (now levels) (now ends) × Orders (now levels) (now ends) (now order) ⌝ }
+    ensures { λ r. ⌜ Passed (now (levels .entry)) (now (ends .entry)) (now (order .entry)) (r .place) (r .base) ⌝ }
+{
+    let mut base: u64 = 0;
+    let mut place: usize = 0;
+    while place < 31 {
+        let k = order[place];
+        let at = ordering::start_of(ends, k);
+        let end = ends[k];
+        if at + 1 < end {
+            return Start { place, base };
+        }
+        base += levels[at] as u64;
+        place += 1;
+    }
+    Start { place, base }
+}
+
 // The total of nothing found: more than any choice's.
 const NO_TOTAL: u64 = 18_446_744_073_709_551_615;
 
 // The search from nothing found on. The strides say how far two neighbouring levels of a row stand apart in the list of all choices.
-pub fn find(levels: &[u32; 288], ends: &[usize; 32], strides: &[u64; 32], demand: u64) -> Found
+pub fn find<'a>(
+    levels: &'a [u32; 288],
+    ends: &'a [usize; 32],
+    strides: &[u64; 32],
+    demand: u64,
+) -> Found
     requires { ⌜ Searchable (now levels) (now ends) (now strides) ⌝ }
     ensures { λ r. ⌜ Searches demand (rowsIn (now (levels .entry)) 0 (now (ends .entry))) r ⌝ }
 {
@@ -100,7 +133,10 @@ pub fn find(levels: &[u32; 288], ends: &[usize; 32], strides: &[u64; 32], demand
         total: NO_TOTAL,
         index: 0,
     };
-    let first = ordering::start_of(ends, order[0]);
+    let start = past_single(levels, ends, &order);
+    let place = start.place;
+    let base = start.base;
+    let first = ordering::start_of(ends, order[place]);
     explore(
         levels,
         ends,
@@ -109,10 +145,10 @@ pub fn find(levels: &[u32; 288], ends: &[usize; 32], strides: &[u64; 32], demand
         &ways,
         &lows,
         &highs,
-        0,
+        place,
         first,
         demand,
-        0,
+        base,
         0,
         none,
     )

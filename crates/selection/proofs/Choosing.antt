@@ -3,7 +3,7 @@ use Prim.Native.Nat.{ℕ, _+_, _-_, _*_, _/_, _%_, _≤_, _<_, zero-le}
 use mathlib.Core.Path.{_≡_, sym, ap, _∙_}
 use mathlib.Core.List.{List, [], _∷_, _++_, map, append-assoc, append-nil}
 use native.Mathlib.Omega.{arith}
-use native.Mathlib.Nat.{zero-add, mod-lt, div-add-mod', div-lt-iff-lt-mul}
+use native.Mathlib.Nat.{add-zero, zero-add, mod-lt, mod-eq-of-lt, div-eq-of-lt, div-add-mod', div-lt-iff-lt-mul}
 use native.Mathlib.Numerals.{add-one}
 use lib.ListN.{length, take, drop, getD, set, length-set}
 use lib.Seq.{take-all, take-suc-set, getD-take, getD-drop}
@@ -94,3 +94,14 @@ module _ {levels ends ways : List ℕ} (q : Searchable levels ends ways) where
                 ∙ ap (λ (x : List ℕ). take i award ++ x) e
                 ∙ (let a : i < length award = omega (arith, c .long) in rw (add-one i, take-suc-set award i v a, append-assoc));
           }
+
+      -- a place below n is under the first level, and the place behind
+      module _ (first : rank < n) where
+        no-level : startOf ends i + rank / n ≡ startOf ends i
+        no-level = rw (div-eq-of-lt first) (add-zero (startOf ends i))
+
+        pub first-there : startOf ends i < 288
+        first-there = omega (arith, level-there, no-level)
+
+        pub choosing-low : Choosing levels ends choice (set award i (getD levels (startOf ends i) 0)) rank (i + 1)
+        choosing-low = rw (no-level, mod-eq-of-lt first) at choosing-again

@@ -10,13 +10,11 @@ use borrow.Author.Tests.{le-leb, lt-leb}
 use Rattle.numbers.specs.Cases.{le-or-lt, clash}
 use Rattle.choices.specs.Choices.{choices, covering}
 use Rattle.choices.specs.Numbered.{count}
-use Rattle.placing.specs.Numbers.{numbersFrom}
 use Rattle.table.specs.Rows.{rowsIn, Lays}
 use Rattle.table.specs.Places.{Laid, LaidOut}
 use Rattle.table.specs.declared.Table.{Table}
 use Rattle.counting.specs.Counted.{Tells, CountedTo}
-use Rattle.rows_behind.specs.Behind.{Orders, EachBehind}
-use Rattle.rows_behind.specs.ByNumber.{by-number}
+use Rattle.rows_behind.specs.ByNumber.{FewChoices, Numbers}
 use Rattle.searching.specs.Searches.{Searchable, Searches}
 use Rattle.tally.specs.declared.Found.{Found}
 use Rattle.selection.specs.declared.Selected.{Selected}
@@ -59,11 +57,11 @@ module _ {t : Table} {limit n : ℕ} (k : Counted t limit n) where
     within : count rows ≤ limit
     within = ⊎-elim (λ j. j) (λ j. absurd (omega (arith, k .counts .over (t .levels) (k .table .long .0) j))) (le-or-lt (count rows) limit)
 
-    pub numbers-order : Orders (t .levels) (t .ends) (numbersFrom 0 32)
-    numbers-order = by-number (k .table) (omega (arith, within, k .capped))
+    pub few-choices : FewChoices (t .levels) (t .ends)
+    few-choices = (k .table, omega (arith, within, k .capped))
 
-    pub searchable : (strides : List ℕ) → EachBehind count (t .levels) (t .ends) (numbersFrom 0 32) strides 0 → Searchable (t .levels) (t .ends) strides
-    searchable strides s = record { table = k .table; few = omega (arith, within, k .capped); numbers = s }
+    pub searchable : (strides : List ℕ) → Numbers (t .ends) strides → Searchable (t .levels) (t .ends) strides
+    searchable strides s = record { table = k .table; few = few-choices .1; numbers = s (t .levels) few-choices }
 
     pub chosen : (d : ℕ) {f : Found} {award : List ℕ} → Searches d rows f → award ≡ getD (choices rows) (f .index) [] →
         Selects t d limit (record { number = 0; choices = n; covering = f .covering; kept = f .kept; total = f .total; award = award })

@@ -38,62 +38,22 @@ impl Selected {
     }
 }
 
-// The rows of a table by number: in this order the choices are listed.
-const BY_NUMBER: [usize; 32] = [
-    0,
-    1,
-    2,
-    3,
-    4,
-    5,
-    6,
-    7,
-    8,
-    9,
-    10,
-    11,
-    12,
-    13,
-    14,
-    15,
-    16,
-    17,
-    18,
-    19,
-    20,
-    21,
-    22,
-    23,
-    24,
-    25,
-    26,
-    27,
-    28,
-    29,
-    30,
-    31,
-];
-
 // The numbers of choices, of covering ones and of kept ones, and the best one: least total, ties to the larger level at the first project where
 // they differ. The limit is capped by then.
 pub fn select(t: Table, demand: u64, limit: u64) -> Selected
     requires { ⌜ limit ≤ 65536 ⌝ }
     ensures { λ r. ⌜ Selects t demand limit r ⌝ }
 {
-    let levels = t.levels;
-    let ends = t.ends;
-    if !counting::is_laid(&levels, &ends) {
+    if !counting::is_laid(&t.levels, &t.ends) {
         return Selected::refused(2);
     }
-    let counted = counting::count_choices(&ends, limit);
+    let counted = counting::count_choices(&t.ends, limit);
     if limit < counted {
         return Selected::refused(10);
     }
-    let numbers = BY_NUMBER;
-    let behind = rows_behind::look_behind(&levels, &ends, &numbers);
-    let strides = behind.ways;
-    let found = searching::find(&levels, &ends, &strides, demand);
-    let award = choice_at(&levels, &ends, &strides, found.index);
+    let strides = rows_behind::strides_of(&t.ends);
+    let found = searching::find(&t.levels, &t.ends, &strides, demand);
+    let award = choice_at(&t.levels, &t.ends, &strides, found.index);
     Selected {
         number: 0,
         choices: counted,
@@ -104,8 +64,14 @@ pub fn select(t: Table, demand: u64, limit: u64) -> Selected
     }
 }
 
-// The choice at a place among all of them, level by level: as many choices as the rows behind have stand together under one level.
-fn choice_at(levels: &[u32; 288], ends: &[usize; 32], ways: &[u64; 32], index: u64) -> [u32; 32]
+// The choice at a place among all of them, level by level: as many choices as the rows behind have stand together under one level. A place below
+// that number has the row's first level and is the place behind it: always so in a row with one level.
+fn choice_at<'a>(
+    levels: &'a [u32; 288],
+    ends: &'a [usize; 32],
+    ways: &[u64; 32],
+    index: u64,
+) -> [u32; 32]
     requires { ⌜ Searchable (now levels) (now ends) (now ways) × (index < count (rowsIn (now levels) 0 (now ends))) ⌝ }
     ensures { λ r. ⌜ r ≡ getD (choices (rowsIn (now (levels .entry)) 0 (now (ends .entry)))) index [] ⌝ }
 {
@@ -115,6 +81,11 @@ fn choice_at(levels: &[u32; 288], ends: &[usize; 32], ways: &[u64; 32], index: u
     while i < 32 {
         let n = ways[i];
         let first = ordering::start_of(ends, i);
+        if rank < n {
+            award[i] = levels[first];
+            i += 1;
+            continue;
+        }
         let level = (rank / n) as usize;
         award[i] = levels[first + level];
         rank = rank % n;

@@ -6,6 +6,7 @@ use native.Mathlib.Omega.{arith}
 use lib.ListN.{getD}
 use borrow.Author.Needs.{needs}
 use Rattle.awarding.specs.Choosing.{mayGet}
+use Rattle.awarding.proofs.Preferring.{no-level}
 use Rattle.awarding.proofs.Winning.{Winning, winning-first, gets, gets-place, winning-kept, winning-stored, winning-end}
 use Rattle.awarding.proofs.winners.Statement.{statement}
 use Rattle.awarding.proofs.winners.Tie as tie
@@ -19,19 +20,20 @@ abbrev μ-loop : tie.MeasureT-loop
 -- the test of the branch
 tested :
     (c : tie.After-may-get Inv-loop μ-loop) →
-    let a = c .before .before .before .before .before .args in
-    c .may-get .result ≡ gets (a .t1) (a .t4) (a .t5) (a .t6) (a .award) (c .before .before .before .before .loop .i)
-tested c = c .may-get .ensures ∙ ap (mayGet _ _ _) (c .before .before .awarded .ensures)
+    let a = c .before .before .before .before .before .before .args in
+    c .may-get .result ≡ gets (a .t1) (a .t4) (a .t5) (a .t6) (a .award) (c .before .before .before .before .before .loop .i)
+tested c = c .may-get .ensures ∙ ap (mayGet _ _ _) (c .before .before .before .awarded .ensures)
 
 -- the project of a developer that passes
 place :
-    (c : tie.Then1 Inv-loop μ-loop) →
-    let k = getD (c .before .before .before .before .before .before .args .t1) (c .before .before .before .before .before .loop .i) 0 in
+    (c : tie.Then2 Inv-loop μ-loop) →
+    let l = c .before .before .before .before .before .before in
+    let k = getD (l .before .args .t1) (l .loop .i) 0 in
     (1 ≤ k) × (k ≤ 32)
 place c =
-    let a = c .before .before .before .before .before .before .args in
-    let l = c .before .before .before .before .before .loop in
-    gets-place (a .t1) (a .t4) (a .t5) (a .t6) (a .award) (l .i) (l .inv .levels) (sym (tested (c .before)) ∙ c .if1 .taken)
+    let l = c .before .before .before .before .before .before in
+    let a = l .before .args in
+    gets-place (a .t1) (a .t4) (a .t5) (a .t6) (a .award) (l .loop .i) (l .loop .inv .levels) (sym (tested (c .before)) ∙ c .if2 .taken)
 
 loop-holds : tie.Need-loop-holds Inv-loop μ-loop
 loop-holds c = winning-first _ _ _ _ _ _ _ (search needs)
@@ -74,8 +76,8 @@ array-read-preferred c = omega (arith, place c)
 
 preferred-requires : tie.Need-preferred-requires Inv-loop μ-loop
 preferred-requires c κs =
-    let l = c .before .before .before .before .before .loop in
-    (l .inv .small _ (omega (arith, place c)), c .before .before .before .before .loop-test .taken)
+    let turn = c .before .before .before .before .before in
+    (turn .before .loop .inv .small _ (omega (arith, place c)), turn .loop-test .taken)
 
 sub-best : tie.Need-sub-best Inv-loop μ-loop
 sub-best c = place (c .before) .0
@@ -91,11 +93,14 @@ loop-less c = search needs
 
 loop-again : tie.Need-loop-again Inv-loop μ-loop
 loop-again c =
-    let l = c .before .before .before .before .before .loop in
-    let h = c .before .before .before .before .loop-test .taken in
+    let l = c .before .before .before .loop in
+    let h = c .before .before .loop-test .taken in
+    let level = c .before .awarded .ensures in
     ⊎-elim
-    (λ w. rw (w .2) (winning-stored _ _ _ _ _ _ _ _ _ (l .inv) h (w .1 .result) (sym (tested (c .before)) ∙ w .0 .taken) (w .1 .ensures)))
-    (λ w. rw (w .1) (winning-kept _ _ _ _ _ _ _ _ _ (l .inv) h (sym (tested (c .before)) ∙ w .0 .left)))
+    (λ w. rw (w .5) (winning-stored _ _ _ _ _ _ _ _ _ (l .inv) h (w .4 .result) (sym (w .2 .ensures ∙ ap (mayGet _ _ _) level) ∙ w .3 .taken) (w .4 .ensures)))
+    (⊎-elim
+    (λ w. rw (w .4) (winning-kept _ _ _ _ _ _ _ _ _ (l .inv) h (sym (w .2 .ensures ∙ ap (mayGet _ _ _) level) ∙ w .3 .left)))
+    (λ w. rw (w .1) (winning-kept _ _ _ _ _ _ _ _ _ (l .inv) h (sym (no-level _ _ _ _ (omega (arith, level, w .0 .left)))))))
     (c .if1 .came)
 
 returns : tie.Need-returns Inv-loop μ-loop

@@ -1,13 +1,15 @@
 -- `insufficient`: the loop keeps what of the first i levels is new, and what of that is given to small agents.
 use Prim.Native.Nat.{ℕ, _-_, _*_}
-use mathlib.Core.Path.{ap₂}
+use mathlib.Core.Path.{_≡_, ap₂, _∙_}
+use mathlib.Core.Logic.{⊎-elim}
+use native.Mathlib.Omega.{arith}
 use borrow.Author.Needs.{needs}
 use lib.Dec.{ltb}
 use lib.ListN.{getD}
 use Rattle.numbers.specs.Numbered.{atNumber}
 use Rattle.participation.specs.Judged.{isSmallBy, isNewBy, isNewToSmall, levelTo, awardedTo, insufficientBy}
-use Rattle.participation.proofs.Summing.{Summing, summing-first, summing-next, summing-end}
-use Rattle.participation.proofs.Tests.{both}
+use Rattle.participation.proofs.Summing.{Summing, summing-first, summing-next, summing-none, summing-end}
+use Rattle.participation.proofs.Tests.{both, neither}
 use Rattle.participation.proofs.insufficient.Statement.{statement}
 use Rattle.participation.proofs.insufficient.Tie as tie
 
@@ -62,8 +64,17 @@ loop-again c =
     let h = c .before .before .loop-test .taken in
     let new = c .before .new-level .ensures in
     let winner = getD (a .t6) (l .i) 0 in
-    let small = both (isNewBy (a .kinds) winner) (isSmallBy (a .d) (a .agents) (a .kinds) (a .highest) (atNumber (a .agents) winner)) _ new (c .small-level .ensures) in
-    (summing-next _ _ _ (l .inv .0) _ h (search needs) new, summing-next _ _ _ (l .inv .1) _ h (search needs) small)
+    let isNew = isNewBy (a .kinds) winner in
+    let isSmall = isSmallBy (a .d) (a .agents) (a .kinds) (a .highest) (atNumber (a .agents) winner) in
+    ⊎-elim
+    (λ w. rw (w .2, w .3) (
+      summing-next _ _ _ (l .inv .0) _ h (search needs) new,
+      summing-next _ _ _ (l .inv .1) _ h (search needs) (both isNew isSmall _ new (w .1 .ensures)),
+    ))
+    (λ w.
+    let none : 0 ≡ c .before .new-level .result = omega (arith, w .0 .left) in
+    rw (w .1, w .2) (summing-none _ _ _ (l .inv .0) h (none ∙ new), summing-none _ _ _ (l .inv .1) h (neither isNew isSmall _ (none ∙ new))))
+    (c .if1 .came)
 
 mul-result : tie.Need-mul-result Inv-loop μ-loop
 mul-result c = search needs

@@ -1,4 +1,5 @@
--- `choice_at` parts the place row by row: the quotient by the number of choices behind is the level, the remainder the place behind.
+-- `choice_at` parts the place row by row: the quotient by the number of choices behind is the level, the remainder the place behind. Below that
+-- number the quotient is 0 and the place is its own remainder.
 use Prim.Native.Nat.{_-_}
 use mathlib.Core.Path.{refl}
 use mathlib.Core.List.{[]}
@@ -6,7 +7,7 @@ use native.Mathlib.Omega.{arith}
 use lib.ListN.{getD}
 use Rattle.choices.specs.Choices.{choices}
 use Rattle.table.specs.Rows.{rowsIn}
-use Rattle.selection.proofs.Choosing.{Choosing, choosing-first, n-some, level-there, choosing-again, choosing-end}
+use Rattle.selection.proofs.Choosing.{Choosing, choosing-first, n-some, level-there, choosing-again, first-there, choosing-low, choosing-end}
 use Rattle.selection.proofs.choice_at.Statement.{statement}
 use Rattle.selection.proofs.choice_at.Tie as tie
 
@@ -32,37 +33,75 @@ element-copy-out-n c = c .loop-test .taken
 start-of-requires : tie.Need-start-of-requires Inv-loop μ-loop
 start-of-requires c κs = c .before .before .loop .inv .within
 
-div-level : tie.Need-div-level Inv-loop μ-loop
-div-level c = let e = turn c in n-some (e .before .before .pre .0) (e .before .loop .inv) (e .loop-test .taken)
-
-add-award : tie.Need-add-award Inv-loop μ-loop
-add-award c = let e = turn c in omega (arith, c .start-of .ensures, level-there (e .before .before .pre .0) (e .before .loop .inv) (e .loop-test .taken))
+-- ---- the first level
 
 mul-award : tie.Need-mul-award Inv-loop μ-loop
-mul-award c = let e = turn c in omega (arith, c .start-of .ensures, level-there (e .before .before .pre .0) (e .before .loop .inv) (e .loop-test .taken))
+mul-award c =
+    let e = turn (c .before) in
+    omega (arith, c .before .start-of .ensures, first-there (e .before .before .pre .0) (e .before .loop .inv) (e .loop-test .taken) (c .if1 .taken))
 
 element-copy-out-award : tie.Need-element-copy-out-award Inv-loop μ-loop
-element-copy-out-award c = let e = turn c in rw (c .start-of .ensures) (level-there (e .before .before .pre .0) (e .before .loop .inv) (e .loop-test .taken))
+element-copy-out-award c =
+    let e = turn (c .before) in
+    rw (c .before .start-of .ensures) (first-there (e .before .before .pre .0) (e .before .loop .inv) (e .loop-test .taken) (c .if1 .taken))
 
 mul-award-2 : tie.Need-mul-award-2 Inv-loop μ-loop
-mul-award-2 c = omega (arith, turn (c .before) .loop-test .taken)
+mul-award-2 c = omega (arith, turn (c .before .before) .loop-test .taken)
 
 array-write-award : tie.Need-array-write-award Inv-loop μ-loop
-array-write-award c = turn (c .before) .loop-test .taken
-
-rem-rank : tie.Need-rem-rank Inv-loop μ-loop
-rem-rank c = let e = turn (c .before) in n-some (e .before .before .pre .0) (e .before .loop .inv) (e .loop-test .taken)
+array-write-award c = turn (c .before .before) .loop-test .taken
 
 add-i : tie.Need-add-i Inv-loop μ-loop
-add-i c = omega (arith, turn (c .before) .loop-test .taken)
+add-i c = omega (arith, turn (c .before .before) .loop-test .taken)
 
 loop-less : tie.Need-loop-less Inv-loop μ-loop
-loop-less c = omega (arith, turn (c .before) .loop-test .taken)
+loop-less c = omega (arith, turn (c .before .before) .loop-test .taken)
 
 loop-again : tie.Need-loop-again Inv-loop μ-loop
 loop-again c =
+    let e = turn (c .before .before) in
+    rw (c .before .before .start-of .ensures)
+    (choosing-low (e .before .before .pre .0) (e .before .loop .inv) (e .loop-test .taken) (c .before .if1 .taken))
+
+-- ---- a level by the quotient
+
+div-level : tie.Need-div-level Inv-loop μ-loop
+div-level c = let e = turn (c .before) in n-some (e .before .before .pre .0) (e .before .loop .inv) (e .loop-test .taken)
+
+add-award : tie.Need-add-award Inv-loop μ-loop
+add-award c =
     let e = turn (c .before) in
-    rw (c .before .start-of .ensures) (choosing-again (e .before .before .pre .0) (e .before .loop .inv) (e .loop-test .taken))
+    omega (arith, c .before .start-of .ensures, level-there (e .before .before .pre .0) (e .before .loop .inv) (e .loop-test .taken))
+
+mul-award-3 : tie.Need-mul-award-3 Inv-loop μ-loop
+mul-award-3 c =
+    let e = turn (c .before) in
+    omega (arith, c .before .start-of .ensures, level-there (e .before .before .pre .0) (e .before .loop .inv) (e .loop-test .taken))
+
+element-copy-out-award-2 : tie.Need-element-copy-out-award-2 Inv-loop μ-loop
+element-copy-out-award-2 c =
+    let e = turn (c .before) in
+    rw (c .before .start-of .ensures) (level-there (e .before .before .pre .0) (e .before .loop .inv) (e .loop-test .taken))
+
+mul-award-4 : tie.Need-mul-award-4 Inv-loop μ-loop
+mul-award-4 c = omega (arith, turn (c .before .before) .loop-test .taken)
+
+array-write-award-2 : tie.Need-array-write-award-2 Inv-loop μ-loop
+array-write-award-2 c = turn (c .before .before) .loop-test .taken
+
+rem-rank : tie.Need-rem-rank Inv-loop μ-loop
+rem-rank c = let e = turn (c .before .before) in n-some (e .before .before .pre .0) (e .before .loop .inv) (e .loop-test .taken)
+
+add-i-2 : tie.Need-add-i-2 Inv-loop μ-loop
+add-i-2 c = omega (arith, turn (c .before .before) .loop-test .taken)
+
+loop-less-2 : tie.Need-loop-less-2 Inv-loop μ-loop
+loop-less-2 c = omega (arith, turn (c .before .before) .loop-test .taken)
+
+loop-again-2 : tie.Need-loop-again-2 Inv-loop μ-loop
+loop-again-2 c =
+    let e = turn (c .before .before) in
+    rw (c .before .before .start-of .ensures) (choosing-again (e .before .before .pre .0) (e .before .loop .inv) (e .loop-test .taken))
 
 returns : tie.Need-returns Inv-loop μ-loop
 returns c = choosing-end (c .before .before .pre .0) (c .before .loop .inv) (c .loop-test .left)
@@ -77,14 +116,21 @@ choice-at-spec =
     mul-n
     element-copy-out-n
     start-of-requires
-    div-level
-    add-award
     mul-award
     element-copy-out-award
     mul-award-2
     array-write-award
-    rem-rank
     add-i
     loop-less
     loop-again
+    div-level
+    add-award
+    mul-award-3
+    element-copy-out-award-2
+    mul-award-4
+    array-write-award-2
+    rem-rank
+    add-i-2
+    loop-less-2
+    loop-again-2
     returns)
