@@ -20,31 +20,28 @@ fn is_hex(c: u8) -> bool
     c <= 70
 }
 
-// Whether all bytes are.
+// Whether all bytes are. No branch ends it early: so several bytes are tested at once.
 pub fn all_hex(line: &[u8]) -> bool
     ensures { λ r. ⌜ r ≡ allHex (now (line .entry)) ⌝ }
 {
+    let mut all = true;
     let mut i: usize = 0;
     while i < line.len() {
-        if !is_hex(line[i]) {
-            return false;
-        }
+        all = all & is_hex(line[i]);
         i += 1;
     }
-    true
+    all
 }
 
-// The value of a digit; some number below 16 of any other byte.
+// The value of a digit; some number below 16 of any other byte. No branch tells letters from 0-9: which comes next cannot be foreseen.
 pub fn value_of(c: u8) -> u64
     ensures { λ r. ⌜ r ≡ valueOf c ⌝ }
 {
     if c < 48 {
         return 0;
     }
-    if c <= 57 {
-        return (c - 48) as u64;
-    }
-    ((c - 55) % 16) as u64
+    let letter = (57 < c) as u64;
+    (c as u64 + 9 * letter) % 16
 }
 
 // The number that at most 16 digits stand for.

@@ -1,58 +1,59 @@
--- Looking for the row of a kind: the rows behind a place have it, if it was not among those before. The rows in the code are the format's, coded.
-use Prim.Native.Nat.{ℕ, _+_, _≤_, _<_}
+-- What the code's table has of each kind is what the format's has: lists indexed by kind, compared as antt computes them. A kind behind them has nothing.
+use Prim.Native.Nat.{ℕ, zero, suc, _+_, _≤_, _<_}
 use mathlib.Core.Path.{_≡_, refl, sym, ap, _∙_}
-use mathlib.Core.List.{List, map}
-use native.Mathlib.Numerals.{add-one}
+use mathlib.Core.Bool.{true}
+use mathlib.Core.List.{List, [], _∷_}
 use native.Mathlib.Omega.{arith}
-use borrow.Author.Tests.{eq-eqb, ne-eqb}
-use lib.ListN.{length, drop, getD, length-map, drop-of-length-le, List·getD-map}
-use lib.Seq.{drop-cons}
-use Rattle.numbers.specs.Lists.{any, padded}
+use native.Mathlib.Nat.{zero-add}
+use borrow.Author.Tests.{ne-eqb, ltb-true}
+use lib.Dec.{ltb}
+use lib.ListN.{getD}
+use Rattle.numbers.specs.Cases.{and-true}
+use Rattle.numbers.specs.Lists.{any, all, padded}
 use Rattle.format.specs.Fields as format
 use Rattle.format.specs.Fields.{noRow, tableRowIn}
 use Rattle.format.specs.Fields.{tableRows, known, fixed, each}
-use Rattle.format.specs.TableLaws.{row-here, row-kind}
+use Rattle.format.specs.TableLaws.{row-kind}
 use Rattle.field_table.specs.declared.Row.{Row}
 use Rattle.field_table.specs.Shapes.{Tabled}
 
--- a row whose widths a 0 ends
-abbrev pub coded : format.Row → Row
-coded r = record { 0 = r .kind; 1 = padded 9 (r .widths); 2 = r .repeated }
+-- what f has of n kinds from k on
+abbrev pub ofKinds : {A : Type 0} → (ℕ → A) → ℕ → ℕ → List A
+ofKinds f k zero = []
+ofKinds f k (suc n) = f k ∷ ofKinds f (suc k) n
 
-pub tabled : (k : ℕ) (r : Row) → r ≡ coded (tableRowIn tableRows k) → Tabled k r
-unfolding known fixed each any
-tabled k r e = record { kind = ap (λ (q : Row). q .0) e ∙ row-kind tableRows k; widths = ap (λ (q : Row). q .1) e; follow = ap (λ (q : Row). q .2) e }
+of-kind : {A : Type 0} (f : ℕ → A) (n k i : ℕ) (d : A) → i < n → getD (ofKinds f k n) i d ≡ f (k + i)
+of-kind f zero k i d h = absurd (omega arith)
+of-kind f (suc n) k zero d h = let e : k ≡ k + 0 = omega arith in ap f e
+of-kind f (suc n) k (suc i) d h = let e : suc k + i ≡ k + suc i = omega arith in of-kind f n (suc k) i d (omega arith) ∙ ap f e
 
-pub record Looking (rs : List format.Row) (k i : ℕ) : Type 0 where
-  pub inside : i ≤ length rs
-  pub left : tableRowIn (drop i rs) k ≡ tableRowIn rs k
+-- the law of each list of the table: where it is f's of the ten kinds, it has at each kind's place what f has of the kind
+pub table-at : {A : Type 0} (f : ℕ → A) (xs : List A) (k : ℕ) (d : A) → xs ≡ ofKinds f 0 10 → k < 10 → getD xs k d ≡ f k
+table-at f xs k d e h = ap (λ l. getD l k d) e ∙ of-kind f 10 0 k d h ∙ ap f (zero-add k)
 
-module _ (rs : List format.Row) (k : ℕ) where
-  pub looking-first : Looking rs k 0
-  looking-first = record { inside = omega arith; left = refl }
+-- a kind above those of all rows has none
+row-none : (rs : List format.Row) (n k : ℕ) → all (λ r. ltb (r .kind) n) rs ≡ true → n ≤ k → tableRowIn rs k ≡ noRow
+unfolding all
+row-none [] n k e h = refl
+row-none (r ∷ rs) n k e h =
+    let b = and-true (ltb (r .kind) n) (all (λ q. ltb (q .kind) n) rs) e in
+    let f : r .kind ≡ k → ⊥ = λ q. omega (arith, ltb-true (r .kind) n (b .0)) in
+    rw (ne-eqb (r .kind) k f) (row-none rs n k (b .1) h)
 
-  -- the coded row at a place, whatever stands for those past the end
-  row-at : (i : ℕ) (d : Row) → i < length rs → getD (map coded rs) i d ≡ coded (getD rs i noRow)
-  row-at i d h =
-      let g : i < length (map coded rs) = omega (arith, length-map rs coded) in
-      let e : getD (map coded rs) i d ≡ getD (map coded rs) i (coded noRow) =
-      cc (drop-cons (map coded rs) i d g, drop-cons (map coded rs) i (coded noRow) g) in
-      e ∙ List·getD-map coded rs i noRow
+module _ (k : ℕ) (r : Row) where
+  tabled : r .kind ≡ tableRowIn tableRows k .kind → r .widths ≡ padded 8 (tableRowIn tableRows k .widths) → r .each ≡ tableRowIn tableRows k .repeated → Tabled k r
+  unfolding known fixed each any
+  tabled e w f = record { kind = e ∙ row-kind tableRows k; widths = w; follow = f }
 
-  module _ (i : ℕ) (l : Looking rs k i) (d : Row) (h : i < length rs) where
-    kind-at : getD (map coded rs) i d .0 ≡ getD rs i noRow .kind
-    kind-at = ap (λ (r : Row). r .0) (row-at i d h)
+  -- each kind below 10 has its own row
+  pub tabled-here : k < 10 → r .kind ≡ k → r .widths ≡ padded 8 (tableRowIn tableRows k .widths) → r .each ≡ tableRowIn tableRows k .repeated → Tabled k r
+  tabled-here h e w f =
+      let own : k ≡ tableRowIn tableRows k .kind =
+      sym (of-kind (λ (j : ℕ). j) 10 0 k 0 h ∙ zero-add k) ∙ table-at (λ (j : ℕ). tableRowIn tableRows j .kind) (ofKinds (λ (j : ℕ). j) 0 10) k 0 refl h in
+      tabled (e ∙ own) w f
 
-    pub looking-found : getD (map coded rs) i d .0 ≡ k → getD (map coded rs) i d ≡ coded (tableRowIn rs k)
-    looking-found e =
-        let f : tableRowIn (drop i rs) k ≡ getD rs i noRow = row-here rs i k h ∙ rw (eq-eqb (getD rs i noRow .kind) k (sym kind-at ∙ e)) in
-        row-at i d h ∙ ap coded (sym f ∙ l .left)
-
-    pub looking-next : (getD (map coded rs) i d .0 ≡ k → ⊥) → Looking rs k (i + 1)
-    looking-next n =
-        let f : tableRowIn (drop i rs) k ≡ tableRowIn (drop (i + 1) rs) k =
-        rw add-one (row-here rs i k h ∙ rw (ne-eqb (getD rs i noRow .kind) k (λ e. n (kind-at ∙ e)))) in
-        record { inside = omega arith; left = sym f ∙ l .left }
-
-  pub looking-end : (i : ℕ) → Looking rs k i → length rs ≤ i → coded noRow ≡ coded (tableRowIn rs k)
-  looking-end i l h = ap coded (ap (λ (qs : List format.Row). tableRowIn qs k) (sym (drop-of-length-le rs {i = i} h)) ∙ l .left)
+  pub tabled-none : 10 ≤ k → r .kind ≡ 0 → r .widths ≡ padded 8 [] → r .each ≡ 0 → Tabled k r
+  unfolding all
+  tabled-none h e w f =
+      let z : tableRowIn tableRows k ≡ noRow = row-none tableRows 10 k refl h in
+      tabled (e ∙ ap (λ (q : format.Row). q .kind) (sym z)) (w ∙ ap (λ (q : format.Row). padded 8 (q .widths)) (sym z)) (f ∙ ap (λ (q : format.Row). q .repeated) (sym z))

@@ -15,19 +15,19 @@ use Rattle.numbers.specs.Lists.{total, all}
 use Rattle.format.specs.Fields.{Row, tableRows, listed, tableRowIn, fixed, each, count, repeats}
 use Rattle.format.specs.TableLaws.{row-passes}
 
--- at most 8 fixed fields, of 1 to 16 digits; at most 2 follow for each one that a last fixed field of 2 digits counts
+-- at most 7 fixed fields, of 1 to 16 digits; at most 2 follow for each one that a last fixed field of 2 digits counts
 
 narrow : ℕ → Bool
 narrow w = leb 1 w && leb w 16
 
 fitting : Row → Bool
 fitting r =
-    leb (length (r .widths)) 8 && all narrow (r .widths) && leb (total (r .widths)) 128 && leb (r .repeated) 2
+    leb (length (r .widths)) 7 && all narrow (r .widths) && leb (total (r .widths)) 128 && leb (r .repeated) 2
     && (eqb (r .repeated) 0 || (leb 1 (length (r .widths)) && leb (getD (r .widths) (length (r .widths) - 1) listed) 2))
 
 -- of widths and how many fields follow
 pub record Fitting (ws : List ℕ) (n : ℕ) : Type 0 where
-  pub few : length ws ≤ 8
+  pub few : length ws ≤ 7
   pub digits : total ws ≤ 128
   pub positive : (j : ℕ) → j < length ws → 1 ≤ getD ws j 0
   pub small : (j : ℕ) → getD ws j 0 ≤ 16

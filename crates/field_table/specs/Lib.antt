@@ -1,3 +1,4 @@
 pub mod Shapes
 pub mod Fitting
+pub mod RowLaws
 pub mod ShapeLaws

@@ -11,14 +11,12 @@ use Rattle.field_table.specs.declared.Shape.{Shape}
 
 -- the row of a kind, whose own kind is 0 where the table has none
 pub record Tabled (k : ℕ) (r : Row) : Type 0 where
-  pub kind : r .0 ≡ cond (known k) k 0
-  pub widths : r .1 ≡ padded 9 (fixed k)
-  pub follow : r .2 ≡ each k
+  pub kind : r .kind ≡ cond (known k) k 0
+  pub widths : r .widths ≡ padded 8 (fixed k)
+  pub follow : r .each ≡ each k
 
 -- its shape
 pub record Shaped (k : ℕ) (s : Shape) : Type 0 where
-  pub kind : s .kind ≡ cond (known k) k 0
   pub many : s .fixed ≡ length (fixed k)
   pub span : s .span ≡ total (fixed k)
-  pub follow : s .each ≡ each k
   pub widths : s .widths ≡ fixed k ++ replicate (32 - length (fixed k)) listed

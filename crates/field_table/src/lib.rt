@@ -2,25 +2,25 @@
 ghost use mathlib.Core.Path.{_≡_};
 ghost use Prim.Native.Nat.{_≤_};
 ghost use lib.ListN.{length};
-ghost use Rattle.format.specs.Fields.{repeats};
+ghost use Rattle.format.specs.Fields.{fixed, repeats};
 ghost use Rattle.field_table.specs.Shapes.{Tabled, Shaped};
 
-// The fields of a frame kind: the kind, the widths of its fixed fields, which a 0 ends, and how many fields follow for each one that the last of
-// them counts.
-struct Row(usize, [usize; 9], usize);
-
-// THE TABLE: a row for each kind.
-const ROWS: [Row; 9] = [
-    Row(1, [8, 10, 10, 10, 8, 0, 0, 0, 0], 0), // 01 set-up: CE, D, M1, M2, A
-    Row(2, [2, 2, 2, 8, 8, 2, 0, 0, 0], 1), // 02 registration: project, developer, kind, study, day, count; levels
-    Row(3, [8, 0, 0, 0, 0, 0, 0, 0, 0], 0), // 03 open: C
-    Row(4, [2, 2, 0, 0, 0, 0, 0, 0, 0], 2), // 04 offer: developer, count; steps of price and level
-    Row(5, [0, 0, 0, 0, 0, 0, 0, 0, 0], 0), // 05 close
-    Row(6, [8, 0, 0, 0, 0, 0, 0, 0, 0], 0), // 06 settle: limit
-    Row(7, [2, 2, 0, 0, 0, 0, 0, 0, 0], 2), // 07 lodging: developer, count; steps of price and level
-    Row(8, [2, 2, 2, 2, 8, 8, 2, 0, 0], 1), // 08 registration with its agent: project, developer, kind, agent, study, day, count; levels
-    Row(9, [2, 0, 0, 0, 0, 0, 0, 0, 0], 0), // 09 cancellation: developer
+// THE TABLE, indexed by kind: the widths of its fixed fields, which a 0 ends. There is no kind 0.
+const WIDTHS: [[u8; 8]; 10] = [
+    [0, 0, 0, 0, 0, 0, 0, 0],
+    [8, 10, 10, 10, 8, 0, 0, 0], // 01 set-up: CE, D, M1, M2, A
+    [2, 2, 2, 8, 8, 2, 0, 0], // 02 registration: project, developer, kind, study, day, count; levels
+    [8, 0, 0, 0, 0, 0, 0, 0], // 03 open: C
+    [2, 2, 0, 0, 0, 0, 0, 0], // 04 offer: developer, count; steps of price and level
+    [0, 0, 0, 0, 0, 0, 0, 0], // 05 close
+    [8, 0, 0, 0, 0, 0, 0, 0], // 06 settle: limit
+    [2, 2, 0, 0, 0, 0, 0, 0], // 07 lodging: developer, count; steps of price and level
+    [2, 2, 2, 2, 8, 8, 2, 0], // 08 registration with its agent: project, developer, kind, agent, study, day, count; levels
+    [2, 0, 0, 0, 0, 0, 0, 0], // 09 cancellation: developer
 ];
+
+// How many fields follow for each one that the last fixed field counts, indexed by kind: levels one by one, steps by price and level.
+const EACH: [u8; 10] = [0, 0, 1, 0, 2, 0, 0, 2, 1, 0];
 
 // The width of each field that follows the fixed ones.
 pub const LISTED: usize = 8;
@@ -28,62 +28,67 @@ pub const LISTED: usize = 8;
 // The most characters of a line.
 pub const LONGEST_LINE: usize = 160;
 
-// The row of a kind; where the table has none, one of kind 0 and no fields.
-fn row_of(kind: usize) -> Row
-    ensures { λ r. ⌜ Tabled kind r ⌝ }
-{
-    let mut i: usize = 0;
-    while i < ROWS.len() {
-        let row = ROWS[i];
-        if row.0 == kind {
-            return row;
-        }
-        i += 1;
-    }
-    Row(0, [0; 9], 0)
+// What the table has of a kind; where it has none, the kind is 0, and there are no fields.
+pub struct Row {
+    pub kind: usize,
+    pub widths: [u8; 8],
+    pub each: usize,
 }
 
-// The widths of a frame kind's fields: those of its fixed fields, then `LISTED` to the end; how many fixed fields there are and how many digits they
-// have in all; how many fields follow for each one that the last of them counts. The kind is 0 where the table has none.
+pub fn row_of(kind: usize) -> Row
+    ensures { λ r. ⌜ Tabled kind r ⌝ }
+{
+    if WIDTHS.len() <= kind {
+        return Row {
+            kind: 0,
+            widths: [0; 8],
+            each: 0,
+        };
+    }
+    let widths = WIDTHS[kind];
+    Row {
+        kind: kind,
+        widths: widths,
+        each: EACH[kind] as usize,
+    }
+}
+
+// How many fixed fields a row has, how many digits they have in all, and the widths of 32 fields: those of the fixed ones, then `LISTED` to the end.
 pub struct Shape {
-    pub kind: usize,
     pub fixed: usize,
     pub span: usize,
-    pub each: usize,
     pub widths: [usize; 32],
 }
 
-pub fn shape_of(kind: usize) -> Shape
-    ensures { λ r. ⌜ Shaped kind r ⌝ }
+pub fn shape_of(row: Row) -> Shape
+    requires { ⌜ Tabled (row .kind) row ⌝ }
+    ensures { λ r. ⌜ Shaped (row .kind) r ⌝ }
 {
-    let row = row_of(kind);
-    let fixed = row.1;
+    let fixed = row.widths;
     let mut widths: [usize; 32] = [LISTED; 32];
     let mut count: usize = 0;
     let mut span: usize = 0;
     while fixed[count] != 0 {
-        let w = fixed[count];
+        let w = fixed[count] as usize;
         widths[count] = w;
         span += w;
         count += 1;
     }
     Shape {
-        kind: row.0,
         fixed: count,
         span: span,
-        each: row.2,
         widths: widths,
     }
 }
 
-// How many fields follow the fixed ones: so many for each one that the last of those counts.
-pub fn repeated(shape: Shape, fields: &[u64]) -> usize
-    requires { ⌜ Shaped (shape .kind) shape × (shape .fixed ≤ length (now fields)) × (repeats (shape .kind) (now fields) ≤ 512) ⌝ }
-    ensures { λ r. ⌜ r ≡ repeats (shape .kind) (now (fields .entry)) ⌝ }
+// How many fields follow the n fixed ones of a row: so many for each one that the last of those counts.
+pub fn repeated(row: Row, n: usize, fields: &[u64]) -> usize
+    requires { ⌜ Tabled (row .kind) row × (n ≡ length (fixed (row .kind))) × (n ≤ length (now fields)) × (repeats (row .kind) (now fields) ≤ 512) ⌝ }
+    ensures { λ r. ⌜ r ≡ repeats (row .kind) (now (fields .entry)) ⌝ }
 {
-    if shape.each == 0 {
+    if row.each == 0 {
         return 0;
     }
-    let last = shape.fixed - 1;
-    shape.each * fields[last] as usize
+    let last = n - 1;
+    row.each * fields[last] as usize
 }

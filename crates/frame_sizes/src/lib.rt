@@ -41,10 +41,11 @@ fn fields_fit(widths: &[usize], fields: &[u64]) -> bool
 pub fn frame_size(kind: usize, fields: &[u64]) -> usize
     ensures { λ r. ⌜ r ≡ frameSize (rawCall kind (now (fields .entry))) ⌝ }
 {
-    let shape = field_table::shape_of(kind);
-    if shape.kind == 0 {
+    let row = field_table::row_of(kind);
+    if row.kind == 0 {
         return 0;
     }
+    let shape = field_table::shape_of(row);
     let n = fields.len();
     if 32 < n {
         return 0;
@@ -56,7 +57,7 @@ pub fn frame_size(kind: usize, fields: &[u64]) -> usize
     if !fields_fit(&widths[..n], fields) {
         return 0;
     }
-    let more = field_table::repeated(shape, fields);
+    let more = field_table::repeated(row, shape.fixed, fields);
     if n != shape.fixed + more {
         return 0;
     }

@@ -49,7 +49,7 @@ fn put_line(kind: usize, fields: &[u64], out: &mut [u8])
     requires { ⌜ (writable (rawCall kind (now fields)) ≡ true) × (length (lineOf (rawCall kind (now fields))) ≤ length (now out)) ⌝ }
     ensures { λ _. ⌜ now (out .exit) ≡ laid (lineOf (rawCall kind (now (fields .entry)))) (now (out .entry)) ⌝ }
 {
-    let shape = field_table::shape_of(kind);
+    let shape = field_table::shape_of(field_table::row_of(kind));
     let widths = shape.widths;
     let n = fields.len();
     field_writing::put_hex(out, kind as u64, 2);

@@ -1,15 +1,16 @@
 // Frames (document 01, Frames): the call of a line by the table of field widths.
 // The contracts are equations with the definitions of the crate `format`.
 ghost use mathlib.Core.Path.{_≡_};
-ghost use Prim.Native.Nat.{ℕ, _+_, _≤_};
-ghost use lib.ListN.{length, getD, take, drop, replicate};
-ghost use Rattle.numbers.specs.Lists.{total};
-ghost use Rattle.format.specs.Fields.{fixed, repeats, fieldsAt, read};
-ghost use Rattle.field_table.specs.Shapes.{Shaped};
+ghost use mathlib.Core.List.{_++_};
+ghost use Prim.Native.Nat.{_+_, _*_, _≤_};
+ghost use lib.ListN.{length, take, drop, replicate};
+ghost use Rattle.format.specs.Fields.{listed, fieldsAt, read};
+ghost use Rattle.field_table.specs.Shapes.{Tabled};
 ghost use Rattle.frames.specs.Decoded.{callIn, Zero};
+ghost use Rattle.frames.specs.Reached.{Reaches};
 use field_table::LISTED;
 use field_table::LONGEST_LINE;
-use field_table::Shape;
+use field_table::Row;
 
 // A frame that was read: its kind, or 0 of a malformed line, and its fields, of which there are `count`.
 pub struct Frame {
@@ -34,31 +35,46 @@ fn malformed() -> Frame
     }
 }
 
-// The numbers that stand at the first n widths behind the kind.
-fn read_fields(line: &[u8], widths: [usize; 32], n: usize) -> [u64; 32]
-    requires { ⌜ (n ≤ 32) × (2 + total (take n widths) ≤ length (now line)) × ((j : ℕ) → getD widths j 0 ≤ 16) ⌝ }
-    ensures { λ r. ⌜ take n r ≡ fieldsAt (take n widths) (drop 2 (now (line .entry))) ⌝ }
-{
-    let mut fields = no_fields();
-    let mut at: usize = 2;
-    let mut j: usize = 0;
-    while j < n {
-        let w = widths[j];
-        fields[j] = field_reading::field(line, at, w);
-        at += w;
-        j += 1;
-    }
-    fields
+// How far the fixed fields of a line reach: how many there are and where they end; the end is 0 where the line is too short for them.
+struct Reach {
+    count: usize,
+    end: usize,
 }
 
-// How many fields follow the fixed ones in a line.
-fn repeated(line: &[u8], shape: Shape) -> usize
-    requires { ⌜ Shaped (shape .kind) shape × (2 + shape .span ≤ length (now line)) ⌝ }
-    ensures { λ r. ⌜ (r ≡ repeats (shape .kind) (fieldsAt (fixed (shape .kind)) (drop 2 (now (line .entry))))) × (r ≤ 512) ⌝ }
+// The fixed fields of a line, read by the row of its kind, at the start of the lent array.
+fn read_fixed(line: &[u8], row: Row, fields: &mut [u64; 32]) -> Reach
+    requires { ⌜ Tabled (row .kind) row × (2 ≤ length (now line)) × (length (now fields) ≡ 32) ⌝ }
+    ensures { λ r. ⌜ Reaches (row .kind) (now (line .entry)) (now (fields .exit)) r ⌝ }
 {
-    let widths = shape.widths;
-    let first = read_fields(line, widths, shape.fixed);
-    field_table::repeated(shape, &first)
+    let len = line.len();
+    let widths = row.widths;
+    let mut at: usize = 2;
+    let mut n: usize = 0;
+    while widths[n] != 0 {
+        let w = widths[n] as usize;
+        if len - at < w {
+            return Reach { count: n, end: 0 };
+        }
+        fields[n] = field_reading::field(line, at, w);
+        at += w;
+        n += 1;
+    }
+    Reach { count: n, end: at }
+}
+
+// The fields from place `start` of a line on, so many more, behind the first ones of the lent array.
+fn read_listed(line: &[u8], start: usize, first: usize, more: usize, fields: &mut [u64; 32])
+    requires { ⌜ (first + more ≤ 32) × (start + listed * more ≤ length (now line)) × (length (now fields) ≡ 32) ⌝ }
+    ensures { λ _. ⌜ take (first + more) (now (fields .exit)) ≡ take first (now (fields .entry)) ++ fieldsAt (replicate more listed) (drop start (now (line .entry))) ⌝ }
+{
+    let end = first + more;
+    let mut at = start;
+    let mut n = first;
+    while n < end {
+        fields[n] = field_reading::field(line, at, LISTED);
+        at += LISTED;
+        n += 1;
+    }
 }
 
 // A line read by the table; of a malformed line all is zero.
@@ -75,23 +91,25 @@ pub fn decode(line: &[u8]) -> Frame
     if !field_reading::all_hex(line) {
         return malformed();
     }
-    let shape = field_table::shape_of(field_reading::field(line, 0, 2) as usize);
-    if shape.kind == 0 {
+    let row = field_table::row_of(field_reading::field(line, 0, 2) as usize);
+    if row.kind == 0 {
         return malformed();
     }
-    let head = 2 + shape.span;
-    if len < head {
+    let mut fields = no_fields();
+    let reach = read_fixed(line, row, &mut fields);
+    let n = reach.count;
+    let at = reach.end;
+    if at == 0 {
         return malformed();
     }
-    let more = repeated(line, shape);
-    if len != head + LISTED * more {
+    let more = field_table::repeated(row, n, &fields);
+    if len != at + LISTED * more {
         return malformed();
     }
-    let n = shape.fixed + more;
-    let widths = shape.widths;
+    read_listed(line, at, n, more, &mut fields);
     Frame {
-        kind: shape.kind,
-        count: n,
-        fields: read_fields(line, widths, n),
+        kind: row.kind,
+        count: n + more,
+        fields: fields,
     }
 }

@@ -11,15 +11,15 @@ use Rattle.field_table.proofs.repeated.Tie as tie
 
 -- where fields follow: there is a last fixed field, and it counts them
 counted :
-    (c : tie.After-struct-known2) →
-    let s = c .before .before .before .args .shape in
-    let ns = c .before .before .before .args .fields .now in
-    (1 ≤ s .fixed) × (s .each * getD ns (s .fixed - 1) 0 ≡ repeats (s .kind) ns)
+    (c : tie.Else1) →
+    let a = c .before .before .args in
+    let ns = a .fields .now in
+    (1 ≤ a .n) × (a .row .each * getD ns (a .n - 1) 0 ≡ repeats (a .row .kind) ns)
 counted c =
-    let start = c .before .before .before in
-    let w = start .pre .0 in
-    let r = repeats-are (start .args .shape .kind) (start .args .fields .now) (λ e. c .before .if1 .left (w .follow ∙ e)) in
-    rw (w .many, w .follow) r
+    let start = c .before .before in
+    let t = start .pre .0 in
+    let r = repeats-are (start .args .row .kind) (start .args .fields .now) (λ e. c .if1 .left (t .follow ∙ e)) in
+    rw (start .pre .1, t .follow) r
 
 returns : tie.Need-returns
 returns c = let start = c .before .before in sym (repeats-none _ _ (sym (start .pre .0 .follow) ∙ c .if1 .taken))
@@ -31,13 +31,15 @@ mul-result : tie.Need-mul-result
 mul-result c = search needs
 
 shared-slice-read-result : tie.Need-shared-slice-read-result
-shared-slice-read-result c = omega (arith, counted (c .before) .0, c .before .before .before .before .pre .1)
+shared-slice-read-result c = omega (arith, counted (c .before) .0, c .before .before .before .pre .2)
 
 mul-result-2 : tie.Need-mul-result-2
-mul-result-2 c = omega (arith, counted (c .before .before) .1, c .before .before .before .before .before .pre .2)
+mul-result-2 c = omega (arith, counted (c .before .before) .1, c .before .before .before .before .pre .3)
 
 returns-2 : tie.Need-returns-2
 returns-2 c = counted (c .before .before) .1
 
 pub repeated-spec : {M : Type 1} → statement M
-repeated-spec = tie.close (tie.spec returns sub-last mul-result shared-slice-read-result mul-result-2 returns-2)
+repeated-spec =
+    tie.close
+    (tie.spec returns sub-last mul-result shared-slice-read-result mul-result-2 returns-2)

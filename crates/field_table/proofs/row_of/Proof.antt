@@ -1,53 +1,37 @@
--- The rows are looked through one by one. That they are the format's, coded, antt computes.
-use Prim.Native.Nat.{_-_}
+-- That the lists in the code are what the format's table has of the ten kinds antt computes, and `table-at` says so of each kind.
+use mathlib.Core.Path.{refl}
 use native.Mathlib.Omega.{arith}
-use lib.ListN.{length}
-use Rattle.format.specs.Fields.{tableRows}
-use Rattle.field_table.proofs.Tables.{tabled, Looking, looking-first, looking-found, looking-next, looking-end}
+use Rattle.numbers.specs.Lists.{padded}
+use Rattle.format.specs.Fields.{tableRows, tableRowIn, each}
+use Rattle.field_table.specs.Fitting.{fitting-kind}
+use Rattle.field_table.proofs.Tables.{table-at, tabled-here, tabled-none}
 use Rattle.field_table.proofs.row_of.Statement.{statement}
 use Rattle.field_table.proofs.row_of.Tie as tie
 
-abbrev Inv-loop : tie.InvT-loop
-Inv-loop kind i₀ i = Looking tableRows kind i
+returns : tie.Need-returns
+returns c = tabled-none _ _ (c .if1 .taken) refl refl refl
 
-abbrev μ-loop : tie.MeasureT-loop
-μ-loop kind i₀ i = length tableRows - i
+mul-widths : tie.Need-mul-widths
+mul-widths c = omega arith
 
-loop-holds : tie.Need-loop-holds Inv-loop μ-loop
-loop-holds c = looking-first tableRows _
+array-copy-out-widths : tie.Need-array-copy-out-widths
+array-copy-out-widths c = omega arith
 
-mul-row : tie.Need-mul-row Inv-loop μ-loop
-mul-row c = omega arith
+array-read-t23 : tie.Need-array-read-t23
+array-read-t23 c = omega arith
 
-array-copy-out-row : tie.Need-array-copy-out-row Inv-loop μ-loop
-array-copy-out-row c = omega arith
+cast-t16 : tie.Need-cast-t16
+unfolding each
+cast-t16 c =
+    let k = c .before .before .args .kind in
+    omega (arith, table-at each _ k 0 refl (omega arith), fitting-kind k .follow)
 
-returns : tie.Need-returns Inv-loop μ-loop
-returns c = let l = c .before .before .before .before .loop in tabled _ _ (looking-found tableRows _ (l .i) (l .inv) _ (omega arith) (c .if1 .taken))
-
-add-i : tie.Need-add-i Inv-loop μ-loop
-add-i c = omega arith
-
-loop-less : tie.Need-loop-less Inv-loop μ-loop
-loop-less c = omega arith
-
-loop-again : tie.Need-loop-again Inv-loop μ-loop
-loop-again c = let l = c .before .before .before .before .loop in looking-next tableRows _ (l .i) (l .inv) _ (omega arith) (c .if1 .left)
-
-returns-2 : tie.Need-returns-2 Inv-loop μ-loop
-returns-2 c = tabled _ _ (looking-end tableRows _ (c .before .loop .i) (c .before .loop .inv) (omega arith))
+returns-2 : tie.Need-returns-2
+returns-2 c =
+    let k = c .before .before .args .kind in
+    tabled-here _ _ (omega arith) refl (table-at (λ k. padded 8 (tableRowIn tableRows k .widths)) _ k _ refl (omega arith))
+    (table-at (λ k. tableRowIn tableRows k .repeated) _ k _ refl (omega arith))
 
 pub row-of-spec : {M : Type 1} → statement M
 row-of-spec =
-    tie.close
-    (tie.spec
-    Inv-loop
-    μ-loop
-    loop-holds
-    mul-row
-    array-copy-out-row
-    returns
-    add-i
-    loop-less
-    loop-again
-    returns-2)
+    tie.close (tie.spec returns mul-widths array-copy-out-widths array-read-t23 cast-t16 returns-2)

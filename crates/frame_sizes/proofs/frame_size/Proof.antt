@@ -11,33 +11,36 @@ use Rattle.numbers.specs.Cases.{clash}
 use Rattle.format.specs.Fields.{listed, known, fixed, repeats, rawCall}
 use Rattle.format.specs.Written.{fit, lineOf}
 use Rattle.format.specs.WrittenLaws.{Writable, length-line, length-frame}
-use Rattle.field_table.specs.Shapes.{Shaped}
+use Rattle.field_table.specs.Shapes.{Tabled, Shaped}
 use Rattle.field_table.specs.Fitting.{fitting-kind}
-use Rattle.field_table.specs.ShapeLaws.{shape-kind, shape-unknown}
+use Rattle.field_table.specs.RowLaws.{row-kind, row-unknown, row-own}
 use Rattle.frame_sizes.specs.FrameSizeLaws.{as-many, few-fields, line-long, no-size, the-size, widths-are, fit-few}
 use Rattle.frame_sizes.proofs.frame_size.Statement.{statement}
 use Rattle.frame_sizes.proofs.frame_size.Tie as tie
 
 abbrev start : tie.After-shape-of → tie.Start
-start c = c .before .before
+start c = c .before .before .before .before .before
 
 -- the place behind the shape, and that behind the tests of the number of fields
 abbrev shaped : tie.Else3 → tie.After-shape-of
-shaped c = c .before .before .before .before .before
+shaped c = c .before .before .before
 
 abbrev counted : tie.After-fields-fit → tie.Else3
 counted c = c .before .before .before
 
--- the shape's kind is the call's, which the table has
+-- the row's kind is the call's, which the table has; the shape is that of this kind
 of-kind :
     (c : tie.Else1) →
-    let s = c .before .before .shape-of .result in
-    let k = start (c .before .before) .args .kind in
-    (s .kind ≡ k) × (known k ≡ true) × Shaped (s .kind) s
+    let r = c .before .before .row-of .result in
+    let k = c .before .before .before .before .args .kind in
+    (r .kind ≡ k) × (known k ≡ true) × Tabled (r .kind) r
 of-kind c =
-    let w = c .before .before .shape-of .ensures in
-    let k = shape-kind _ _ w (c .if1 .left) in
-    (k .0, k .1, rw (sym (k .0)) at w)
+    let t = c .before .before .row-of .ensures in
+    let k = row-kind _ _ t (c .if1 .left) in
+    (k .0, k .1, row-own _ _ t (k .0))
+
+shape : (c : tie.After-shape-of) → Shaped (start c .args .kind) (c .shape-of .result)
+shape c = rw (of-kind (c .before) .0) at (c .shape-of .ensures)
 
 -- the first widths are as many as the fields
 many :
@@ -58,7 +61,7 @@ fits :
 fits c =
     let n = counted (c .before) in
     let f = sym (c .before .fields-fit .ensures) ∙ not-false (c .before .fields-fit .result) (c .if4 .left) in
-    (f, fit-few _ _ _ (shaped n .shape-of .ensures) _ refl (many n .0) (omega (arith, n .if3 .left)) f)
+    (f, fit-few _ _ _ (shape (shaped n)) _ refl (many n .0) (omega (arith, n .if3 .left)) f)
 
 -- how many follow the fixed ones
 more :
@@ -67,7 +70,7 @@ more :
     (c .repeated .result ≡ repeats (a .kind) (a .fields .now)) × (c .repeated .result ≤ 512)
 more c =
     let n = counted (c .before .before) in
-    let e = c .repeated .ensures ∙ ap (λ (k : ℕ). repeats k (start (shaped n) .args .fields .now)) (of-kind (n .before .before .before) .0) in
+    let e = c .repeated .ensures ∙ ap (λ (k : ℕ). repeats k (start (shaped n) .args .fields .now)) (of-kind (shaped n .before) .0) in
     (e, omega (arith, e, fits (c .before) .1))
 
 -- how long the line is, by what was added
@@ -79,21 +82,24 @@ long :
 long c =
     let s = shaped (counted (c .before .before)) in
     let a = start s .args in
-    let w = s .shape-of .ensures in
+    let w = shape s in
     let f = fitting-kind (a .kind) in
     (omega (arith, line-long (a .kind) (a .fields .now), w .span, more c .0), omega (arith, w .span, f .digits), omega (arith, w .many, f .few))
 
-shape-of-requires : tie.Need-shape-of-requires
-shape-of-requires c κs = search needs
+row-of-requires : tie.Need-row-of-requires
+row-of-requires c κs = tt
 
 returns : tie.Need-returns
-returns c = no-size _ _ (λ w. shape-unknown _ _ (c .before .before .shape-of .ensures) (c .if1 .taken) (w .kind-known))
+returns c = no-size _ _ (λ w. row-unknown _ _ (c .before .before .row-of .ensures) (c .if1 .taken) (w .kind-known))
+
+shape-of-requires : tie.Need-shape-of-requires
+shape-of-requires c κs = of-kind c .2
 
 returns-2 : tie.Need-returns-2
 returns-2 c = no-size _ _ (λ w. let f = few-fields _ _ w in omega arith)
 
 returns-3 : tie.Need-returns-3
-returns-3 c = no-size _ _ (λ w. omega (arith, as-many _ _ w, c .before .before .before .before .before .shape-of .ensures .many))
+returns-3 c = no-size _ _ (λ w. omega (arith, as-many _ _ w, shape (c .before .before .before) .many))
 
 array-share-prefix-widths : tie.Need-array-share-prefix-widths
 array-share-prefix-widths c =
@@ -112,13 +118,13 @@ returns-4 c =
     let s = shaped n in
     let ns = start s .args .fields .now in
     let no = sym (c .before .fields-fit .ensures) ∙ not-true (c .before .fields-fit .result) (c .if4 .taken) in
-    no-size _ _ (λ w. clash (w .fields-fit) (rw (widths-are _ ns _ (s .shape-of .ensures) _ refl (many n .0) (as-many _ ns w)) at no))
+    no-size _ _ (λ w. clash (w .fields-fit) (rw (widths-are _ ns _ (shape s) _ refl (many n .0) (as-many _ ns w)) at no))
 
 repeated-requires : tie.Need-repeated-requires
 repeated-requires c κs =
     let n = counted (c .before) in
-    let k = of-kind (n .before .before .before) in
-    (k .2, omega (arith, n .if3 .left), rw (k .0) (fits c .1))
+    let k = of-kind (shaped n .before) in
+    (k .2, shaped n .shape-of .ensures .many, omega (arith, n .if3 .left), rw (k .0) (fits c .1))
 
 add-if5 : tie.Need-add-if5
 add-if5 c = omega (arith, more (c .before) .1, long (c .before) .2)
@@ -127,7 +133,7 @@ returns-5 : tie.Need-returns-5
 returns-5 c =
     let r = c .before .before in
     let s = shaped (counted (r .before .before)) in
-    no-size _ _ (λ w. omega (arith, as-many _ _ w, s .shape-of .ensures .many, more r .0))
+    no-size _ _ (λ w. omega (arith, as-many _ _ w, shape s .many, more r .0))
 
 add-length : tie.Need-add-length
 add-length c = omega (arith, long (c .before .before .before) .1)
@@ -151,10 +157,10 @@ returns-7 c =
     let s = shaped n in
     let a = start s .args in
     let q : length (a .fields .now) ≡ length (fixed (a .kind)) + repeats (a .kind) (a .fields .now) =
-    omega (arith, s .shape-of .ensures .many, more r .0, c .before .before .if5 .left) in
+    omega (arith, shape s .many, more r .0, c .before .before .if5 .left) in
     let w : Writable (rawCall (a .kind) (a .fields .now)) = record {
-      kind-known = of-kind (n .before .before .before) .1;
-      fields-fit = rw (widths-are _ _ _ (s .shape-of .ensures) _ refl (many n .0) q) at (fits (r .before) .0);
+      kind-known = of-kind (s .before) .1;
+      fields-fit = rw (widths-are _ _ _ (shape s) _ refl (many n .0) q) at (fits (r .before) .0);
       short = omega (arith, long r .0, c .if6 .left);
     } in
     omega (arith, long r .0, length-line (rawCall (a .kind) (a .fields .now)), length-frame (rawCall (a .kind) (a .fields .now)), the-size _ _ w)
@@ -163,8 +169,9 @@ pub frame-size-spec : {M : Type 1} → statement M
 frame-size-spec =
     tie.close
     (tie.spec
-    shape-of-requires
+    row-of-requires
     returns
+    shape-of-requires
     returns-2
     returns-3
     array-share-prefix-widths

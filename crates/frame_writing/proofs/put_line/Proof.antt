@@ -7,30 +7,42 @@ use lib.ListN.{length, take, length-take}
 use lib.Seq.{length-take-le}
 use Rattle.format.specs.Fields.{rawCall}
 use Rattle.format.specs.Written.{writtenWidths}
-use Rattle.format.specs.WrittenLaws.{is-writable}
+use Rattle.format.specs.WrittenLaws.{Writable, is-writable}
+use Rattle.field_table.specs.RowLaws.{row-known, row-own}
 use Rattle.frame_sizes.specs.FrameSizeLaws.{as-many, few-fields, widths-are}
 use Rattle.frame_writing.proofs.Lines.{kind-room, kind-same, fields-room, line-there}
 use Rattle.frame_writing.proofs.put_line.Statement.{statement}
 use Rattle.frame_writing.proofs.put_line.Tie as tie
 
--- a writable call has few fields, and its widths are the shape's first
-few : (c : tie.After-shape-of) → length (c .before .before .before .args .fields .now) ≤ 27
-few c = let start = c .before .before .before in few-fields _ _ (is-writable _ (start .pre .0))
+-- the call is writable
+abbrev begun : tie.After-row-of → tie.Start
+begun c = c .before .before .before
+
+can : (c : tie.After-row-of) → Writable (rawCall (begun c .args .kind) (begun c .args .fields .now))
+can c = is-writable _ (begun c .pre .0)
+
+-- so the table has its kind
+own : (c : tie.After-row-of) → c .row-of .result .kind ≡ begun c .args .kind
+own c = row-known _ _ (c .row-of .ensures) (can c .kind-known)
+
+-- it has few fields, and its widths are the shape's first
+few : (c : tie.After-shape-of) → length (begun (c .before) .args .fields .now) ≤ 27
+few c = few-fields _ _ (can (c .before))
 
 widths :
     (c : tie.After-shape-of) →
-    let a = c .before .before .before .args in
+    let a = begun (c .before) .args in
     take (length (a .fields .now)) (c .shape-of .result .widths) ≡ writtenWidths (rawCall (a .kind) (a .fields .now))
 widths c =
-    let start = c .before .before .before in
-    widths-are _ _ _ (c .shape-of .ensures) _ refl (omega (arith, few c)) (as-many _ _ (is-writable _ (start .pre .0)))
+    let s = rw (own (c .before)) at (c .shape-of .ensures) in
+    widths-are _ _ _ s _ refl (omega (arith, few c)) (as-many _ _ (can (c .before)))
 
 -- from behind the kind's digits
 abbrev shaped : tie.After-put-hex → tie.After-shape-of
 shaped c = c .before .before .before
 
 abbrev start : tie.After-put-hex → tie.Start
-start c = shaped c .before .before .before
+start c = begun (shaped c .before)
 
 same : (c : tie.After-put-hex) → length (c .put-hex .last .0) ≡ length (start c .args .out .now)
 same c = kind-same _ _ _ (start c .pre .1) _ (c .put-hex .ensures)
@@ -38,11 +50,14 @@ same c = kind-same _ _ _ (start c .pre .1) _ (c .put-hex .ensures)
 room : (c : tie.After-put-hex) → 2 ≤ length (c .put-hex .last .0)
 room c = omega (arith, same c, kind-room _ _ (start c .args .out .now) (start c .pre .1))
 
+row-of-requires : tie.Need-row-of-requires
+row-of-requires c κs = tt
+
 shape-of-requires : tie.Need-shape-of-requires
-shape-of-requires c κs = search needs
+shape-of-requires c κs = row-own _ _ (c .row-of .ensures) (own c)
 
 put-hex-requires : tie.Need-put-hex-requires
-put-hex-requires c κs = let s = c .before .before .before .before .before in kind-room _ _ (s .args .out .now) (s .pre .1)
+put-hex-requires c κs = let s = begun (c .before .before .before) in kind-room _ _ (s .args .out .now) (s .pre .1)
 
 sub-put-fields : tie.Need-sub-put-fields
 sub-put-fields c = room (c .before .before)
@@ -86,6 +101,7 @@ pub put-line-spec : {M : Type 1} → statement M
 put-line-spec =
     tie.close
     (tie.spec
+    row-of-requires
     shape-of-requires
     put-hex-requires
     sub-put-fields

@@ -6,74 +6,91 @@ use mathlib.Core.List.{List}
 use native.Mathlib.Omega.{arith}
 use borrow.Author.Needs.{needs}
 use borrow.Author.Tests.{not-true, not-false}
-use lib.ListN.{length, take}
+use lib.ListN.{length, drop}
 use Rattle.numbers.specs.Cases.{clash}
 use Rattle.numbers.specs.Lists.{total}
-use Rattle.format.specs.Fields.{listed, known, fixed, layout, kindOf}
-use Rattle.format.specs.FieldLaws.{total-layout}
-use Rattle.field_table.specs.declared.Shape.{Shape}
-use Rattle.field_table.specs.Shapes.{Shaped}
+use Rattle.format.specs.Fields.{listed, known, fixed, repeats, fieldsAt, kindOf}
+use Rattle.field_table.specs.declared.Row.{Row}
+use Rattle.field_table.specs.Shapes.{Tabled}
 use Rattle.field_table.specs.Fitting.{fitting-kind}
-use Rattle.field_table.specs.ShapeLaws.{shape-small, shape-layout, shape-kind, shape-unknown}
-use Rattle.frames.proofs.Reading.{asked-length, refused, accepted}
+use Rattle.field_table.specs.RowLaws.{row-kind, row-unknown, row-own}
+use Rattle.frames.specs.Reached.{FixedRead}
+use Rattle.frames.proofs.Reading.{counts-same, counts-few, all-read, asked-length, refused, accepted}
 use Rattle.frames.proofs.decode.Statement.{statement}
 use Rattle.frames.proofs.decode.Tie as tie
 
--- the line, and the shape
-abbrev line : tie.After-shape-of → List ℕ
+-- the line, and the row
+abbrev line : tie.After-row-of → List ℕ
 line c = c .before .before .before .before .before .before .before .args .line .now
 
-abbrev shape : tie.Else4 → Shape
-shape c = c .before .before .shape-of .result
+abbrev row : tie.Else4 → Row
+row c = c .before .before .row-of .result
 
--- the place behind the test of the kind, from the one behind all tests
-abbrev kinded : tie.Else6 → tie.Else4
+-- the place behind the test of the kind, from the one behind the fixed fields
+abbrev kinded : tie.Else5 → tie.Else4
 kinded c = c .before .before .before .before
 
--- the shape is that of the line's kind
-shaped : (c : tie.After-shape-of) → Shaped (kindOf (line c)) (c .shape-of .result)
+-- the row is that of the line's kind
+tabled : (c : tie.After-row-of) → Tabled (kindOf (line c)) (c .row-of .result)
 unfolding kindOf
-shaped c = rw (c .before .field .ensures) at (c .shape-of .ensures)
+tabled c = rw (c .before .field .ensures) at (c .row-of .ensures)
 
--- past the test of the kind: the shape's kind is the line's, which the table has
-of-kind : (c : tie.Else4) → (shape c .kind ≡ kindOf (line (c .before .before))) × (known (shape c .kind) ≡ true) × Shaped (shape c .kind) (shape c)
+-- past the test of the kind: the row's kind is the line's, which the table has
+of-kind : (c : tie.Else4) → (row c .kind ≡ kindOf (line (c .before .before))) × (known (row c .kind) ≡ true) × Tabled (row c .kind) (row c)
 of-kind c =
-    let w = shaped (c .before .before) in
-    let k = shape-kind _ _ w (c .if4 .left) in
-    (k .0, rw (sym (k .0)) at (k .1), rw (sym (k .0)) at w)
+    let t = tabled (c .before .before) in
+    let k = row-kind _ _ t (c .if4 .left) in
+    (k .0, rw (sym (k .0)) at (k .1), row-own _ _ t (k .0))
 
--- past all tests: the line is as long as its kind and count ask, so that the widths read are the layout's
+-- the fixed fields were read
+reached :
+    (c : tie.Else5) →
+    let r = c .before .read-fixed in
+    FixedRead (row (kinded c) .kind) (line (kinded c .before .before)) (r .last .1 .1 .0) (r .result .count) (r .result .end)
+reached c = c .before .read-fixed .ensures .read (c .if5 .left)
+
+-- how many follow them
+counted :
+    (c : tie.After-repeated) →
+    let k = row (kinded (c .before .before)) .kind in
+    (c .repeated .result ≡ repeats k (fieldsAt (fixed k) (drop 2 (line (kinded (c .before .before) .before .before))))) × (c .repeated .result ≤ 512)
+counted c =
+    let f = reached (c .before .before) in
+    let few = counts-few _ _ _ _ (f .many) (f .fields) in
+    (c .repeated .ensures ∙ counts-same _ _ _ _ (f .many) (f .fields), omega (arith, c .repeated .ensures, few))
+
+-- past all tests: the line is as long as its kind and count ask
 exact :
     (c : tie.Else6) →
-    let s = shape (kinded c) in
+    let behind = c .before .before .before in
+    let k = row (kinded behind) .kind in
     let n = c .before .repeated .result in
-    (s .fixed + n ≤ 32)
-    × (length (line (kinded c .before .before)) ≡ 2 + total (fixed (s .kind)) + listed * n)
-    × (take (s .fixed + n) (s .widths) ≡ layout (s .kind) n)
+    (behind .before .read-fixed .result .count + n ≤ 32) × (length (line (kinded behind .before .before)) ≡ 2 + total (fixed k) + listed * n)
 exact c =
-    let s = shape (kinded c) in
-    let w = of-kind (kinded c) .2 in
-    let few = fitting-kind (s .kind) .few in
+    let behind = c .before .before .before in
+    let f = reached behind in
+    let few = fitting-kind (row (kinded behind) .kind) .few in
     let e = c .if6 .left in
-    (omega (arith, w .many), omega (arith, w .span), shape-layout (s .kind) s w (c .before .repeated .result) (omega arith))
+    let short = kinded behind .before .before .before .before .before .before .before .if1 .left in
+    (omega (arith, f .many, f .place), omega (arith, f .place))
 
 malformed-requires : tie.Need-malformed-requires
-malformed-requires c κs = search needs
+malformed-requires c κs = tt
 
 returns : tie.Need-returns
 returns c = refused _ (c .malformed .result) (c .malformed .ensures) (λ w. omega arith)
 
 malformed-requires-2 : tie.Need-malformed-requires-2
-malformed-requires-2 c κs = search needs
+malformed-requires-2 c κs = tt
 
 returns-2 : tie.Need-returns-2
 returns-2 c = refused _ (c .malformed2 .result) (c .malformed2 .ensures) (λ w. omega arith)
 
 all-hex-requires : tie.Need-all-hex-requires
-all-hex-requires c κs = search needs
+all-hex-requires c κs = tt
 
 malformed-requires-3 : tie.Need-malformed-requires-3
-malformed-requires-3 c κs = search needs
+malformed-requires-3 c κs = tt
 
 returns-3 : tie.Need-returns-3
 returns-3 c =
@@ -84,68 +101,86 @@ returns-3 c =
 field-requires : tie.Need-field-requires
 field-requires c κs = search needs
 
-shape-of-requires : tie.Need-shape-of-requires
-shape-of-requires c κs = search needs
+row-of-requires : tie.Need-row-of-requires
+row-of-requires c κs = tt
 
 malformed-requires-4 : tie.Need-malformed-requires-4
-malformed-requires-4 c κs = search needs
+malformed-requires-4 c κs = tt
 
 returns-4 : tie.Need-returns-4
 returns-4 c =
     refused _ (c .malformed4 .result) (c .malformed4 .ensures)
-    (λ w. shape-unknown _ _ (shaped (c .before .before .before)) (c .before .if4 .taken) (w .kind-known))
+    (λ w. row-unknown _ _ (tabled (c .before .before .before)) (c .before .if4 .taken) (w .kind-known))
 
-add-head : tie.Need-add-head
-add-head c =
-    let s = of-kind (c .before) .2 in
-    omega (arith, s .span, fitting-kind (c .before .before .before .shape-of .result .kind) .digits)
+no-fields-requires : tie.Need-no-fields-requires
+no-fields-requires c κs = tt
+
+read-fixed-requires : tie.Need-read-fixed-requires
+read-fixed-requires c κs =
+    let k = of-kind (c .before .before) in
+    (k .2, c .before .before .before .before .before .before .before .before .if2 .left, ap length (c .before .no-fields .ensures))
 
 malformed-requires-5 : tie.Need-malformed-requires-5
-malformed-requires-5 c κs = search needs
+malformed-requires-5 c κs = tt
 
 returns-5 : tie.Need-returns-5
 returns-5 c =
-    let k = of-kind (c .before .before .before) in
-    refused _ (c .malformed5 .result) (c .malformed5 .ensures) (λ w. omega (arith, c .before .if5 .taken, k .2 .span, asked-length _ w _ (k .0)))
+    let r = c .before .before in
+    let k = of-kind (r .before .before .before) in
+    refused _ (c .malformed5 .result) (c .malformed5 .ensures)
+    (λ w. omega (arith, r .read-fixed .ensures .short (c .before .if5 .taken), asked-length _ w _ (k .0)))
+
+slice-aggregate-repeated : tie.Need-slice-aggregate-repeated
+slice-aggregate-repeated c = sym (c .before .before .read-fixed .ensures .long)
 
 repeated-requires : tie.Need-repeated-requires
-repeated-requires c κs = (of-kind (c .before .before) .2, c .if5 .left)
+repeated-requires c κs =
+    let k = of-kind (kinded (c .before)) in
+    let f = reached (c .before) in
+    let few = fitting-kind (row (kinded (c .before)) .kind) .few in
+    (k .2, f .many, omega (arith, f .many, c .before .before .read-fixed .ensures .long), counts-few _ _ _ _ (f .many) (f .fields))
 
 mul-if6 : tie.Need-mul-if6
-mul-if6 c = search needs
+mul-if6 c = omega (arith, counted c .1)
 
 add-if6 : tie.Need-add-if6
-add-if6 c = search needs
+add-if6 c =
+    let f = reached (c .before .before) in
+    let d = fitting-kind (row (kinded (c .before .before)) .kind) .digits in
+    omega (arith, counted c .1, f .place, d)
 
 malformed-requires-6 : tie.Need-malformed-requires-6
-malformed-requires-6 c κs = search needs
+malformed-requires-6 c κs = tt
 
 returns-6 : tie.Need-returns-6
 returns-6 c =
-    let k = of-kind (c .before .before .before .before .before) in
+    let r = c .before .before in
+    let behind = r .before .before in
+    let k = of-kind (kinded behind) in
     refused _ (c .malformed6 .result) (c .malformed6 .ensures)
-    (λ w. omega (arith, c .before .if6 .taken, k .2 .span, c .before .before .repeated .ensures .0, asked-length _ w _ (k .0)))
+    (λ w. omega (arith, c .before .if6 .taken, reached behind .place, counted r .0, asked-length _ w _ (k .0)))
 
-add-n : tie.Need-add-n
-add-n c = omega (arith, exact (c .before) .0)
-
-read-fields-requires : tie.Need-read-fields-requires
-read-fields-requires c κs =
-    let tested = c .before .before in
+read-listed-requires : tie.Need-read-listed-requires
+read-listed-requires c κs =
+    let tested = c .before in
+    let behind = tested .before .before .before in
     let x = exact tested in
-    let s = shape (kinded tested) in
-    let t = total-layout (s .kind) (tested .before .repeated .result) in
-    (x .0, omega (arith, x .1, ap total (x .2)), shape-small (s .kind) s (of-kind (kinded tested) .2))
+    (x .0, omega (arith, x .1, reached behind .place), behind .before .read-fixed .ensures .long)
+
+add-t12 : tie.Need-add-t12
+add-t12 c = omega (arith, exact (c .before .before) .0)
 
 returns-7 : tie.Need-returns-7
 returns-7 c =
-    let tested = c .before .before .before in
-    let read = kinded tested .before .before .before .before .before in
-    let hex = sym (read .all-hex .ensures) ∙ not-false (read .all-hex .result) (kinded tested .before .before .before .before .if3 .left) in
-    let k = of-kind (kinded tested) in
-    let x = exact tested in
-    let fields = rw (x .2) at (c .read-fields .ensures) in
-    accepted _ _ _ _ (k .0) (tested .before .repeated .ensures .0) (read .before .before .if1 .left) hex (k .1) (x .1) (kinded tested .if4 .left) refl fields
+    let tested = c .before .before in
+    let behind = tested .before .before .before in
+    let kind = kinded behind in
+    let read = kind .before .before .before .before .before in
+    let hex = sym (read .all-hex .ensures) ∙ not-false (read .all-hex .result) (kind .before .before .before .before .if3 .left) in
+    let k = of-kind kind in
+    let f = reached behind in
+    let fields = all-read _ _ _ _ _ _ _ f (c .read-listed .ensures) in
+    accepted _ _ _ _ (k .0) (counted (tested .before) .0) (read .before .before .if1 .left) hex (k .1) (exact tested .1) (kind .if4 .left) refl fields
 
 pub decode-spec : {M : Type 1} → statement M
 decode-spec =
@@ -159,17 +194,19 @@ decode-spec =
     malformed-requires-3
     returns-3
     field-requires
-    shape-of-requires
+    row-of-requires
     malformed-requires-4
     returns-4
-    add-head
+    no-fields-requires
+    read-fixed-requires
     malformed-requires-5
     returns-5
+    slice-aggregate-repeated
     repeated-requires
     mul-if6
     add-if6
     malformed-requires-6
     returns-6
-    add-n
-    read-fields-requires
+    read-listed-requires
+    add-t12
     returns-7)
