@@ -2,12 +2,10 @@
 use Prim.Native.Nat.{ℕ, _+_, _≤_, _<_}
 use mathlib.Core.Path.{_≡_, refl, sym, ap, ap₂, _∙_}
 use mathlib.Core.List.{List, [], _∷_, _++_, append-assoc, append-nil}
-use native.Mathlib.Nat.{zero-add}
 use native.Mathlib.Numerals.{add-one}
 use native.Mathlib.Omega.{arith}
 use lib.ListN.{length, take, drop, getD, set, length-append, length-take, length-drop, take-append-drop}
 use lib.Seq.{take-at, drop-at, drop-drop, take-suc, set-split, append-snoc}
-use Rattle.numbers.specs.Tails.{laid}
 use Rattle.decimal_text.specs.Puts.{Puts}
 
 -- nothing written
@@ -64,8 +62,3 @@ puts-more name o xs a i p h g =
     let e : a + i + 1 ≡ a + (i + 1) = omega arith in
     let t : take i name ++ (getD name i 0 ∷ []) ≡ take (i + 1) name = rw add-one (sym (take-suc name i 0 h)) in
     rw (← e) (puts-as q (take (i + 1) name) (i + 1) t (omega arith))
-
--- at the buffer's start
-pub puts-laid : {t o xs : List ℕ} {m b : ℕ} → Puts t m o xs 0 b → xs ≡ laid t o
-unfolding laid
-puts-laid {t} {o} {xs} {m} {b} p = p .holds ∙ ap (λ (k : ℕ). t ++ drop k o) (p .next ∙ zero-add (length t))

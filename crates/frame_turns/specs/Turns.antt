@@ -1,23 +1,86 @@
--- What a turn ensures: the reply's text and the next auction, for every list of calls whose ledger the auction holds.
-use Prim.Native.Nat.{ℕ}
+-- What a frame asks, and what the decision of its call leaves; and what a line makes of an auction.
+use Prim.Native.Nat.{ℕ, _<_}
 use mathlib.Core.Path.{_≡_}
+use mathlib.Core.Bool.{Bool, true, _||_}
 use mathlib.Core.List.{List, _++_}
-use Rattle.rules.specs.Ledger.{Call}
-use Rattle.rules.specs.Rounds.{ledger}
-use Rattle.replies.specs.Orders.{Order}
-use Rattle.replies.specs.Replies.{replyTo}
+use lib.Dec.{eqb}
+use lib.ListN.{getD}
+use Rattle.rules.specs.Ledger.{Call, Developer, Move, By, Ledger}
+use Rattle.rules.specs.Rounds.{ledger, numberAlone}
+use Rattle.replies.specs.Orders.{Order, Asks, ordered}
+use Rattle.replies.specs.Replies.{callKind, replyTo}
 use Rattle.record_calls.specs.Calls.{askedCalls}
+use Rattle.frames.specs.Decoded.{callIn}
+use Rattle.frames.specs.declared.Frame.{Frame}
+use Rattle.frame_fields.specs.FrameFields.{fieldsOf, Reads}
+use Rattle.history.specs.declared.History.{History}
+use Rattle.clock.specs.declared.Settings.{Settings}
+use Rattle.moves.specs.Entries.{Moves}
+use Rattle.auction.specs.Called.{Called}
 use Rattle.auction.specs.Holds.{auctionOf}
+use Rattle.auction.specs.Decided.{Turns, withRound, withBooks, withEntered}
 use Rattle.auction.specs.declared.Auction.{Auction}
-use Rattle.reply_sizes.specs.Texts.{textOf}
-use Rattle.frame_turns.specs.declared.Turn.{Turn}
+use Rattle.auction.specs.declared.Turned.{Turned}
+use Rattle.auction.specs.declared.Entered.{Entered}
 
--- a turn that answers with a number alone
-pub record Answers (k : ℕ) (next : Auction) (n : ℕ) (t : Turn) : Type 0 where
-  pub auction : t .auction ≡ next
-  pub kind : t .reply .kind ≡ k
-  pub number : t .reply .number ≡ n
+-- 04 offer, 09 cancellation, 07 lodging
+abbrev pub isMove : ℕ → Bool
+isMove k = eqb k 4 || (eqb k 9 || eqb k 7)
 
-pub record Takes (a : Auction) (o : Order) (t : Turn) : Type 0 where
-  pub text : (cs : List Call) → a ≡ auctionOf (ledger cs) → textOf (t .reply) ≡ replyTo (ledger cs) o
-  pub next : (cs : List Call) → a ≡ auctionOf (ledger cs) → t .auction ≡ auctionOf (ledger (cs ++ askedCalls o))
+-- 02, and 08 with its agent
+abbrev pub isRegistration : ℕ → Bool
+isRegistration k = eqb k 2 || eqb k 8
+
+-- 03 opening, 01 set-up
+abbrev pub isClock : ℕ → Bool
+isClock k = eqb k 3 || eqb k 1
+
+-- a frame that a line reads as, of one of these kinds
+pub record FrameOf (kinds : ℕ → Bool) (f : Frame) : Type 0 where
+  pub reads : Reads f
+  pub kind : kinds (f .kind) ≡ true
+
+abbrev pub MoveFrame : Frame → Type 0
+MoveFrame = FrameOf isMove
+
+abbrev pub RegistrationFrame : Frame → Type 0
+RegistrationFrame = FrameOf isRegistration
+
+abbrev pub ClockFrame : Frame → Type 0
+ClockFrame = FrameOf isClock
+
+-- c is the call that the frame asks, and its reply is of the frame's kind, which adds nothing to kind and answer
+pub record Asked (f : Frame) (c : Call) : Type 0 where
+  pub order : ordered (callIn f) ≡ Asks c
+  pub kind : callKind c ≡ f .kind
+  pub bare : f .kind ≡ 5 → ⊥
+
+abbrev pub developerOf : Frame → ℕ
+developerOf f = getD (fieldsOf f) 0 0
+
+-- a move: its number k, and the history h behind it
+pub record MoveTurn (f : Frame) (held : Ledger → Developer → Type 0) (k : ℕ) (h : History) : Type 0 where
+  pub move : Move
+  pub asked : Asked f (By (developerOf f) move)
+  pub moves : Moves (developerOf f) move held k h
+
+-- a registration, in every auction of this phase, these projects and kinds: refused it leaves the auction, else it enters the developer at its place
+pub record RegistrationTurn (f : Frame) (p : ℕ) (ks hs : List ℕ) (r : Entered) : Type 0 where
+  pub call : Call
+  pub asked : Asked f call
+  pub refused : (a : Auction) → (r .number ≡ 0 → ⊥) → Called call (withBooks a p ks hs) (withBooks a p ks hs) (numberAlone (r .number))
+  pub inside : r .place < 32
+  pub taken : (a : Auction) → r .number ≡ 0 → Called call (withBooks a p ks hs) (withEntered (withBooks a p ks hs) r) (numberAlone 0)
+
+-- a set-up or an opening, in every auction of this clock, these projects and quantities
+pub record ClockTurn (f : Frame) (p : ℕ) (s : Settings) (o c : ℕ) (ks qs : List ℕ) (r : Turned) : Type 0 where
+  pub call : Call
+  pub asked : Asked f call
+  pub turns : (a : Auction) → Turns call (withRound a p s o c ks qs) r
+
+-- ---- an order
+
+-- t is the reply to the order and b the auction behind it, for every list of calls whose ledger the auction holds
+pub record Takes (a : Auction) (o : Order) (b : Auction) (t : List ℕ) : Type 0 where
+  pub text : (cs : List Call) → a ≡ auctionOf (ledger cs) → t ≡ replyTo (ledger cs) o
+  pub next : (cs : List Call) → a ≡ auctionOf (ledger cs) → b ≡ auctionOf (ledger (cs ++ askedCalls o))

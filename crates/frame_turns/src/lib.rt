@@ -1,125 +1,166 @@
-// A turn of a replay: the next auction and the reply; one for each kind of frame whose call answers with a number alone.
-ghost use lib.ListN.{getD};
-ghost use Rattle.replies.specs.Orders.{Asks, setUpOf, registrationOf, registrationForOf, moveOf};
-ghost use Rattle.rules.specs.Ledger.{Offer, Lodge, Cancel, Open, By};
-ghost use Rattle.frame_fields.specs.FrameFields.{fieldsOf, Framed};
-ghost use Rattle.frame_turns.specs.Turns.{Answers, Takes};
-use auction::Answer;
-use auction::Auction;
+// What a frame's call decides, by the clock and what the auction holds where the call reaches: one function for each group of calls that change the
+// same parts of an auction.
+ghost use Rattle.moves.specs.Entries.{Held};
+ghost use mathlib.Core.Path.{_≡_};
+ghost use Prim.Native.Nat.{_≤_, _<_};
+ghost use lib.ListN.{length, take};
+ghost use Rattle.auction.specs.Decided.{Enters};
+ghost use Rattle.supply.specs.ByProject.{placeOf};
+ghost use Rattle.frame_turns.specs.Turns.{isMove, isRegistration, isClock, MoveFrame, RegistrationFrame, ClockFrame, developerOf, MoveTurn, RegistrationTurn, ClockTurn};
+use auction::Entered;
+use auction::Turned;
+use clock::Settings;
+use frame_fields::Registration;
 use frames::Frame;
-use reply_sizes::Reply;
-use settling::Settled;
-use settling::UNSETTLED;
+use history::History;
+use levels::Levels;
+use moves::Moved;
 
-// What a frame leads to: the next auction and the reply, and for those who want to see more than the reply says the answer itself: the excess of
-// a closing in two's complement with its remainder, and what a settling answered.
-pub struct Turn {
-    pub auction: Auction,
-    pub reply: Reply,
-    pub excess: u64,
-    pub remainder: u32,
-    pub settled: Settled,
-}
-
-// The turn of a call that answers with a number alone.
-fn answered(kind: u8, answer: Answer) -> Turn
-    ensures { λ r. ⌜ Answers kind (answer .auction) (answer .number) r ⌝ }
+// 04 offer, 07 lodging, 09 cancellation: the calls that change a developer's history.
+pub fn is_move(kind: usize) -> bool
+    ensures { λ r. ⌜ r ≡ isMove kind ⌝ }
 {
-    let next = answer.auction;
-    Turn {
-        auction: next,
-        reply: reply_values::blank(kind, answer.number),
-        excess: 0,
-        remainder: 0,
-        settled: UNSETTLED,
+    if kind == 4 {
+        return true;
     }
+    if kind == 9 {
+        return true;
+    }
+    kind == 7
 }
 
-pub fn set_up_turn(auction: Auction, frame: Frame) -> Turn
-    requires { ⌜ Framed 1 frame ⌝ }
-    ensures { λ r. ⌜ Takes auction (Asks (setUpOf (fieldsOf frame))) r ⌝ }
+// 02 and 08: the calls that add a developer.
+pub fn is_registration(kind: usize) -> bool
+    ensures { λ r. ⌜ r ≡ isRegistration kind ⌝ }
 {
+    if kind == 2 {
+        return true;
+    }
+    kind == 8
+}
+
+// 01 set-up and 03 opening: the calls that change the clock alone.
+pub fn is_clock(kind: usize) -> bool
+    ensures { λ r. ⌜ r ≡ isClock kind ⌝ }
+{
+    if kind == 3 {
+        return true;
+    }
+    kind == 1
+}
+
+// The place of the developer that a move names.
+pub fn mover(frame: Frame) -> usize
+    requires { ⌜ MoveFrame frame ⌝ }
+    ensures { λ r. ⌜ (r ≡ placeOf (developerOf frame)) × (r < 32) ⌝ }
+{
+    supply::place(frame_fields::byte(frame, 0))
+}
+
+// What a move answers, and the history that it leaves, by the clock and what the auction holds of its developer.
+pub fn move_turn(
+    frame: Frame,
+    phase: u8,
+    settings: Settings,
+    opening: u32,
+    closing: u32,
+    kind: u8,
+    declared: Levels,
+    quantity: u32,
+    history: History,
+) -> Moved
+    requires { ⌜ MoveFrame frame ⌝ }
+    ensures { λ r. ⌜ MoveTurn frame (Held phase settings opening closing kind declared quantity history) (r .number) (r .history) ⌝ }
+{
+    let developer = frame_fields::byte(frame, 0);
+    if frame.kind == 9 {
+        return moves::cancelled(phase, developer, kind, history);
+    }
+    let steps = frame_fields::steps_in(frame);
+    let n = steps.count;
+    let prices = steps.prices;
+    let levels = steps.levels;
+    if frame.kind == 4 {
+        return moves::offered(
+            phase,
+            opening,
+            closing,
+            developer,
+            kind,
+            declared,
+            quantity,
+            history,
+            &prices[..n],
+            &levels[..n],
+        );
+    }
+    moves::lodged(
+        phase,
+        settings,
+        developer,
+        kind,
+        declared,
+        history,
+        &prices[..n],
+        &levels[..n],
+    )
+}
+
+// What a registration answers, and the entry that it leaves: 08 names its agent, 02 makes the agent the developer (document 02, 10).
+pub fn registration_turn(frame: Frame, phase: u8, projects: [u8; 32], kinds: [u8; 32]) -> Entered
+    requires { ⌜ RegistrationFrame frame ⌝ }
+    ensures { λ r. ⌜ RegistrationTurn frame phase projects kinds r ⌝ }
+{
+    if frame.kind == 8 {
+        let named = frame_fields::registration_in(frame, 4);
+        let agent = frame_fields::byte(frame, 3);
+        return entered(phase, projects, kinds, named, agent);
+    }
+    let own = frame_fields::registration_in(frame, 3);
+    entered(phase, projects, kinds, own, own.developer)
+}
+
+fn entered(phase: u8, projects: [u8; 32], kinds: [u8; 32], r: Registration, agent: u8) -> Entered
+    requires { ⌜ (r .count ≤ 16) × (length (r .levels) ≡ 16) ⌝ }
+    ensures { λ e. ⌜ Enters phase projects kinds (r .project) (r .developer) (r .kind) agent (r .study) (r .day) (take (r .count) (r .levels)) e ⌝ }
+{
+    let n = r.count;
+    let levels = r.levels;
+    auction::entering(
+        phase,
+        projects,
+        kinds,
+        r.project,
+        r.developer,
+        r.kind,
+        agent,
+        r.study,
+        r.day,
+        &levels[..n],
+    )
+}
+
+// What a set-up or an opening answers, and the clock that it leaves.
+pub fn clock_turn(
+    frame: Frame,
+    phase: u8,
+    settings: Settings,
+    opening: u32,
+    closing: u32,
+    projects: [u8; 32],
+    quantities: [u32; 32],
+) -> Turned
+    requires { ⌜ ClockFrame frame ⌝ }
+    ensures { λ r. ⌜ ClockTurn frame phase settings opening closing projects quantities r ⌝ }
+{
+    if frame.kind == 3 {
+        let c = frame_fields::word(frame, 0);
+        return auction::opening_at(phase, settings, opening, closing, projects, quantities, c);
+    }
     let ce = frame_fields::field(frame, 0);
     let d = frame_fields::field(frame, 1);
     let m1 = frame_fields::field(frame, 2);
     let m2 = frame_fields::field(frame, 3);
     let a = frame_fields::field(frame, 4);
-    answered(1, auction.set_up(ce, d, m1, m2, a))
-}
-
-pub fn register_turn(auction: Auction, frame: Frame) -> Turn
-    requires { ⌜ Framed 2 frame ⌝ }
-    ensures { λ r. ⌜ Takes auction (Asks (registrationOf (fieldsOf frame))) r ⌝ }
-{
-    let r = frame_fields::registration_in(frame, 3);
-    let n = r.count;
-    let levels = r.levels;
-    answered(
-        2,
-        auction.register(r.project, r.developer, r.kind, r.study, r.day, &levels[..n]),
-    )
-}
-
-pub fn open_turn(auction: Auction, frame: Frame) -> Turn
-    requires { ⌜ Framed 3 frame ⌝ }
-    ensures { λ r. ⌜ Takes auction (Asks (Open (getD (fieldsOf frame) 0 0))) r ⌝ }
-{
-    answered(3, auction.open(frame_fields::word(frame, 0)))
-}
-
-pub fn offer_turn(auction: Auction, frame: Frame) -> Turn
-    requires { ⌜ Framed 4 frame ⌝ }
-    ensures { λ r. ⌜ Takes auction (Asks (moveOf Offer (fieldsOf frame))) r ⌝ }
-{
-    let steps = frame_fields::steps_in(frame);
-    let n = steps.count;
-    let prices = steps.prices;
-    let levels = steps.levels;
-    answered(
-        4,
-        auction.offer(steps.developer, &prices[..n], &levels[..n]),
-    )
-}
-
-pub fn lodge_turn(auction: Auction, frame: Frame) -> Turn
-    requires { ⌜ Framed 7 frame ⌝ }
-    ensures { λ r. ⌜ Takes auction (Asks (moveOf Lodge (fieldsOf frame))) r ⌝ }
-{
-    let steps = frame_fields::steps_in(frame);
-    let n = steps.count;
-    let prices = steps.prices;
-    let levels = steps.levels;
-    answered(
-        7,
-        auction.lodge(steps.developer, &prices[..n], &levels[..n]),
-    )
-}
-
-pub fn register_for_turn(auction: Auction, frame: Frame) -> Turn
-    requires { ⌜ Framed 8 frame ⌝ }
-    ensures { λ r. ⌜ Takes auction (Asks (registrationForOf (fieldsOf frame))) r ⌝ }
-{
-    let r = frame_fields::registration_in(frame, 4);
-    let agent = frame_fields::byte(frame, 3);
-    let n = r.count;
-    let levels = r.levels;
-    answered(
-        8,
-        auction.register_for(
-            r.project,
-            r.developer,
-            r.kind,
-            agent,
-            r.study,
-            r.day,
-            &levels[..n],
-        ),
-    )
-}
-
-pub fn cancel_turn(auction: Auction, frame: Frame) -> Turn
-    requires { ⌜ Framed 9 frame ⌝ }
-    ensures { λ r. ⌜ Takes auction (Asks (By (getD (fieldsOf frame) 0 0) Cancel)) r ⌝ }
-{
-    answered(9, auction.cancel(frame_fields::byte(frame, 0)))
+    auction::setting_up(phase, settings, opening, closing, ce, d, m1, m2, a)
 }

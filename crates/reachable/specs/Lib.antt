@@ -1,4 +1,5 @@
 pub mod Steps
+pub mod Closed
 pub mod AcceptedCalls
 pub mod Checks
 pub mod Histories

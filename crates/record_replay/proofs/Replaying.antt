@@ -1,29 +1,102 @@
--- A text in a lent buffer, the refusal, and what the program prints, by the tests.
+-- A text in a lent buffer where it fits, from a run of the replies; the refusal; and what the program prints, by the tests.
 use Prim.Native.Nat.{ℕ, _-_, _≤_, _<_}
 use mathlib.Core.Path.{_≡_, refl, sym, ap, _∙_}
-use mathlib.Core.Bool.{Bool, true, false}
-use mathlib.Core.List.{List, [], _∷_}
+use mathlib.Core.Logic.{⊎-elim}
+use mathlib.Core.Bool.{true}
+use mathlib.Core.List.{List, [], _∷_, _++_, append-assoc}
 use native.Mathlib.Omega.{arith}
 use borrow.Author.Tests.{le-leb, lt-leb, leb-true}
 use borrow.Rule.Slice.PartMut.{putMid, midOf}
 use lib.Dec.{leb}
-use lib.ListN.{length}
-use Rattle.format.specs.Hex.{charOf, digits}
+use lib.ListN.{length, take, drop, take-append-drop}
+use lib.Seq.{take-at, drop-append-le, length-take-le}
+use Rattle.numbers.specs.Cases.{le-or-lt}
 use Rattle.numbers.specs.Tails.{laid, grow}
+use Rattle.format.specs.Hex.{charOf, digits}
+use Rattle.rules.specs.Rounds.{stepAll, ledger}
+use Rattle.replies.specs.Lengths.{mostIn, replies-bound}
 use Rattle.replies.specs.Replies.{answerLine, replies}
+use Rattle.auction.specs.Holds.{auctionOf}
+use Rattle.auction.specs.declared.Auction.{Auction}
+use Rattle.record_replies.specs.Runs.{Replied, Runs}
+use Rattle.record_replies.specs.declared.Ran.{Ran}
 use Rattle.host_numbers.specs.HostNumbers.{valueAnswer, hostNumber}
-use Rattle.record_replay.specs.Replayed.{over, hosted, printed}
+use Rattle.record_replay.specs.Replayed.{over, Fitted, hosted, printed}
 
--- ---- the whole
+-- ---- a text where it fits
 
-module _ (t o : List ℕ) (b : Bool) (e : b ≡ leb (length t) (length o)) where
-  pub fit-yes : b ≡ true → (length t ≡ hosted t o) × (laid t o ≡ over t o)
-  unfolding hosted hostNumber over
-  fit-yes h = let g : leb (length t) (length o) ≡ true = sym e ∙ h in (rw g, rw g)
+module _ (t o : List ℕ) where
+  over-yes : length t ≤ length o → over t o ≡ laid t o
+  unfolding over
+  over-yes h = rw (le-leb (length t) (length o) h)
 
-  pub fit-no : b ≡ false → (hostNumber (valueAnswer 11 0) ≡ hosted t o) × (o ≡ over t o)
-  unfolding hosted hostNumber over
-  fit-no h = let g : leb (length t) (length o) ≡ false = sym e ∙ h in (rw g, rw g)
+  over-no : length o < length t → over t o ≡ o
+  unfolding over
+  over-no h = rw (lt-leb (length t) (length o) h)
+
+  fitted-yes : (out : List ℕ) (r : ℕ) → length t ≤ length o → r ≡ length t → out ≡ laid t o → Fitted t o out r
+  fitted-yes out r h e w = record { text = w ∙ sym (over-yes h); size = λ _. e; beyond = λ g. absurd (omega arith) }
+
+  fitted-no : (r : ℕ) → length o < length t → length o < r → Fitted t o o r
+  fitted-no r h g = record { text = sym (over-no h); size = λ f. absurd (omega arith); beyond = λ _. g }
+
+  module _ (out : List ℕ) (r : ℕ) (f : Fitted t o out r) where
+    fits-all : r ≤ length o → length t ≤ length o
+    fits-all h = ⊎-elim (λ g. g) (λ g. absurd (omega (arith, f .beyond g))) (le-or-lt (length t) (length o))
+
+    fits-not : length o < r → length o < length t
+    fits-not h = ⊎-elim (λ g. absurd (omega (arith, f .size g))) (λ g. g) (le-or-lt (length t) (length o))
+
+    pub fitted-written : r ≤ length o → (r ≡ length t) × (out ≡ laid t o)
+    fitted-written h = (f .size (fits-all h), f .text ∙ over-yes (fits-all h))
+
+    pub fitted-kept : length o < r → out ≡ o
+    fitted-kept h = f .text ∙ over-no (fits-not h)
+
+    -- what a host gets
+    pub hosted-yes : r ≤ length o → r ≡ hosted t o
+    unfolding hosted hostNumber
+    hosted-yes h = f .size (fits-all h) ∙ rw (le-leb (length t) (length o) (fits-all h))
+
+    pub hosted-no : length o < r → hostNumber (valueAnswer 11 0) ≡ hosted t o
+    unfolding hosted hostNumber
+    hosted-no h = rw (lt-leb (length t) (length o) (fits-not h))
+
+-- ---- the replies of a run
+
+pub run-replies : {a : Auction} {s : List ℕ} {limit : ℕ} {o out : List ℕ} {r : Ran} → a ≡ auctionOf (ledger []) → Runs a s limit o out r
+    → Replied (replies s) limit o out (r .written)
+unfolding replies ledger stepAll
+run-replies e w = w .replied [] e
+
+-- into a buffer that is surely long enough
+pub replied-surely : (s o out : List ℕ) (r : ℕ) → leb (mostIn s) (length o) ≡ true → Replied (replies s) (length o) o out r
+    → Fitted (replies s) o out r
+replied-surely s o out r e w =
+    let h : length (replies s) ≤ length o = omega (arith, leb-true (mostIn s) (length o) e, replies-bound s) in
+    fitted-yes (replies s) o out r h (w .fits h) (w .text h h)
+
+-- into other bytes b first, now x, with the buffer's length as the limit
+module _ (t o b x : List ℕ) (n : ℕ) (w : Replied t (length o) b x n) where
+  pub tried-over : length o < n → Fitted t o o n
+  tried-over h = ⊎-elim (λ f. absurd (omega (arith, w .fits f))) (λ g. fitted-no t o n g h) (le-or-lt (length t) (length o))
+
+  tried-fits : n ≤ length o → (length t ≤ length o) × (n ≡ length t)
+  tried-fits h = ⊎-elim (λ f. (f, w .fits f)) (λ g. absurd (omega (arith, w .over g))) (le-or-lt (length t) (length o))
+
+  pub tried-copied : n ≤ length o → n ≤ length b → (out : List ℕ) → out ≡ laid (take n x) o → Fitted t o out n
+  unfolding laid
+  tried-copied h g out e =
+      let f = tried-fits h in
+      let p : take n x ≡ t = ap (take n) (w .text (f .0) (omega arith)) ∙ take-at t (drop (length t) b) n (sym (f .1)) in
+      fitted-yes t o out n (f .0) (f .1) (e ∙ ap (λ (y : List ℕ). laid y o) p)
+
+  -- and once more into the buffer itself
+  pub tried-again : n ≤ length o → (out : List ℕ) (r : ℕ) → Replied t n o out r → Fitted t o out r
+  tried-again h out r v =
+      let f = tried-fits h in
+      let m : length t ≤ n = omega arith in
+      fitted-yes t o out r (f .0) (v .fits m) (v .text m (f .0))
 
 -- ---- the program
 
@@ -37,29 +110,43 @@ refusal-length : length (answerLine 255 11 []) ≡ 5
 unfolding digits charOf answerLine
 refusal-length = refl
 
--- the text that the program prints, which its buffer holds
+-- a text laid over a buffer's front is laid over the buffer
+front-laid : (t o : List ℕ) (m : ℕ) → length t ≤ m → m ≤ length o → laid t (take m o) ++ drop m o ≡ laid t o
+unfolding laid
+front-laid t o m h g =
+    append-assoc t (drop (length t) (take m o)) (drop m o)
+    ∙ ap (λ (l : List ℕ). t ++ l)
+    (sym (drop-append-le (length t) (take m o) (drop m o) (omega (arith, length-take-le m o g))) ∙ ap (drop (length t)) (take-append-drop m o))
+
+-- the text that the program prints
 module _ (s : List ℕ) where
-  abbrev pub Prints : List ℕ → Type 0
-  Prints t = (printed s ≡ t) × (length t ≤ 65536)
+  abbrev pub Prints : List ℕ → List ℕ → ℕ → Type 0
+  Prints o out n = (n ≡ length (printed s)) × (n ≤ 65536) × (out ≡ laid (printed s) o)
 
-  pub print-long : 65536 < length s → Prints (answerLine 255 11 [])
+  prints : (t o out : List ℕ) (n : ℕ) → printed s ≡ t → length t ≤ 65536 → (n ≡ length t) × (out ≡ laid t o) → Prints o out n
+  prints t o out n e h w = (w .0 ∙ ap length (sym e), omega (arith, w .0), w .1 ∙ ap (λ (x : List ℕ). laid x o) (sym e))
+
+  pub print-long : 65536 < length s → (o out : List ℕ) (n : ℕ) → (n ≡ length (answerLine 255 11 [])) × (out ≡ laid (answerLine 255 11 []) o) → Prints o out n
   unfolding printed
-  print-long h = (rw (lt-leb (length s) 65536 h), omega (arith, refusal-length))
+  print-long h o out n w = prints _ o out n (rw (lt-leb (length s) 65536 h)) (omega (arith, refusal-length)) w
 
-  module _ (b : Bool) (h : length s ≤ 65536) (e : b ≡ leb (length (replies s)) 65536) where
-    pub print-replies : b ≡ true → Prints (replies s)
+  -- by the replies in the buffer's first 65,536 bytes
+  module _ (h : length s ≤ 65536) (o ys : List ℕ) (m : 65536 ≤ length o) (n : ℕ) (f : Fitted (replies s) (take 65536 o) ys n) where
+    front : length (take 65536 o) ≡ 65536
+    front = length-take-le 65536 o m
+
+    pub print-replies : n ≤ 65536 → Prints o (ys ++ drop 65536 o) n
     unfolding printed
     print-replies y =
-        let g : leb (length (replies s)) 65536 ≡ true = sym e ∙ y in
-        (rw (le-leb (length s) 65536 h, g), leb-true (length (replies s)) 65536 g)
+        let w = fitted-written (replies s) (take 65536 o) ys n f (omega (arith, front)) in
+        let g : length (replies s) ≤ 65536 = omega (arith, w .0) in
+        prints (replies s) o _ n (rw (le-leb (length s) 65536 h, le-leb (length (replies s)) 65536 g)) g
+        (w .0, ap (λ (l : List ℕ). l ++ drop 65536 o) (w .1) ∙ front-laid (replies s) o 65536 g m)
 
-    pub print-over : b ≡ false → Prints (answerLine 255 11 [])
+    pub print-over : 65536 < n → (out : List ℕ) (k : ℕ) → (k ≡ length (answerLine 255 11 [])) × (out ≡ laid (answerLine 255 11 []) (ys ++ drop 65536 o)) → Prints o out k
     unfolding printed
-    print-over y =
-        let g : leb (length (replies s)) 65536 ≡ false = sym e ∙ y in
-        (rw (le-leb (length s) 65536 h, g), omega (arith, refusal-length))
-
-  -- it was written
-  pub prints : (t o out : List ℕ) (n : ℕ) → Prints t → (n ≡ length t) × (out ≡ laid t o)
-      → (n ≡ length (printed s)) × (n ≤ 65536) × (out ≡ laid (printed s) o)
-  prints t o out n e w = (w .0 ∙ ap length (sym (e .0)), omega (arith, w .0, e .1), w .1 ∙ ap (λ (x : List ℕ). laid x o) (sym (e .0)))
+    print-over y out k w =
+        let e = fitted-kept (replies s) (take 65536 o) ys n f (omega (arith, front)) in
+        let g : 65536 < length (replies s) = omega (arith, fits-not (replies s) (take 65536 o) ys n f (omega (arith, front)), front) in
+        prints (answerLine 255 11 []) o out k (rw (le-leb (length s) 65536 h, lt-leb (length (replies s)) 65536 g)) (omega (arith, refusal-length))
+        (w .0, w .1 ∙ ap (laid (answerLine 255 11 [])) (ap (λ (l : List ℕ). l ++ drop 65536 o) e ∙ take-append-drop 65536 o))

@@ -1,5 +1,6 @@
 -- A text in a lent buffer, the number that a host is given for it, and what the program prints (document 01, Frames).
-use Prim.Native.Nat.{ℕ}
+use Prim.Native.Nat.{ℕ, _≤_, _<_}
+use mathlib.Core.Path.{_≡_}
 use mathlib.Core.Bool.{cond, _&&_}
 use mathlib.Core.List.{List, []}
 use lib.Dec.{leb}
@@ -11,6 +12,12 @@ use Rattle.host_numbers.specs.HostNumbers.{valueAnswer, hostNumber}
 -- the text over the buffer's start where it fits, else the buffer as it was
 unfoldable pub over : List ℕ → List ℕ → List ℕ
 over t o = cond (leb (length t) (length o)) (laid t o) o
+
+-- such a text: r is its length, or more than the buffer's
+pub record Fitted (t o out : List ℕ) (r : ℕ) : Type 0 where
+  pub text : out ≡ over t o
+  pub size : length t ≤ length o → r ≡ length t
+  pub beyond : length o < length t → length o < r
 
 -- what a host gets: how many bytes were written, or refusal 11 where the buffer is too short
 unfoldable pub hosted : List ℕ → List ℕ → ℕ

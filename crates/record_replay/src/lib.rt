@@ -1,22 +1,86 @@
 // A record replayed into a lent buffer (document 01, Frames). Nothing is written unless all fits.
 ghost use mathlib.Core.Path.{_≡_};
 ghost use mathlib.Core.List.{[]};
-ghost use Prim.Native.Nat.{_≤_};
+ghost use Prim.Native.Nat.{_≤_, _<_};
 ghost use lib.ListN.{length};
 ghost use Rattle.numbers.specs.Tails.{laid};
 ghost use Rattle.replies.specs.Replies.{answerLine, replies};
-ghost use Rattle.record_replay.specs.Replayed.{hosted, over, longestRecord, printed};
+ghost use Rattle.record_replies.specs.Runs.{Replied};
+ghost use Rattle.reply_writing.specs.Placed.{most};
+ghost use Rattle.record_replay.specs.Replayed.{hosted, over, Fitted, longestRecord, printed};
+use auction::Auction;
 
 // The most bytes of a record, and of its replies, in the program.
 const LONGEST_RECORD: usize = 65_536;
+
+// Bytes that replies are written to first where their lines leave open whether they fit: a record of ordinary size is then read once. Each such replay
+// clears them, and the stack has them besides what the calls take (include/reference_engine.h), so there are no more.
+const SCRATCH: usize = 24_576;
+
+// Copies bytes to the start of a buffer; those behind them stay.
+fn copy(bytes: &[u8], out: &mut [u8])
+    requires { ⌜ length (now bytes) ≤ length (now out) ⌝ }
+    ensures { λ _. ⌜ now (out .exit) ≡ laid (now (bytes .entry)) (now (out .entry)) ⌝ }
+{
+    let mut i: usize = 0;
+    while i < bytes.len() {
+        out[i] = bytes[i];
+        i += 1;
+    }
+}
+
+// A run of the replies from a fresh auction, of which only their number of bytes is kept.
+fn run_fresh(bytes: &[u8], limit: usize, out: &mut [u8]) -> usize
+    requires { ⌜ limit < most ⌝ }
+    ensures { λ r. ⌜ Replied (replies (now (bytes .entry))) limit (now (out .entry)) (now (out .exit)) r ⌝ }
+{
+    let ran = record_replies::run(Auction::new(), bytes, limit, out);
+    ran.written
+}
+
+// Writes the replies to a record, if they fit, through a scratch buffer: from there they are copied. What is too long for it is computed again.
+fn replies_through(bytes: &[u8], scratch: &mut [u8], out: &mut [u8]) -> usize
+    ensures { λ r. ⌜ Fitted (replies (now (bytes .entry))) (now (out .entry)) (now (out .exit)) r ⌝ }
+{
+    let room = out.len();
+    let n = run_fresh(bytes, room, scratch);
+    if room < n {
+        return n;
+    }
+    if n <= scratch.len() {
+        copy(&scratch[..n], out);
+        return n;
+    }
+    run_fresh(bytes, n, out)
+}
+
+fn replies_tried(bytes: &[u8], out: &mut [u8]) -> usize
+    ensures { λ r. ⌜ Fitted (replies (now (bytes .entry))) (now (out .entry)) (now (out .exit)) r ⌝ }
+{
+    let mut scratch = [0u8; SCRATCH];
+    replies_through(bytes, &mut scratch, out)
+}
+
+// Writes the replies to a record, if they fit: how many bytes they have, or more than the buffer has.
+fn replies_in(bytes: &[u8], out: &mut [u8]) -> usize
+    ensures { λ r. ⌜ Fitted (replies (now (bytes .entry))) (now (out .entry)) (now (out .exit)) r ⌝ }
+{
+    let room = out.len();
+    if reply_bound::enough(bytes, room) {
+        return run_fresh(bytes, room, out);
+    }
+    replies_tried(bytes, out)
+}
 
 // Replays a record: how many bytes its replies have, or 2^64 less 11 where they do not fit the buffer.
 pub fn replay(bytes: &[u8], out: &mut [u8]) -> u64
     ensures { λ r. ⌜ r ≡ hosted (replies (now (bytes .entry))) (now (out .entry)) ⌝ }
     ensures { λ _. ⌜ now (out .exit) ≡ over (replies (now (bytes .entry))) (now (out .entry)) ⌝ }
 {
-    if record_replies::fits(bytes, out.len()) {
-        return record_replies::write(bytes, out) as u64;
+    let room = out.len();
+    let n = replies_in(bytes, out);
+    if n <= room {
+        return n as u64;
     }
     host_numbers::host_number(11, 0)
 }
@@ -39,8 +103,9 @@ pub fn print(bytes: &[u8], out: &mut [u8]) -> usize
     if LONGEST_RECORD < bytes.len() {
         return put_refusal(out);
     }
-    if record_replies::fits(bytes, LONGEST_RECORD) {
-        return record_replies::write(bytes, out);
+    let n = replies_in(bytes, &mut out[..LONGEST_RECORD]);
+    if LONGEST_RECORD < n {
+        return put_refusal(out);
     }
-    put_refusal(out)
+    n
 }

@@ -1,72 +1,168 @@
-// The replies to a record, from a fresh auction (document 01, Frames): whether they fit so many bytes, and the replies written, each into the
-// tail that is left.
+// The replies to the lines of a record, from an auction on (document 01, Frames), in one loop. It keeps the auction as its one local: a line is read
+// and decided from the clock and what the auction holds where the call reaches, and only what changes is stored.
 ghost use mathlib.Core.Path.{_≡_};
-ghost use Prim.Native.Nat.{_≤_};
-ghost use lib.Dec.{leb};
-ghost use lib.ListN.{length};
-ghost use Rattle.numbers.specs.Tails.{laid};
-ghost use Rattle.replies.specs.Orders.{orderIn};
-ghost use Rattle.replies.specs.Replies.{replies};
-ghost use Rattle.frame_turns.specs.Turns.{Takes};
+ghost use Prim.Native.Nat.{_<_};
+ghost use Rattle.record_replies.specs.Runs.{Runs};
+ghost use Rattle.reply_writing.specs.Placed.{most};
 use auction::Auction;
-use frame_turns::Turn;
+use settling::Settled;
+use settling::UNSETTLED;
 
-// The next auction and the reply to a line.
-fn step(auction: Auction, line: &[u8]) -> Turn
-    ensures { λ r. ⌜ Takes auction (orderIn (now (line .entry))) r ⌝ }
-{
-    answering::respond(auction, frames::decode(line))
+// The auction behind the lines; the number of bytes of their replies, above the limit where they have more; and its settlement with the bytes of the award
+// records, if one was kept.
+pub struct Ran {
+    pub auction: Auction,
+    pub written: usize,
+    pub kept: bool,
+    pub settled: Settled,
+    pub awards: [u8; 192],
 }
 
-// Whether the sizes of the replies to a record add up to at most so many bytes.
-fn sizes_fit(bytes: &[u8], limit: usize) -> bool
-    ensures { λ r. ⌜ r ≡ leb (length (replies (now (bytes .entry)))) limit ⌝ }
+// Each reply is written behind the others, where all of them so far are at most `limit` bytes and lie within `out`.
+pub fn run(start: Auction, bytes: &[u8], limit: usize, out: &mut [u8]) -> Ran
+    requires { ⌜ limit < most ⌝ }
+    ensures { λ r. ⌜ Runs start (now (bytes .entry)) limit (now (out .entry)) (now (out .exit)) r ⌝ }
 {
-    let mut auction = Auction::new();
-    let mut at: usize = 0;
-    let mut used: usize = 0;
-    while at < bytes.len() {
-        let line = lines::next_line(bytes, at);
-        let turn = step(auction, line);
-        let reply = turn.reply;
-        let n = reply_sizes::size(reply);
-        if limit - used < n {
-            return false;
-        }
-        let next = turn.auction;
-        auction = next;
-        used += n;
-        at = at + line.len() + 1;
-    }
-    true
-}
-
-// Whether the replies to a record fit so many bytes. Their sizes are asked only where the lines leave it open.
-pub fn fits(bytes: &[u8], limit: usize) -> bool
-    ensures { λ r. ⌜ r ≡ leb (length (replies (now (bytes .entry)))) limit ⌝ }
-{
-    if reply_bound::enough(bytes, limit) {
-        return true;
-    }
-    sizes_fit(bytes, limit)
-}
-
-// Writes the replies to a record, which fit, and gives their number of bytes.
-pub fn write(bytes: &[u8], out: &mut [u8]) -> usize
-    requires { ⌜ length (replies (now bytes)) ≤ length (now out) ⌝ }
-    ensures { λ r. ⌜ (r ≡ length (replies (now (bytes .entry)))) × (now (out .exit) ≡ laid (replies (now (bytes .entry))) (now (out .entry))) ⌝ }
-{
-    let mut auction = Auction::new();
+    let mut auction = start;
+    // a closed auction never changes again: its settlement, once found
+    let mut kept = false;
+    let mut settled = UNSETTLED;
+    let mut awards = [0u8; 192];
     let mut read: usize = 0;
     let mut written: usize = 0;
     while read < bytes.len() {
         let line = lines::next_line(bytes, read);
-        let turn = step(auction, line);
-        let reply = turn.reply;
-        written += reply_writing::put(&mut out[written..], reply);
-        let next = turn.auction;
-        auction = next;
+        let frame = frames::decode(line);
         read = read + line.len() + 1;
+        let kind = frame.kind;
+        if frame_turns::is_move(kind) {
+            let i = frame_turns::mover(frame);
+            let settings = auction.settings;
+            let declared = auction.declared[i];
+            let before = auction.histories[i];
+            let moved = frame_turns::move_turn(
+                frame,
+                auction.phase,
+                settings,
+                auction.opening,
+                auction.closing,
+                auction.kinds[i],
+                declared,
+                auction.quantities[i],
+                before,
+            );
+            let after = moved.history;
+            auction.histories[i] = after;
+            written = reply_writing::plain_at(out, limit, written, kind, moved.number);
+            continue;
+        }
+        if frame_turns::is_registration(kind) {
+            let projects = auction.projects;
+            let kinds = auction.kinds;
+            let entered = frame_turns::registration_turn(frame, auction.phase, projects, kinds);
+            if entered.number != 0 {
+                written = reply_writing::plain_at(out, limit, written, kind, entered.number);
+                continue;
+            }
+            let i = entered.place;
+            let declared = entered.declared;
+            auction.projects[i] = entered.project;
+            auction.kinds[i] = entered.kind;
+            auction.agents[i] = entered.agent;
+            auction.studies[i] = entered.study;
+            auction.days[i] = entered.day;
+            auction.quantities[i] = entered.quantity;
+            auction.declared[i] = declared;
+            written = reply_writing::plain_at(out, limit, written, kind, 0);
+            continue;
+        }
+        if frame_turns::is_clock(kind) {
+            let before = auction.settings;
+            let projects = auction.projects;
+            let quantities = auction.quantities;
+            let turned = frame_turns::clock_turn(
+                frame,
+                auction.phase,
+                before,
+                auction.opening,
+                auction.closing,
+                projects,
+                quantities,
+            );
+            let settings = turned.settings;
+            auction.phase = turned.phase;
+            auction.settings = settings;
+            auction.opening = turned.opening;
+            auction.closing = turned.closing;
+            written = reply_writing::plain_at(out, limit, written, kind, turned.number);
+            continue;
+        }
+        if kind == 5 {
+            if auction.phase != Auction::ROUND {
+                written = reply_writing::plain_at(out, limit, written, 5, 2);
+                continue;
+            }
+            let settings = auction.settings;
+            let projects = auction.projects;
+            let kinds = auction.kinds;
+            let quantities = auction.quantities;
+            let declared = auction.declared;
+            let histories = auction.histories;
+            let curve = auction.curve;
+            let rounded = auction::closing_round(
+                settings,
+                auction.opening,
+                auction.closing,
+                projects,
+                kinds,
+                quantities,
+                declared,
+                histories,
+                curve,
+            );
+            let left = rounded.quantities;
+            let withdrawn = rounded.histories;
+            let extended = rounded.curve;
+            auction.phase = rounded.phase;
+            auction.quantities = left;
+            auction.histories = withdrawn;
+            auction.curve = extended;
+            let reply = reply_values::closing_reply(0, rounded.excess, rounded.remainder);
+            written = reply_writing::reply_at(out, limit, written, reply);
+            continue;
+        }
+        if kind == 6 {
+            if limit < written {
+                continue;
+            }
+            if auction.phase != Auction::CLOSED {
+                written = reply_writing::plain_at(out, limit, written, 6, 2);
+                continue;
+            }
+            let asked = frame_fields::word(frame, 0);
+            if kept {
+                let number = settling::number_again(settled, asked);
+                if number != 0 {
+                    written = reply_writing::plain_at(out, limit, written, 6, number);
+                    continue;
+                }
+                let again = reply_values::settling_reply(settled, &awards);
+                written = reply_writing::reply_at(out, limit, written, again);
+                continue;
+            }
+            settled = settling::settle(auction, asked, &mut awards);
+            kept = settled.number == 0;
+            let reply = reply_values::settling_reply(settled, &awards);
+            written = reply_writing::reply_at(out, limit, written, reply);
+            continue;
+        }
+        written = reply_writing::plain_at(out, limit, written, 255, 12);
     }
-    written
+    Ran {
+        auction,
+        written,
+        kept,
+        settled,
+        awards,
+    }
 }

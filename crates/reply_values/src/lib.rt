@@ -1,4 +1,4 @@
-// The values of a reply's fields, from what a closing or a settling answered.
+// The replies to a closing and to a settling, and the values of their fields.
 ghost use mathlib.Core.Path.{_≡_};
 ghost use mathlib.Core.Bool.{cond};
 ghost use Prim.Native.Nat.{min, _*_};
@@ -9,6 +9,7 @@ ghost use Rattle.rules.specs.Settling.{Settlement};
 ghost use Rattle.replies.specs.Replies.{twosComplement, valuesOf, closingFields};
 ghost use Rattle.settling.specs.Settles.{settledAs};
 ghost use Rattle.reply_sizes.specs.Texts.{Valued};
+ghost use Rattle.reply_values.specs.Shows.{ShowsClosing, ShowsSettling};
 use reply_sizes::AWARD_ROOM;
 use reply_sizes::Reply;
 use reply_sizes::Values;
@@ -99,4 +100,28 @@ pub fn award_bytes(records: usize) -> usize
         return 6 * records;
     }
     AWARD_ROOM
+}
+
+// The reply to a closing; a refusal shows nothing of the excess and the remainder.
+pub fn closing_reply(number: u8, excess: i64, remainder: u32) -> Reply
+    ensures { λ r. ⌜ ShowsClosing number excess remainder r ⌝ }
+{
+    let mut reply = blank(5, number);
+    let values = closing_values(bits_of(excess), remainder);
+    reply.values = values;
+    reply
+}
+
+// The reply to a settling, with the bytes that it wrote its award records to; a refusal shows nothing of them.
+pub fn settling_reply(settled: Settled, awards: &[u8; AWARD_ROOM]) -> Reply
+    ensures { λ r. ⌜ ShowsSettling settled (now (awards .entry)) r ⌝ }
+{
+    let values = settling_values(settled);
+    Reply {
+        kind: 6,
+        number: settled.number,
+        values: values,
+        filled: award_bytes(settled.records),
+        awards: *awards,
+    }
 }

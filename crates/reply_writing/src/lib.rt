@@ -1,12 +1,14 @@
 // A reply's text written at the start of the tail that it is handed.
 ghost use mathlib.Core.Path.{_≡_};
-ghost use mathlib.Core.List.{map, flatten};
-ghost use Prim.Native.Nat.{_*_, _≤_};
+ghost use mathlib.Core.List.{[], map, flatten};
+ghost use Prim.Native.Nat.{_*_, _≤_, _<_};
 ghost use lib.ListN.{length, take};
 ghost use Rattle.format.specs.Hex.{digits};
 ghost use Rattle.format.specs.Fields.{textAt};
 ghost use Rattle.numbers.specs.Lists.{total};
 ghost use Rattle.numbers.specs.Tails.{laid};
+ghost use Rattle.replies.specs.Replies.{answerLine};
+ghost use Rattle.reply_writing.specs.Placed.{most, Puts};
 ghost use Rattle.reply_sizes.specs.Texts.{shownText, textOf};
 use reply_sizes::Reply;
 
@@ -65,4 +67,58 @@ pub fn put(out: &mut [u8], reply: Reply) -> usize
     let end = 4 + put_added(&mut out[4..], reply);
     field_writing::put_byte(&mut out[end..], 10);
     end + 1
+}
+
+// ---- at a place of a buffer, where a limit allows it
+
+// Above every limit.
+pub const TOO_MANY: usize = 18_446_744_073_709_551_615;
+
+// Writes a reply of kind, answer and 0A alone.
+fn put_plain(out: &mut [u8], kind: usize, number: u8)
+    requires { ⌜ 5 ≤ length (now out) ⌝ }
+    ensures { λ _. ⌜ now (out .exit) ≡ laid (answerLine kind number []) (now (out .entry)) ⌝ }
+{
+    field_writing::put_hex(out, kind as u64, 2);
+    field_writing::put_hex(&mut out[2..], number as u64, 2);
+    field_writing::put_byte(&mut out[4..], 10);
+}
+
+// A reply of kind, answer and 0A alone: the place behind it, or one above the limit.
+pub fn plain_at(out: &mut [u8], limit: usize, at: usize, kind: usize, number: u8) -> usize
+    requires { ⌜ limit < most ⌝ }
+    ensures { λ r. ⌜ Puts (answerLine kind number []) limit at (now (out .entry)) (now (out .exit)) r ⌝ }
+{
+    if limit < at {
+        return at;
+    }
+    if limit - at < 5 {
+        return TOO_MANY;
+    }
+    let end = at + 5;
+    if out.len() < end {
+        return end;
+    }
+    put_plain(&mut out[at..], kind, number);
+    end
+}
+
+// Any reply, likewise.
+pub fn reply_at(out: &mut [u8], limit: usize, at: usize, reply: Reply) -> usize
+    requires { ⌜ limit < most ⌝ }
+    ensures { λ r. ⌜ Puts (textOf reply) limit at (now (out .entry)) (now (out .exit)) r ⌝ }
+{
+    if limit < at {
+        return at;
+    }
+    let n = reply_sizes::size(reply);
+    if limit - at < n {
+        return TOO_MANY;
+    }
+    let end = at + n;
+    if out.len() < end {
+        return end;
+    }
+    put(&mut out[at..], reply);
+    end
 }

@@ -1,2 +1,4 @@
 pub mod Accepted
 pub mod Settles
+pub mod Kept
+pub mod KeptLaws

@@ -1,6 +1,7 @@
 // Settling a closed auction: closing price, award, counts, and the award records in the lent buffer (document 01, Closing price and award).
 ghost use Rattle.settling.specs.Settles.{Settles, refusedWith};
 ghost use Rattle.settling.specs.Accepted.{acceptedWith};
+ghost use Rattle.settling.specs.Kept.{numberAgain};
 ghost use mathlib.Core.Path.{_≡_};
 use auction::Auction;
 use cleared::Cleared;
@@ -110,4 +111,15 @@ pub fn settle(auction: Auction, limit: u32, awards: &mut [u8]) -> Settled
     let paid = participation::price_paid(insufficient, auction.settings.ce, cleared.price);
     award_records::write_awards(awards, award, winners);
     accepted(cleared, selected, insufficient, paid, records)
+}
+
+// The number of another settling of the same auction into as many bytes, by the answer to one that was accepted: a closed auction never changes
+// again, so that only the limit is left to test.
+pub fn number_again(settled: Settled, limit: u32) -> u8
+    ensures { λ r. ⌜ r ≡ numberAgain settled limit ⌝ }
+{
+    if checks::capped_limit(limit) < settled.choices {
+        return 10;
+    }
+    0
 }

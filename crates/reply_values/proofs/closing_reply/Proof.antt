@@ -1,0 +1,31 @@
+-- The excess in two's complement and the remainder are the values of a closing's fields.
+use mathlib.Core.Path.{ap, _∙_}
+use mir.Facts.{toZ-ofZ}
+use mir.Syntax.{w64}
+use mir.Val.{SFits}
+use borrow.Author.Needs.{needs}
+use Rattle.replies.specs.Replies.{twosComplement, closingText}
+use Rattle.reply_sizes.specs.TextLaws.{text-of, closing-added}
+use Rattle.reply_values.proofs.closing_reply.Statement.{statement}
+use Rattle.reply_values.proofs.closing_reply.Tie as tie
+
+blank-requires : tie.Need-blank-requires
+blank-requires c κs = search needs
+
+bits-of-requires : tie.Need-bits-of-requires
+bits-of-requires c κs = search needs
+
+closing-values-requires : tie.Need-closing-values-requires
+closing-values-requires c κs = search needs
+
+returns : tie.Need-returns
+returns c = record {
+  text = λ x e f.
+      let s : SFits w64 (c .before .before .before .args .excess) = search needs in
+      let b = c .before .before .blank .ensures .0 in
+      let bits = c .before .bits-of .ensures ∙ ap twosComplement (toZ-ofZ s ∙ e) in
+      text-of _ 5 _ (closingText x) (b .0) (b .1) (λ z. closing-added _ x (b .0) (c .closing-values .ensures x bits f));
+}
+
+pub closing-reply-spec : {M : Type 1} → statement M
+closing-reply-spec = tie.close (tie.spec blank-requires bits-of-requires closing-values-requires returns)
