@@ -1,11 +1,9 @@
--- A reply in words and decimal numbers, an item a line: a name, and its numbers with a blank between them.
+-- What stands around a reply in words and decimal numbers, an item a line: a name, and its numbers with a blank between them.
 use Prim.Native.Nat.{ℕ}
-use mathlib.Core.Bool.{cond}
+use mathlib.Core.Bool.{Bool, cond}
 use mathlib.Core.List.{List, [], _++_}
 use lib.Dec.{eqb}
 use Rattle.settling.specs.declared.Settled.{Settled}
-use Rattle.reply_sizes.specs.declared.Reply.{Reply}
-use Rattle.reply_sizes.specs.Texts.{textOf}
 use Rattle.decimal_text.specs.Decimal.{bytesOf}
 use Rattle.decimal_text.specs.Items.{numberItem, signed, item, signedItem}
 use Rattle.settling_text.specs.SettledLines.{settledLines}
@@ -14,13 +12,6 @@ use Rattle.trace_text.specs.declared.PreviewShown.{PreviewShown}
 -- below an accepted closing
 unfoldable pub closedLines : ℕ → ℕ → List ℕ
 closedLines excess remainder = signedItem (bytesOf "excess ") excess ++ item (bytesOf "remainder ") remainder
-
--- below a reply, by the excess and the remainder of a closing and what a settling answered: nothing if it is refused or of another kind
-unfoldable pub wordsOf : Reply → ℕ → ℕ → Settled → List ℕ
-wordsOf r excess remainder s =
-    cond (eqb (r .number) 0)
-    (cond (eqb (r .kind) 5) (closedLines excess remainder) (cond (eqb (r .kind) 6) (settledLines s (r .awards)) []))
-    []
 
 -- what the preview of a closing says (document 02, 6): its number, excess and remainder, and 1 where the auction would then be closed
 unfoldable pub previewLine : PreviewShown → List ℕ
@@ -35,6 +26,8 @@ pointLine price before after = bytesOf "curve " ++ numberItem price 32 ++ number
 unfoldable pub linesBefore : ℕ → PreviewShown → List ℕ
 linesBefore kind p = cond (eqb kind 5) (previewLine p) []
 
--- a reply's line, with what stands before it and below it
-unfoldable pub traceOf : Reply → PreviewShown → ℕ → ℕ → Settled → List ℕ
-traceOf r p excess remainder s = linesBefore (r .kind) p ++ textOf r ++ wordsOf r excess remainder s
+-- below a reply, by its kind, whether it is accepted, the preview of a closing and what a settling answered: nothing if it is refused or of another
+-- kind
+unfoldable pub linesBelow : ℕ → Bool → PreviewShown → Settled → List ℕ → List ℕ
+linesBelow kind accepted p s awards =
+    cond accepted (cond (eqb kind 5) (closedLines (p .excess) (p .remainder)) (cond (eqb kind 6) (settledLines s awards) [])) []

@@ -8,7 +8,7 @@ use Rattle.trace_text.proofs.put_before.Statement.{statement}
 use Rattle.trace_text.proofs.put_before.Tie as tie
 
 returns : tie.Need-returns
-returns c = puts-as (puts-none _ 0 0 (omega arith)) _ 100 (sym (before-other _ _ (c .if1 .taken))) (omega arith)
+returns c = puts-as (puts-none _ 0 _ (omega arith)) _ 100 (sym (before-other _ _ (c .if1 .taken))) (omega arith)
 
 put-preview-requires : tie.Need-put-preview-requires
 put-preview-requires c κs = search needs
