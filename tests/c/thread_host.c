@@ -1,6 +1,6 @@
 /*
- * Replays a record and asks who can force the price behind it, in a thread with no more stack than the
- * header asks for, and little beside it for the thread itself.
+ * Replays a record, with an ample and with an exact buffer, and asks who can force the price behind it, in
+ * a thread with no more stack than the header asks for, and little beside it for the thread itself.
  */
 #include "reference_engine.h"
 #include <pthread.h>
@@ -17,7 +17,7 @@ static const char record[] = "0100004E2000000003E8000000038400000004B000009C40\n
                              "0600000064\n";
 static const uint64_t prices[] = {25999, 10000};
 static uint8_t replies[4096];
-static uint64_t written, outcome;
+static uint64_t written, exact, outcome;
 
 static void *calls(void *unused)
 {
@@ -25,6 +25,7 @@ static void *calls(void *unused)
 
     (void)unused;
     written = replay((const uint8_t *)record, strlen(record), replies, sizeof replies);
+    exact = replay((const uint8_t *)record, strlen(record), replies, written);
     outcome = who_can_force((const uint8_t *)record, strlen(record), 1, 2, prices, 2, &move, 1);
     return NULL;
 }
@@ -40,5 +41,5 @@ int main(void)
         return 1;
     printf("thread_host: %llu bytes, outcome %llu\n", (unsigned long long)written,
            (unsigned long long)outcome);
-    return written > REFERENCE_ENGINE_REFUSAL(20) || outcome > REFERENCE_ENGINE_REFUSAL(20);
+    return written > REFERENCE_ENGINE_REFUSAL(20) || exact != written || outcome > REFERENCE_ENGINE_REFUSAL(20);
 }

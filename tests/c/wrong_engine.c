@@ -1,11 +1,14 @@
 /*
  * A deliberately wrong engine over the right one, to see that the comparisons report a fault.
  * WRONG in the environment names it: demand (one kWh more), remainder (that of the quotient, which is
- * CE less the right one), digit (the last digit of the replies), behind (the byte behind the replies),
- * mark (that of the second price is never short), sufficient (participation always is, by its mark),
- * paid (existing plants are always paid P), order (the first two awards change places), arrival (the
- * last digit of each closing, where the first offer is a higher developer's than the second), step
- * (the last digit of an offer's frame), width (an opening's price cut to its field), kind (a lodging
+ * CE less the right one), digit (the last digit of the replies), behind (the byte behind the
+ * replies), part (a buffer one byte too short gets what fits of the replies), far (the last digit of
+ * replies that are longer than KEPT bytes, in a buffer of just their length), again (a settling
+ * refused by 10 behind an accepted one has that one's reply, if the buffer is long enough), mark
+ * (that of the second price is never short), sufficient (participation always is, by its mark), paid
+ * (existing plants are always paid P), order (the first two awards change places), arrival (the last
+ * digit of each closing, where the first offer is a higher developer's than the second), step (the
+ * last digit of an offer's frame), width (an opening's price cut to its field), kind (a lodging
  * written as an offer), agent (a registration for the developer's own number), own (one for it in
  * frame 02), cost (the first digit of a set-up's CE), study (study value and start day of a
  * registration change places), short (14 for a closing whose buffer is too short), early (13 tested
@@ -118,13 +121,56 @@ static void replies_wrong(uint8_t *replies, uint64_t written, int closings) {
     }
 }
 
+/* The reply of the first accepted settling in place of those refused by 10 behind it, as far as the
+ * buffer is long enough; the bytes of the replies then. */
+static uint64_t settled_again(uint8_t *replies, uint64_t written, size_t replies_length) {
+    /* Bytes of the longest reply and of a refusal, with their 0A. */
+    enum { LONGEST = 463, REFUSED = 5 };
+    uint8_t first[LONGEST];
+    uint64_t start = 0, length = 0;
+    for (uint64_t end = 0; end < written; end++) {
+        if (replies[end] != '\n')
+            continue;
+        if (length == 0 && memcmp(replies + start, "0600", 4) == 0) {
+            length = end + 1 - start;
+            memcpy(first, replies + start, length);
+        }
+        int refused = length > 0 && memcmp(replies + start, "060A", 4) == 0;
+        uint64_t more = refused ? length - REFUSED : 0;
+        if (refused && more <= replies_length - written) {
+            memmove(replies + end + 1 + more, replies + end + 1, written - end - 1);
+            memcpy(replies + start, first, length);
+            written += more;
+            end += more;
+        }
+        start = end + 1;
+    }
+    return written;
+}
+
+/* What fits of the replies, if the buffer is one byte too short. */
+static void write_part(const uint8_t *record, size_t record_length, uint8_t *replies,
+                       size_t replies_length) {
+    uint8_t *enough = malloc(replies_length + 1);
+    if (right_replay(record, record_length, enough, replies_length + 1) == replies_length + 1)
+        memcpy(replies, enough, replies_length);
+    free(enough);
+}
+
+/* The most bytes of replies that the engine keeps until it knows that they fit. */
+enum { KEPT = 24576 };
+
 uint64_t replay(const uint8_t *record, size_t record_length, uint8_t *replies,
                 size_t replies_length) {
     uint64_t written = right_replay(record, record_length, replies, replies_length);
+    if (written > replies_length && replies_length > 0 && fault("part"))
+        write_part(record, record_length, replies, replies_length);
     if (written < 2 || written > replies_length)
         return written;
-    if (fault("digit"))
+    if (fault("digit") || (fault("far") && written > KEPT && written == replies_length))
         replies[written - 2] ^= 1;
+    if (fault("again"))
+        written = settled_again(replies, written, replies_length);
     replies_wrong(replies, written, fault("arrival") && higher_first(record, record_length));
     if (fault("behind") && written < replies_length)
         replies[written] ^= 1;

@@ -16,6 +16,8 @@ mod lodgings;
 mod long;
 pub(crate) mod offers;
 pub(crate) mod refused;
+mod repeated;
+pub mod timed;
 
 use crate::auction::{Auction, Phase};
 use crate::parts::in_parts;
@@ -29,6 +31,7 @@ pub use counted::{largest_book, LARGEST_BOOKS};
 pub use crowded::{easy_book, hard_book};
 pub use late::late_record;
 pub use long::long_record;
+pub use repeated::repeated_record;
 use std::ops::Range;
 
 /// Makes records of one sort.

@@ -50,6 +50,21 @@ pub fn write_replies(replies: &[u8], buffer: &mut [u8]) -> u64 {
     }))
 }
 
+/// The most bytes of replies that the engine keeps until it knows that they fit a lent buffer which
+/// the lines of the record leave open; longer ones take it a second pass.
+pub const KEPT_BYTES: usize = 24_576;
+
+/// The length of a buffer that always fits (include/reference_engine.h): for each line 5 bytes, 24
+/// more if its second character is 5, 458 more if it is 6.
+pub fn always_fits(record: &[u8]) -> usize {
+    let lengths = lines(record).into_iter().map(|line| match line.get(1) {
+        Some(b'5') => 5 + 24,
+        Some(b'6') => 5 + 458,
+        _ => 5,
+    });
+    lengths.sum()
+}
+
 /// The most bytes that the program `replay` reads, and the length of its reply buffer.
 pub const PROGRAM_BYTES: usize = 65_536;
 

@@ -1,9 +1,11 @@
 //! What a program that compares replies prints: one line a group of records with what their
 //! replies were, and the first difference; how often rounds closed where the closing rule
 //! decides; how often demand had a remainder; what lodged lists and cancellations did; who
-//! participated; how searches went; what closings did to the supply curve; what was moved to another
-//! order; and what it ends with.
+//! participated; what settlings stand behind and between; how long the lent buffers were; how searches
+//! went; what closings did to the supply curve, and who moved by them; what was moved to another order;
+//! and what it ends with.
 
+mod buffers;
 mod cancellations;
 mod closings;
 mod compared;
@@ -13,17 +15,21 @@ mod features;
 mod games;
 mod hall;
 mod lodgings;
+mod moves;
 mod orders;
 mod pairs;
 mod participation;
 mod remainders;
 mod sealed;
 mod searches;
+mod settlings;
 
 use crate::parts::in_parts;
 use crate::replay::lines;
 use crate::settling::Settlement;
 use crate::shuffling::Order;
+pub use buffers::Buffer;
+use buffers::BUFFERS;
 pub use cancellations::{Cancellations, CANCELLATIONS};
 pub use closings::Closings;
 pub use compared::{Compared, Kind};
@@ -33,6 +39,7 @@ pub use features::Features;
 pub use games::{Asked, QUESTIONS};
 pub use hall::SEATS;
 pub use lodgings::{Lodgings, LODGINGS};
+use moves::{Moves, MOVES};
 use orders::Orders;
 pub use orders::PASSAGES;
 pub use pairs::PAIRS;
@@ -40,6 +47,7 @@ pub use participation::{Participation, PARTICIPATION};
 pub use remainders::Remainders;
 pub use sealed::{Opened, SEALED};
 use searches::SEARCHES;
+use settlings::{Settlings, SETTLINGS};
 use std::collections::BTreeMap;
 use std::fmt::Write;
 use std::process::ExitCode;
@@ -86,6 +94,9 @@ pub struct Group {
     orders: Orders,
     searches: Features<Settlement>,
     curves: Features<Redrawn>,
+    settlings: Features<Settlings>,
+    buffers: Features<Buffer>,
+    moves: Features<Moves>,
     /// Words of traces by their names.
     words: BTreeMap<String, u64>,
     difference: Option<String>,
@@ -108,6 +119,9 @@ impl Group {
             orders: Orders::new(),
             searches: Features::new(SEARCHES),
             curves: Features::new(CURVES),
+            settlings: Features::new(SETTLINGS),
+            buffers: Features::new(BUFFERS),
+            moves: Features::new(MOVES),
             words: BTreeMap::new(),
             difference: None,
         }
@@ -144,6 +158,9 @@ impl Group {
         self.orders.join(&other.orders);
         self.searches.join(&other.searches);
         self.curves.join(&other.curves);
+        self.settlings.join(&other.settlings);
+        self.buffers.join(&other.buffers);
+        self.moves.join(&other.moves);
         add(&mut self.words, other.words);
         self.difference = self.difference.take().or(other.difference);
     }
@@ -194,6 +211,26 @@ impl Group {
         }
     }
 
+    /// Counts the settlings of a record with these replies, and the accepted closings by who moved.
+    pub fn count_repeated(&mut self, record: &[u8], replies: &[u8]) {
+        self.settlings.count(&Settlings::of(replies));
+        for closing in Moves::all(record) {
+            self.moves.count(&closing);
+        }
+    }
+
+    /// Counts a buffer that was lent.
+    pub fn count_buffer(&mut self, buffer: &Buffer) {
+        self.buffers.count(buffer);
+    }
+
+    /// Whether enough settlings, lent buffers and closings show each feature.
+    pub fn holds_enough(&self, fewest: u64) -> bool {
+        let settlings = self.settlings.hold_enough(fewest);
+        let buffers = self.buffers.hold_enough(fewest);
+        self.moves.hold_enough(fewest) && settlings && buffers
+    }
+
     /// Counts a line of a trace's words by its name.
     pub fn count_word(&mut self, name: &str) {
         *self.words.entry(name.to_owned()).or_default() += 1;
@@ -233,6 +270,9 @@ impl Group {
         self.lodgings.print("lodgings by record");
         self.cancellations.print("cancellations by record");
         self.participation.print("participation by record");
+        self.settlings.print("settlings by record");
+        self.buffers.print("lent buffers");
+        self.moves.print("moves by closing");
         self.cut.print();
         self.orders.print();
         if !self.words.is_empty() {

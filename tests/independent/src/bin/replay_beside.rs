@@ -1,14 +1,15 @@
 //! Runs the engine's replay call beside the independent implementation.
-//! Each record is replayed into buffers that are one byte too short, exact, and longer; every
-//! byte of them, and of their surroundings, is compared. Each well-formed line is also written
+//! Each record is replayed into buffers that are too short, by one byte and by half, exact, longer, and
+//! around the length that always fits; every byte of them, and of their surroundings, is compared. Each well-formed line is also written
 //! again by the engine, which has to give the same bytes, with their 0A. A record is also replayed
 //! by the engine without its cancelled offers, and without all that was refused; each has to give
 //! the rest of its replies, and whole buffers.
 //! One line a group of records: their replies by kind and answer, and `ok` or the first
 //! difference; below it, how many lines were written again, how many rounds closed where the
 //! closing rule decides, how many closings and settlings had a remainder, what lodged lists and
-//! cancellations did, who participated, and how much was cut. The exit status is 0 only if no group
-//! differs.
+//! cancellations did, who participated, what settlings stand behind and between, how long the buffers
+//! were, who moved by closings, and how much was cut. The exit status is 0 only if no group differs, and
+//! nothing of settlings, buffers and moves is too rare among the records settled again.
 
 #[path = "../engine.rs"]
 mod engine;
@@ -16,10 +17,11 @@ mod engine;
 mod replaying;
 
 use independent::cutting::{cancelled, refused, without};
+use independent::parts::in_parts;
 use independent::random::Random;
-use independent::records::{edges, fixed, records_of, Records};
+use independent::records::{edges, fixed, records_of, repeated_record, Records};
 use independent::replay::{fields, lines, read_call, replay, Call};
-use independent::report::{few, inputs, verdict, Group};
+use independent::report::{few, inputs, verdict, Buffer, Group};
 use independent::sample;
 use replaying::{compare_lent, engines_replies};
 use std::collections::BTreeSet;
@@ -34,8 +36,13 @@ fn main() -> ExitCode {
     let compared: Vec<bool> = compared
         .map(|(name, records)| Group::of(name, &records(), compare).report())
         .collect();
-    verdict(stated.iter().chain(&fixed).chain(&compared))
+    let again = Group::of("settled again", &settled_again(), compare);
+    let again = [again.report(), few() || again.holds_enough(FEWEST)];
+    verdict(stated.iter().chain(&fixed).chain(&compared).chain(&again))
 }
+
+/// The fewest settlings, buffers and closings that show each feature among the records settled again.
+const FEWEST: u64 = 150;
 
 const STATED: [fn() -> Group; 5] = [
     sample_record,
@@ -55,9 +62,10 @@ const COMPARED: [(&str, Records); 4] = [
     }),
 ];
 
-const SIZES: [(&str, Records); 3] = [
+const SIZES: [(&str, Records); 4] = [
     ("sizes of records", edges::record_sizes),
     ("sizes of replies", edges::reply_sizes),
+    ("sizes of kept replies", edges::kept_sizes),
     ("largest books", edges::largest_books),
 ];
 
@@ -65,8 +73,11 @@ const SIZES: [(&str, Records); 3] = [
 fn compare(group: &mut Group, record: &[u8]) {
     let independent = replay(record);
     group.count(record, &independent);
-    for length in lengths_around(independent.len()) {
-        compare_lent(group, record, ("independent", &independent), length);
+    group.count_repeated(record, &independent);
+    for buffer in Buffer::all(record, &independent) {
+        group.count_buffer(&buffer);
+        let expected = ("independent", &independent[..]);
+        compare_lent(group, record, expected, buffer.length());
     }
     for line in lines(record) {
         if let Some(call) = read_call(line) {
@@ -115,13 +126,6 @@ fn compare_stated(group: &mut Group, record: &str, stated: &str) {
     compare(group, record);
 }
 
-/// Exact, one byte too short, and longer.
-fn lengths_around(replies: usize) -> Vec<usize> {
-    let short = replies.checked_sub(1);
-    let longer = [replies + 1, replies + 100];
-    [replies].into_iter().chain(short).chain(longer).collect()
-}
-
 /// The paper's sample, with buffers of every length up to its reply's.
 fn sample_record() -> Group {
     let mut group = Group::new("sample record");
@@ -165,6 +169,19 @@ fn stated(name: &'static str, records: &[(&str, &str)]) -> Group {
         compare_stated(&mut group, record, stated);
     }
     group
+}
+
+/// Auctions settled again and again, nearly half with long replies.
+fn settled_again() -> Vec<Vec<u8>> {
+    let seeds: Vec<u64> = (0..inputs(500)).collect();
+    let records = |seeds: &[u64]| {
+        seeds
+            .iter()
+            .copied()
+            .map(repeated_record)
+            .collect::<Vec<_>>()
+    };
+    in_parts(&seeds, records).concat()
 }
 
 /// A record of many blank and short lines that are frames or nearly so.

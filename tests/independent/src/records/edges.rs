@@ -1,7 +1,7 @@
 //! Records at the edges of the format: of lines, of bytes, and of sizes.
 
 use super::{easy_book, hard_book, largest_book, long_record, LARGEST_BOOKS};
-use crate::replay::{LONGEST_LINE, PROGRAM_BYTES};
+use crate::replay::{KEPT_BYTES, LONGEST_LINE, PROGRAM_BYTES};
 use crate::sample;
 
 /// No line, blank lines, a last line without 0A, bytes that are no digits, long lines.
@@ -115,6 +115,17 @@ pub fn reply_sizes() -> Vec<Vec<u8>> {
         records.push(record.into_bytes());
     }
     records
+}
+
+/// Replies in as many bytes as the engine keeps, some less and some more. The last line could be a
+/// settling by its second character, which leaves open how long they are.
+pub fn kept_sizes() -> Vec<Vec<u8>> {
+    let around = KEPT_BYTES - 6..=KEPT_BYTES + 6;
+    let open = |mut record: Vec<u8>| {
+        record.splice(record.len() - 1.., *b"06\n");
+        record
+    };
+    around.map(replied_by).map(open).collect()
 }
 
 const SHORTEST_REPLY: usize = "FF0C\n".len();

@@ -39,30 +39,17 @@ impl Writer {
             }
             (self.record, self.auction) = (record.clone(), auction.clone());
         }
-        self.short_round();
+        // A round of one price, in which all stay.
+        let c = self.auction.opening_price() - 1;
+        self.calm_round(c as u32);
         if *self.auction.phase() != Phase::BetweenRounds {
             (self.record, self.auction) = (record, auction);
         }
     }
-
-    /// A round of one price, in which all stay.
-    fn short_round(&mut self) {
-        let c = self.auction.opening_price() as u32 - 1;
-        self.make(&Call::Open { c });
-        let developers = self.auction.developers().clone().into_values();
-        for developer in developers.filter(|developer| developer.kind == NEW) {
-            self.make(&Call::Offer {
-                developer: developer.number,
-                prices: Vec::new(),
-                levels: Vec::new(),
-            });
-        }
-        self.make(&Call::Close);
-    }
 }
 
 /// Some existing plants, and new projects of one developer or several, whose levels are alike.
-fn late_book(random: &mut Random) -> Book {
+pub(super) fn late_book(random: &mut Random) -> Book {
     let unit = random.one_of(&[1_000, 1_000, 1_001, 7_000, 250_000, 20_000_000]);
     let scale: Vec<u32> = (1..=random.one_of(&[3, 8, 20]))
         .map(|multiple| multiple * unit)

@@ -113,11 +113,7 @@ impl<T> Compared<T> {
 
     /// Whether each feature is shown by so many calls.
     pub fn holds_enough(&self, fewest: u64) -> bool {
-        let counts = self.shown.iter().flat_map(Features::counts);
-        let rare: Vec<_> = counts.filter(|(_, count)| *count < fewest).collect();
-        for (name, count) in &rare {
-            println!("too rare: {name} {count}, fewer than {fewest}");
-        }
-        rare.is_empty()
+        let enough = self.shown.iter().map(|shown| shown.hold_enough(fewest));
+        !enough.collect::<Vec<_>>().contains(&false)
     }
 }

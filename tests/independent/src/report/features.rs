@@ -36,6 +36,15 @@ impl<T> Features<T> {
         names.zip(self.showing.iter().copied())
     }
 
+    /// Whether each feature is shown by so many; else it says which is too rare.
+    pub fn hold_enough(&self, fewest: u64) -> bool {
+        let rare: Vec<_> = self.counts().filter(|(_, count)| *count < fewest).collect();
+        for (name, count) in &rare {
+            println!("too rare: {name} {count}, fewer than {fewest}");
+        }
+        rare.is_empty()
+    }
+
     /// One line behind the title, if any shows the first feature.
     pub fn print(&self, title: &str) {
         if self.showing.first().is_some_and(|&first| first > 0) {

@@ -4,7 +4,7 @@
 use super::{each_step, Step, RECORDS};
 use crate::auction::Auction;
 use crate::records::DECISIVE;
-use crate::replay::{lines, replay, Accepted, Call};
+use crate::replay::{always_fits, lines, replay, Accepted, Call};
 use crate::report::{
     Cancellations, Closings, Features, Lodgings, Participation, Redrawn, Remainders,
 };
@@ -57,6 +57,7 @@ impl Shares {
         for closing in Redrawn::all(record) {
             self.curves.count(&closing);
         }
+        assert!(replies.len() <= always_fits(record), "what always fits");
         let replies = lines(&replies);
         assert_eq!(replies.len(), lines(record).len(), "one reply a line");
         self.records += 1;
