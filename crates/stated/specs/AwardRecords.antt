@@ -1,5 +1,5 @@
 -- The parts of what is stated of an award: the developer that a level goes to, and the order of the records in the lent buffer.
-use Prim.Native.Nat.{ℕ, suc, _-_, _<_}
+use Prim.Native.Nat.{ℕ, suc, _+_, _-_, _*_, _<_}
 use mathlib.Core.Path.{_≡_}
 use mathlib.Core.Logic.{_⊎_}
 use mathlib.Core.Bool.{true}
@@ -8,6 +8,7 @@ use lib.ListN.{length, getD}
 use Rattle.rules.specs.Ledger.{Ledger}
 use Rattle.rules.specs.Clearing.{developersOf}
 use Rattle.rules.specs.Award.{award, openToDeveloper}
+use Rattle.rules.specs.Participation.{Grant}
 use Rattle.awards.specs.Winners.{PreferredTo}
 
 -- the level of project k in the award at p
@@ -23,6 +24,14 @@ pub record Goes (l : Ledger) (p k v n : ℕ) : Type 0 where
 
 abbrev pub firstByte : List ℕ → ℕ
 firstByte bytes = getD bytes 0 0
+
+-- the quantity of a record: its last four bytes, the high byte first
+abbrev pub quantityOf : List ℕ → ℕ
+quantityOf bytes = ((getD bytes 2 0 * 256 + getD bytes 3 0) * 256 + getD bytes 4 0) * 256 + getD bytes 5 0
+
+-- what a record grants: that quantity, to the developer of its second byte
+abbrev pub granted : List ℕ → Grant
+granted bytes = record { developer = getD bytes 1 0; quantity = quantityOf bytes }
 
 -- the records stand by rising project number: the first byte of each, its project, is below that of the next (document 02, 8)
 abbrev pub ByRisingProject : List (List ℕ) → Type 0

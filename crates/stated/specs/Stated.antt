@@ -4,12 +4,13 @@ use Prim.Native.Nat.{ℕ, min, _*_, _/_, _≤_, _<_}
 use mathlib.Core.Path.{_≡_}
 use mathlib.Core.Logic.{_↔_}
 use mathlib.Core.Bool.{true, false, not}
-use mathlib.Core.List.{List, flatten}
+use mathlib.Core.List.{List, flatten, List·Memᴰ}
 use lib.ListN.{length}
 use Rattle.numbers.specs.Lists.{total}
 use Rattle.numbers.specs.Least.{Least}
 use Rattle.numbers.specs.Tails.{laid}
 use Rattle.choices.specs.Choices.{IsBest}
+use Rattle.choices.specs.Pairwise.{Distinct}
 use Rattle.rules.specs.Ledger.{Ledger}
 use Rattle.rules.specs.Clearing.{low, supply, covered, demandAt, remainderAt, closingPrice}
 use Rattle.rules.specs.Refusals.{isClosed}
@@ -20,7 +21,7 @@ use Rattle.rules.specs.Settling.{records}
 use Rattle.awards.specs.ParticipationLaws.{Recorded}
 use Rattle.settling.specs.Settles.{refusedWith}
 use Rattle.settling.specs.declared.Settled.{Settled}
-use Rattle.stated.specs.AwardRecords.{awardedLevel, Goes, ByRisingProject}
+use Rattle.stated.specs.AwardRecords.{awardedLevel, Goes, firstByte, quantityOf, ByRisingProject}
 
 -- the admissible choices do not outnumber the limit, capped at 65,536
 abbrev pub Within : Ledger → ℕ → Type 0
@@ -41,7 +42,9 @@ pub record Accepted (l : Ledger) (old new : List ℕ) (r : Settled) : Type 0 whe
   -- the award is admissible and covers, every other admissible choice that covers has at least its total, ties as document 01 says
   pub best : IsBest (demandAt l (r .price)) (admissible l (r .price)) (award l (r .price))
   pub total-is : r .total ≡ total (award l (r .price))
+  -- the admissible choices, none listed twice, and those that cover
   pub choices : r .choices ≡ length (admissible l (r .price))
+  pub distinct : Distinct (admissible l (r .price))
   pub covering : r .covering ≡ length (coveringChoices l (r .price))
   -- as many as the search does not set aside: at least 1, at most the covering ones, and 1 where the choice of all lows covers
   pub kept : r .kept ≡ keptChoices l (r .price)
@@ -71,6 +74,8 @@ pub record Accepted (l : Ledger) (old new : List ℕ) (r : Settled) : Type 0 whe
   pub count : r .records ≡ length (records l (r .price))
   -- the whole buffer: the records by rising project number, then the bytes that stood behind them (document 02, 8)
   pub rising : ByRisingProject (records l (r .price))
+  -- the four bytes of a record, put together, are the level awarded to its project
+  pub reads : (b : List ℕ) → List·Memᴰ b (records l (r .price)) → quantityOf b ≡ awardedLevel l (r .price) (firstByte b)
   pub written : new ≡ laid (flatten (records l (r .price))) old
 
 -- all that is stated of settling

@@ -1,26 +1,28 @@
 -- What settling's contract says is what is stated of it.
-use Prim.Native.Nat.{ℕ, min, _*_}
+use Prim.Native.Nat.{ℕ, min, _+_, _-_, _*_, _/_, _%_, _≤_, _<_}
 use mathlib.Core.Path.{_≡_, refl, sym, _∙_, subst}
 use mathlib.Core.Bool.{Bool, true, false}
-use mathlib.Core.List.{List, flatten}
+use mathlib.Core.List.{List, flatten, List·Memᴰ}
 use native.Mathlib.Omega.{arith}
 use lib.Dec.{leb}
-use lib.ListN.{length}
+use lib.ListN.{length, getD}
 use borrow.Author.Tests.{le-leb, leb-true, not-false, not-true}
 use Rattle.numbers.specs.Cases.{clash, never-true}
 use Rattle.curve.specs.RemainderLaws.{remainder-below-ce}
 use Rattle.rules.specs.Ledger.{Call, Ledger}
-use Rattle.rules.specs.Clearing.{covered, closingPrice}
+use Rattle.rules.specs.Clearing.{high, covered, closingPrice}
 use Rattle.rules.specs.Refusals.{isClosed}
 use Rattle.rules.specs.Rounds.{ledger}
-use Rattle.rules.specs.Award.{admissible}
+use Rattle.rules.specs.Award.{admissible, award}
 use Rattle.rules.specs.Participation.{Grant, grants, sufficient}
-use Rattle.rules.specs.Settling.{records, settlingNumber, settlementAt, settlement}
+use Rattle.rules.specs.Settling.{recordOf, records, settlingNumber, settlementAt, settlement}
 use Rattle.sound.specs.Sound.{Sound, started}
 use Rattle.reachable.specs.Reachable.{sound}
+use Rattle.clearing.specs.Supply.{greatest-of-bound, high-small}
 use Rattle.clearing.specs.ClosingPrice.{closed-started, settings-facts, closing-price}
 use Rattle.clearing.specs.Second.{short-uncovered, second-least, short-second, second-not-below, second-is-first}
-use Rattle.awards.specs.AwardLaws.{kept-few, kept-at-lows, kept-not-none, award-at-closing}
+use Rattle.awards.specs.AwardLaws.{admissible-distinct, kept-few, kept-at-lows, kept-not-none, award-length, award-at-closing}
+use Rattle.awards.specs.OpenLevels.{open-le-high}
 use Rattle.awards.specs.ParticipationLaws.{insufficient-exactly, paid-sufficient, paid-insufficient, paid-at-most, grants-recorded}
 use Rattle.awards.specs.Winners.{winner-open, winner-preferred, awarded-open}
 use Rattle.auction.specs.Holds.{auctionOf}
@@ -28,8 +30,19 @@ use Rattle.auction.specs.declared.Auction.{Auction}
 use Rattle.numbers.specs.Tails.{laid}
 use Rattle.settling.specs.Settles.{Settles, settledAs}
 use Rattle.settling.specs.declared.Settled.{Settled}
+use Rattle.stated.specs.AwardRecords.{awardedLevel, firstByte, quantityOf}
 use Rattle.stated.specs.RecordOrder.{records-rise}
+use Rattle.stated.specs.RecordsInWords.{records-each}
 use Rattle.stated.specs.Stated.{Accepted, Within, Fit, Stated}
+
+-- a number of four bytes is what they say
+four-bytes : (v : ℕ) → v ≤ 1000000000 → quantityOf (recordOf 0 0 v) ≡ v
+four-bytes v h =
+    let top : v / 16777216 % 256 ≡ v / 16777216 = omega arith in
+    let third : v / 65536 ≡ v / 16777216 * 256 + v / 65536 % 256 = omega arith in
+    let second : v / 256 ≡ v / 65536 * 256 + v / 256 % 256 = omega arith in
+    let first : v ≡ v / 256 * 256 + v % 256 = omega arith in
+    omega arith
 
 module _ (l : Ledger) (s : Sound l) (c : isClosed (l .phase) ≡ true) (old new : List ℕ) where
   began : started (l .phase) ≡ true
@@ -38,8 +51,22 @@ module _ (l : Ledger) (s : Sound l) (c : isClosed (l .phase) ≡ true) (old new 
   covers : covered l (closingPrice l) ≡ true
   covers = closing-price l s began .passes
 
+  abbrev at : ℕ
+  at = closingPrice l
+
   abbrev given : List Grant
   given = grants l (closingPrice l)
+
+  -- the four bytes of a record are those of a level of 10^9 at most, and all of it
+  bytes-read : (b : List ℕ) → List·Memᴰ b (records l (closingPrice l)) → quantityOf b ≡ awardedLevel l (closingPrice l) (firstByte b)
+  unfolding records
+  bytes-read = records-each (λ b. quantityOf b ≡ awardedLevel l at (firstByte b)) l at 1 (award l at) (λ j h g.
+      let place : 1 + j - 1 ≡ j = omega arith in
+      let some : 0 < awardedLevel l at (1 + j) = subst (λ (i : ℕ). 0 < getD (award l at) i 0) (sym place) g in
+      let o = awarded-open l at (1 + j) s covers (omega arith) (omega (arith, award-length l at s covers)) some in
+      let small : awardedLevel l at (1 + j) ≤ 1000000000 =
+      omega (arith, open-le-high l at (1 + j) _ o, greatest-of-bound (high at) l 1000000000 (high-small l s at) (1 + j)) in
+      subst (λ (i : ℕ). quantityOf (recordOf 0 0 (getD (award l at) i 0)) ≡ awardedLevel l at (1 + j)) place (four-bytes (awardedLevel l at (1 + j)) small))
 
   at-closing : (r : Settled) → r ≡ settledAs (settlementAt l (closingPrice l)) → new ≡ laid (flatten (records l (closingPrice l))) old → Accepted l old new r
   unfolding settlementAt
@@ -51,6 +78,7 @@ module _ (l : Ledger) (s : Sound l) (c : isClosed (l .phase) ≡ true) (old new 
     best = award-at-closing l s began;
     total-is = refl;
     choices = refl;
+    distinct = admissible-distinct l (closingPrice l);
     covering = refl;
     kept = refl;
     kept-some = kept-not-none l (closingPrice l) s covers;
@@ -75,6 +103,7 @@ module _ (l : Ledger) (s : Sound l) (c : isClosed (l .phase) ≡ true) (old new 
         record { developer = n .0; is-open = n .1; preferred = winner-preferred l (closingPrice l) k _ o };
     count = refl;
     rising = records-rise l (closingPrice l);
+    reads = bytes-read;
     written = w;
   })
 
