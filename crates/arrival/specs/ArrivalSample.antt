@@ -16,7 +16,7 @@ use Rattle.replies.specs.WrittenOrders.{paired, rawOf}
 use Rattle.arrival.specs.Arrival.{withAnswers, isMove, Reordered, answeredFrom}
 
 -- developer 1 an existing plant, 2 and 3 new ones; a round is open
-abbrev opened : List Call
+abbrev pub opened : List Call
 opened =
     SetUp (record { ce = 20000; d = 800000; m1 = 700000; m2 = 1000000; a = 40000 })
     ∷ Register 1 Own (record { project = 1; kind = 1; study = 0; day = 0; levels = 500000 ∷ [] })
@@ -25,16 +25,16 @@ opened =
     ∷ Open 30000
     ∷ []
 
-abbrev partly : Call
+abbrev pub partly : Call
 partly = By 2 (Offer (35000 ∷ []) (300000 ∷ []))
 
-abbrev nothing : ℕ → Call
+abbrev pub nothing : ℕ → Call
 nothing n = By n (Offer [] [])
 
-abbrev one : List Call
+abbrev pub one : List Call
 one = partly ∷ nothing 3 ∷ By 2 Cancel ∷ By 1 Cancel ∷ nothing 2 ∷ []
 
-abbrev other : List Call
+abbrev pub other : List Call
 other = By 1 Cancel ∷ partly ∷ By 2 Cancel ∷ nothing 2 ∷ nothing 3 ∷ []
 
 pub both : Reordered one other

@@ -3,3 +3,4 @@ pub mod WithAnswers
 pub mod ArrivalLaws
 pub mod LineLaws
 pub mod ArrivalSample
+pub mod ReorderedSample

@@ -38,7 +38,7 @@ asked-with-answers next says s (x ∷ xs) = ap (λ (ys : List _). x ∷ ys) (ask
 
 -- ---- two neighbours
 
-order-once : (o : Order) (n k : ℕ) → orderOwn n o ≡ true → orderOwn k o ≡ true → n ≡ k
+pub order-once : (o : Order) (n k : ℕ) → orderOwn n o ≡ true → orderOwn k o ≡ true → n ≡ k
 unfolding orderOwn
 order-once Malformed n k p q = absurd (false≢true p)
 order-once (Asks c) n k p q = own-once c n k p q

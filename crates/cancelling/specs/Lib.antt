@@ -1,3 +1,4 @@
 pub mod Entries
 pub mod TakenBack
 pub mod TakenBackLaws
+pub mod TakenBackSample

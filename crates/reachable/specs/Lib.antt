@@ -13,3 +13,4 @@ pub mod Reachable
 pub mod Counting
 pub mod Bounds
 pub mod RoundCount
+pub mod AcceptedSample

@@ -7,3 +7,5 @@ pub mod ServedLaws
 pub mod Taken
 pub mod Precedence
 pub mod SealedLaws
+pub mod ListOrderSample
+pub mod WordsDecide

@@ -6,3 +6,4 @@ pub mod Changes
 pub mod Sights
 pub mod ViewLaws
 pub mod SeatSample
+pub mod ViewSample

@@ -35,10 +35,10 @@ opened =
 abbrev closed : List ℕ → List ℕ → List Seated
 closed ps qs = opened ++ (through (At 3) (By 3 (Offer ps qs)) ∷ through Auctioneer Close ∷ [])
 
-abbrev one : List Seated
+abbrev pub one : List Seated
 one = closed [] []
 
-abbrev other : List Seated
+abbrev pub other : List Seated
 other = closed (35000 ∷ []) (400000 ∷ [])
 
 abbrev Session : Type 0
