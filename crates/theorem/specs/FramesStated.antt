@@ -1,6 +1,7 @@
--- FRAMES OUT AS WELL AS IN (document 02, 2), for every order, writable or not, and every lent buffer. Each writing call meets its contract, which is
--- `Writes` of the order that its arguments ask. An accepted one lays over the buffer's start a frame that reads back to that order, and every
--- well-formed line read and then written is the same bytes. So the replies to a record written order by order are those to the orders.
+-- FRAMES OUT AS WELL AS IN (document 02, 2), for every order, writable or not, and every lent buffer. Each of the nine writing calls is stated by its
+-- own arguments, through its own contract, which it meets: it writes the order that they ask. An accepted one lays over the buffer's start a frame
+-- that reads back to that order, and every well-formed line read and then written is the same bytes. So the replies to a record written order by
+-- order are those to the orders.
 use Prim.Native.Nat.{ℕ}
 use mathlib.Core.Path.{_≡_, refl, sym, ap, _∙_}
 use mathlib.Core.Bool.{Bool, true, false, cond}
@@ -9,17 +10,50 @@ use native.Mathlib.Omega.{arith}
 use lib.Dec.{eqb}
 use lib.ListN.{length}
 use borrow.Author.Tests.{eq-eqb, ne-eqb}
+use contract.Lifetimes.{Lfts}
+use denote.Ref.{now}
+use denote.Triple.Clauses.{AtExit}
+use borrow.Fn.World.{ArgsD}
+use borrow.Fn.Kinds.{endedOf}
 use Rattle.numbers.specs.Lists.{all}
 use Rattle.numbers.specs.Tails.{laid}
 use Rattle.format.specs.FieldLaws.{WellFormed}
 use Rattle.format.specs.Written.{lineOf, refusal, written, lentFrame}
-use Rattle.rules.specs.Ledger.{start}
-use Rattle.replies.specs.Orders.{Order, Malformed, orderIn}
+use Rattle.rules.specs.Ledger.{start, Offer, Lodge, Cancel, Open, By, Close}
+use Rattle.replies.specs.Orders.{Order, Malformed, Asks, Settle, orderIn}
 use Rattle.replies.specs.WrittenOrders.{rawOf, writableOrder, frameOfOrder}
 use Rattle.replies.specs.WrittenOrderLaws.{order-reads, line-writes, well-formed-asks, repliesTo, record-replies}
 use Rattle.replies.specs.Replies.{replies}
+use Rattle.auction.specs.Called.{setsUp, registers, registersFor}
 use Rattle.frame_writing.specs.declared.Written.{Written}
 use Rattle.writing.specs.Writes.{Writes}
+use Rattle.writing.proofs.write_set_up.{signature as set-up-signature}
+use Rattle.writing.proofs.write_registration.{signature as registration-signature}
+use Rattle.writing.proofs.write_registration_for.{signature as registration-for-signature}
+use Rattle.writing.proofs.write_opening.{signature as opening-signature}
+use Rattle.writing.proofs.write_offer.{signature as offer-signature}
+use Rattle.writing.proofs.write_lodging.{signature as lodging-signature}
+use Rattle.writing.proofs.write_cancellation.{signature as cancellation-signature}
+use Rattle.writing.proofs.write_closing.{signature as closing-signature}
+use Rattle.writing.proofs.write_settling.{signature as settling-signature}
+use Rattle.writing.proofs.write_set_up.Kinds as set-up-kinds
+use Rattle.writing.proofs.write_registration.Kinds as registration-kinds
+use Rattle.writing.proofs.write_registration_for.Kinds as registration-for-kinds
+use Rattle.writing.proofs.write_opening.Kinds as opening-kinds
+use Rattle.writing.proofs.write_offer.Kinds as offer-kinds
+use Rattle.writing.proofs.write_lodging.Kinds as lodging-kinds
+use Rattle.writing.proofs.write_cancellation.Kinds as cancellation-kinds
+use Rattle.writing.proofs.write_closing.Kinds as closing-kinds
+use Rattle.writing.proofs.write_settling.Kinds as settling-kinds
+use Rattle.writing.proofs.write_set_up.Reads as set-up-reads
+use Rattle.writing.proofs.write_registration.Reads as registration-reads
+use Rattle.writing.proofs.write_registration_for.Reads as registration-for-reads
+use Rattle.writing.proofs.write_opening.Reads as opening-reads
+use Rattle.writing.proofs.write_offer.Reads as offer-reads
+use Rattle.writing.proofs.write_lodging.Reads as lodging-reads
+use Rattle.writing.proofs.write_cancellation.Reads as cancellation-reads
+use Rattle.writing.proofs.write_closing.Reads as closing-reads
+use Rattle.writing.proofs.write_settling.Reads as settling-reads
 use Rattle.writing.proofs.write_set_up.Statement as set-up-states
 use Rattle.writing.proofs.write_registration.Statement as registration-states
 use Rattle.writing.proofs.write_registration_for.Statement as registration-for-states
@@ -57,8 +91,62 @@ pub record FrameWritten (o : Order) (old new : List ℕ) (r : Written) : Type 0 
   pub refused : (r .number ≡ 0 → ⊥) → (r .bytes ≡ 0) × (new ≡ old)
   pub accepted : r .number ≡ 0 → (r .bytes ≡ length (frameOfOrder o)) × (new ≡ laid (frameOfOrder o) old) × (orderIn (lineOf (rawOf o)) ≡ o)
 
+-- each writing call by its arguments x, named above each clause, and the buffer last; y: the same at the call's end. The call that a frame asks is the
+-- one that EveryList makes by the same arguments
+pub record WritersStated : Type 1 where
+  -- CE, D, M1, M2, A
+  pub set-up-written :
+      (κs : Lfts 1) (x : ArgsD set-up-signature κs) (r : Written) (y : AtExit (endedOf 1 set-up-kinds.ps set-up-kinds.r) κs) →
+      set-up-reads.Post κs x r y →
+      FrameWritten (Asks (setsUp (x .0) (x .1 .0) (x .1 .1 .0) (x .1 .1 .1 .0) (x .1 .1 .1 .1 .0)))
+      (now (x .1 .1 .1 .1 .1 .0)) (now (y .1 .1 .1 .1 .1 .0)) r
+  -- project, developer, kind, study value, start day, levels
+  pub registration-written :
+      (κs : Lfts 2) (x : ArgsD registration-signature κs) (r : Written) (y : AtExit (endedOf 2 registration-kinds.ps registration-kinds.r) κs) →
+      registration-reads.Post κs x r y →
+      FrameWritten (Asks (registers (x .0) (x .1 .0) (x .1 .1 .0) (x .1 .1 .1 .0) (x .1 .1 .1 .1 .0) (now (x .1 .1 .1 .1 .1 .0))))
+      (now (x .1 .1 .1 .1 .1 .1 .0)) (now (y .1 .1 .1 .1 .1 .1 .0)) r
+  -- the same with the agent behind the kind (document 02, 10)
+  pub registration-for-written :
+      (κs : Lfts 2) (x : ArgsD registration-for-signature κs) (r : Written) (y : AtExit (endedOf 2 registration-for-kinds.ps registration-for-kinds.r) κs) →
+      registration-for-reads.Post κs x r y →
+      FrameWritten (Asks (registersFor (x .0) (x .1 .0) (x .1 .1 .0) (x .1 .1 .1 .0) (x .1 .1 .1 .1 .0) (x .1 .1 .1 .1 .1 .0) (now (x .1 .1 .1 .1 .1 .1 .0))))
+      (now (x .1 .1 .1 .1 .1 .1 .1 .0)) (now (y .1 .1 .1 .1 .1 .1 .1 .0)) r
+  -- C
+  pub opening-written :
+      (κs : Lfts 1) (x : ArgsD opening-signature κs) (r : Written) (y : AtExit (endedOf 1 opening-kinds.ps opening-kinds.r) κs) →
+      opening-reads.Post κs x r y →
+      FrameWritten (Asks (Open (x .0))) (now (x .1 .0)) (now (y .1 .0)) r
+  -- developer, prices, levels
+  pub offer-written :
+      (κs : Lfts 3) (x : ArgsD offer-signature κs) (r : Written) (y : AtExit (endedOf 3 offer-kinds.ps offer-kinds.r) κs) →
+      offer-reads.Post κs x r y →
+      FrameWritten (Asks (By (x .0) (Offer (now (x .1 .0)) (now (x .1 .1 .0))))) (now (x .1 .1 .1 .0)) (now (y .1 .1 .1 .0)) r
+  -- the same, lodged (document 02, 5)
+  pub lodging-written :
+      (κs : Lfts 3) (x : ArgsD lodging-signature κs) (r : Written) (y : AtExit (endedOf 3 lodging-kinds.ps lodging-kinds.r) κs) →
+      lodging-reads.Post κs x r y →
+      FrameWritten (Asks (By (x .0) (Lodge (now (x .1 .0)) (now (x .1 .1 .0))))) (now (x .1 .1 .1 .0)) (now (y .1 .1 .1 .0)) r
+  -- developer (document 02, 7)
+  pub cancellation-written :
+      (κs : Lfts 1) (x : ArgsD cancellation-signature κs) (r : Written) (y : AtExit (endedOf 1 cancellation-kinds.ps cancellation-kinds.r) κs) →
+      cancellation-reads.Post κs x r y →
+      FrameWritten (Asks (By (x .0) Cancel)) (now (x .1 .0)) (now (y .1 .0)) r
+  -- the buffer alone
+  pub closing-written :
+      (κs : Lfts 1) (x : ArgsD closing-signature κs) (r : Written) (y : AtExit (endedOf 1 closing-kinds.ps closing-kinds.r) κs) →
+      closing-reads.Post κs x r y →
+      FrameWritten (Asks Close) (now (x .0)) (now (y .0)) r
+  -- limit
+  pub settling-written :
+      (κs : Lfts 1) (x : ArgsD settling-signature κs) (r : Written) (y : AtExit (endedOf 1 settling-kinds.ps settling-kinds.r) κs) →
+      settling-reads.Post κs x r y →
+      FrameWritten (Settle (x .0)) (now (x .1 .0)) (now (y .1 .0)) r
+
 pub record FramesStated (M : Type 1) : Type 2 where
   pub meets : WritersMeet M
+  pub by-arguments : WritersStated
+  -- `Writes`, which all nine contracts say, in these words
   pub answered : (o : Order) (old new : List ℕ) (r : Written) → Writes o old new r → FrameWritten o old new r
   -- each well-formed line asks something, and written again it is the same bytes, 0A added
   pub asks : (l : List ℕ) → WellFormed l → orderIn l ≡ Malformed → ⊥
@@ -103,9 +191,23 @@ module _ (o : Order) (old new : List ℕ) (r : Written) (w : Writes o old new r)
         );
   }
 
+by-their-arguments : WritersStated
+by-their-arguments = record {
+  set-up-written = λ κs x r y w. frame-written _ _ _ r w;
+  registration-written = λ κs x r y w. frame-written _ _ _ r w;
+  registration-for-written = λ κs x r y w. frame-written _ _ _ r w;
+  opening-written = λ κs x r y w. frame-written _ _ _ r w;
+  offer-written = λ κs x r y w. frame-written _ _ _ r w;
+  lodging-written = λ κs x r y w. frame-written _ _ _ r w;
+  cancellation-written = λ κs x r y w. frame-written _ _ _ r w;
+  closing-written = λ κs x r y w. frame-written _ _ _ r w;
+  settling-written = λ κs x r y w. frame-written _ _ _ r w;
+}
+
 pub frames-stated : {M : Type 1} → FramesStated M
 frames-stated = record {
   meets = writers-meet;
+  by-arguments = by-their-arguments;
   answered = frame-written;
   asks = well-formed-asks;
   again = line-writes;

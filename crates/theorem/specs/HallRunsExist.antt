@@ -23,23 +23,20 @@ use Rattle.theorem.specs.Runs.{called, lent}
 use Rattle.theorem.specs.HallRuns.{MadeThrough, sets-up, registers-one, registers-for, opens, offers, lodges, cancels, closes, HallRun, fresh, followed}
 
 -- the case of the enum for each seat
-seatIn : seats.Seat → Seat
+unfoldable pub seatIn : seats.Seat → Seat
 seatIn seats.Auctioneer = Auctioneer
 seatIn seats.Auditor = Auditor
 seatIn (seats.At n) = Developer n
 
-seat-in : (s : seats.Seat) → seatOf (seatIn s) ≡ s
+pub seat-in : (s : seats.Seat) → seatOf (seatIn s) ≡ s
 unfolding seatIn
 seat-in seats.Auctioneer = refl
 seat-in seats.Auditor = refl
 seat-in (seats.At n) = refl
 
--- ---- a call through a seat, whatever its arguments
+-- ---- a call through a seat, whatever its arguments, in a hall whose ledger is x, which holds the ledger of the calls cs
 
-module _ (ms : List Seated) (s : seats.Seat) (c : Call) where
-  abbrev x : HallLedger
-  x = hallLedger ms
-
+module _ (x : HallLedger) (cs : List Call) (is : x .ledger ≡ ledger cs) (s : seats.Seat) (c : Call) where
   abbrev m : Seated
   m = record { seat = s; call = c }
 
@@ -54,8 +51,7 @@ module _ (ms : List Seated) (s : seats.Seat) (c : Call) where
 
   own-call : Called c (auctionOf (x .ledger)) (auctionOf (step (x .ledger) c)) (answer (x .ledger) c)
   own-call =
-      let cs = permitted (throughSeats ms) in
-      subst (λ (l : Ledger). Called c (auctionOf l) (auctionOf (step l c)) (answer l c)) (sym (hall-is ms))
+      subst (λ (l : Ledger). Called c (auctionOf l) (auctionOf (step l c)) (answer l c)) (sym is)
       (subst (λ (l : Ledger). Called c (auctionOf (ledger cs)) (auctionOf l) (answer (ledger cs) c)) (ledger-snoc cs c) (called cs c))
 
   called-through : CalledThrough s c before after given
@@ -85,32 +81,32 @@ module _ (ms : List Seated) (s : seats.Seat) (c : Call) where
       let w : CalledThrough s c before after (numberAlone (given .number)) = subst (λ (r : Answered). CalledThrough s c before after r) (alone g) called-through in
       subst (λ (r : Answered). MadeThrough t c before r after) (sym (alone g)) (f w)
 
-made-through :
-    (ms : List Seated) (t : Seat) (c : Call) → let m : Seated = record { seat = seatOf t; call = c } in
-    MadeThrough t c (hallOf (hallLedger ms)) (hallAnswer (hallLedger ms) m) (hallOf (hallStep (hallLedger ms) m))
+pub made-through :
+    (x : HallLedger) (cs : List Call) → x .ledger ≡ ledger cs → (t : Seat) (c : Call) → let m : Seated = record { seat = seatOf t; call = c } in
+    MadeThrough t c (hallOf x) (hallAnswer x m) (hallOf (hallStep x m))
 unfolding granted
-made-through ms t (SetUp s) = by-number ms (seatOf t) _ t refl (λ p. sets-up t (s .ce) (s .d) (s .m1) (s .m2) (s .a) (record { number = _; hall = _ }) p)
-made-through ms t (Register n Own x) = by-number ms (seatOf t) _ t refl (λ p. registers-one
+made-through x cs is t (SetUp s) = by-number x cs is (seatOf t) _ t refl (λ p. sets-up t (s .ce) (s .d) (s .m1) (s .m2) (s .a) (record { number = _; hall = _ }) p)
+made-through x cs is t (Register n Own d) = by-number x cs is (seatOf t) _ t refl (λ p. registers-one
     ([], tt)
-    (hallOf (hallLedger ms), (t, (x .project, (n, (x .kind, (x .study, (x .day, (lent (x .levels), tt))))))))
+    (hallOf x, (t, (d .project, (n, (d .kind, (d .study, (d .day, (lent (d .levels), tt))))))))
     (record { number = _; hall = _ }) p)
-made-through ms t (Register n (Named g) x) = by-number ms (seatOf t) _ t refl (λ p. registers-for
+made-through x cs is t (Register n (Named g) d) = by-number x cs is (seatOf t) _ t refl (λ p. registers-for
     ([], tt)
-    (hallOf (hallLedger ms), (t, (x .project, (n, (x .kind, (g, (x .study, (x .day, (lent (x .levels), tt)))))))))
+    (hallOf x, (t, (d .project, (n, (d .kind, (g, (d .study, (d .day, (lent (d .levels), tt)))))))))
     (record { number = _; hall = _ }) p)
-made-through ms t (Open c) = by-number ms (seatOf t) _ t refl (λ p. opens t c (record { number = _; hall = _ }) p)
-made-through ms t (By n (Offer ps qs)) = by-number ms (seatOf t) _ t refl (λ p. offers
+made-through x cs is t (Open c) = by-number x cs is (seatOf t) _ t refl (λ p. opens t c (record { number = _; hall = _ }) p)
+made-through x cs is t (By n (Offer ps qs)) = by-number x cs is (seatOf t) _ t refl (λ p. offers
     ([], ([], tt))
-    (hallOf (hallLedger ms), (t, (n, (lent ps, (lent qs, tt)))))
+    (hallOf x, (t, (n, (lent ps, (lent qs, tt)))))
     (record { number = _; hall = _ }) p)
-made-through ms t (By n (Lodge ps qs)) = by-number ms (seatOf t) _ t refl (λ p. lodges
+made-through x cs is t (By n (Lodge ps qs)) = by-number x cs is (seatOf t) _ t refl (λ p. lodges
     ([], ([], tt))
-    (hallOf (hallLedger ms), (t, (n, (lent ps, (lent qs, tt)))))
+    (hallOf x, (t, (n, (lent ps, (lent qs, tt)))))
     (record { number = _; hall = _ }) p)
-made-through ms t (By n Cancel) = by-number ms (seatOf t) _ t refl (λ p. cancels t n (record { number = _; hall = _ }) p)
-made-through ms t Close =
-    let r = hallAnswer (hallLedger ms) (record { seat = seatOf t; call = Close }) in
-    closes t (record { number = r .number; excess = r .excess; remainder = r .remainder; hall = _ }) (called-through ms (seatOf t) Close)
+made-through x cs is t (By n Cancel) = by-number x cs is (seatOf t) _ t refl (λ p. cancels t n (record { number = _; hall = _ }) p)
+made-through x cs is t Close =
+    let r = hallAnswer x (record { seat = seatOf t; call = Close }) in
+    closes t (record { number = r .number; excess = r .excess; remainder = r .remainder; hall = _ }) (called-through x cs is (seatOf t) Close)
 
 -- ---- every run
 
@@ -123,7 +119,7 @@ longer ms m w =
     rw (hall-answers-snoc ms m, hall-ledger-snoc ms m)
     (subst (λ (s : seats.Seat). let n : Seated = record { seat = s; call = m .call } in
     HallRun (ms ++ (n ∷ [])) (hallAnswers ms ++ (hallAnswer (hallLedger ms) n ∷ [])) (hallOf (hallStep (hallLedger ms) n)))
-    (seat-in (m .seat)) (followed w (made-through ms (seatIn (m .seat)) (m .call))))
+    (seat-in (m .seat)) (followed w (made-through (hallLedger ms) (permitted (throughSeats ms)) (hall-is ms) (seatIn (m .seat)) (m .call))))
 
 pub hall-runs : (ms : List Seated) → HallRun ms (hallAnswers ms) (hallOf (hallLedger ms))
 unfolding hallFrom hallLedger hallAnswers hallAnswersFrom

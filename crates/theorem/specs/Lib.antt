@@ -7,10 +7,14 @@ pub mod Runs
 pub mod Untouched
 pub mod SealedStated
 pub mod FramesStated
+pub mod DemandStated
 pub mod HallRuns
+pub mod LooksThrough
+pub mod Moments
+pub mod EveryMoment
 pub mod SeatsStated
 pub mod HallRunsExist
-pub mod Settling
+pub mod MixedRunsExist
 pub mod Readable
 pub mod ReplyDigits
 pub mod Figures
@@ -18,3 +22,6 @@ pub mod ReadableLaws
 pub mod EqualAuctions
 pub mod Cancelled
 pub mod Arrived
+pub mod SealedDecided
+pub mod Premises
+pub mod Settling

@@ -1,8 +1,9 @@
 -- SEATS IN THE AUCTION HALL (document 02, 14), for every run of calls through seats from a fresh hall, refused ones included: hall, answers and
--- readings are by the definitions; a developer learns from its view alone; and settling through a seat keeps the whole statement on settling, for
--- lists that hold calls on the auction and calls through seats. The calls are tied in through their own contracts, which each of them meets.
+-- readings are by the definitions; a developer learns from its view alone, at every moment; and settling or looking through a seat keeps what is
+-- stated of them, for lists that hold calls on the auction and calls through seats. The calls are tied in through their own contracts, which each of
+-- them meets.
 use Prim.Native.Nat.{ℕ}
-use mathlib.Core.Path.{_≡_, sym, ap, ap₂, _∙_}
+use mathlib.Core.Path.{_≡_}
 use mathlib.Core.Bool.{true, false}
 use mathlib.Core.List.{List}
 use contract.Lifetimes.{Lfts}
@@ -10,14 +11,11 @@ use denote.Ref.{now}
 use denote.Triple.Clauses.{AtExit}
 use borrow.Fn.World.{ArgsD}
 use borrow.Fn.Kinds.{endedOf}
-use Rattle.rules.specs.Ledger.{Call, Ledger}
+use Rattle.rules.specs.Ledger.{Call}
 use Rattle.rules.specs.Rounds.{ledger, Answered, numberAlone, answers}
-use Rattle.seats.specs.Seats.{mayMake, maySettle, HallLedger, Seated, hallLedger, hallAnswers, reading, Entry, permitted, entryAnswers, throughSeats}
-use Rattle.seats.specs.SeatLaws.{hall-is}
+use Rattle.seats.specs.Seats.{mayMake, maySettle, Seated, hallLedger, hallAnswers, reading, Entry, permitted, entryAnswers, throughSeats}
 use Rattle.seats.specs.Views.{view, ownAnswers, ByViewAlone, StillBetween, OthersUnseen, ClockAlone}
 use Rattle.seats.specs.ViewLaws.{by-view-alone, still-between, others-unseen, clock-alone}
-use Rattle.seats.specs.ToldLaws.{same-answers}
-use Rattle.auction.specs.Holds.{auctionOf}
 use Rattle.auction.specs.declared.Auction.{Auction}
 use Rattle.settling.specs.Settles.{refusedWith}
 use Rattle.settling.specs.declared.Settled.{Settled}
@@ -33,7 +31,6 @@ use Rattle.hall.specs.declared.Hall.{Hall}
 use Rattle.hall_readings.proofs.settle.{signature}
 use Rattle.hall_readings.proofs.settle.Kinds as kinds
 use Rattle.hall_readings.proofs.settle.Reads as settle
-use Rattle.hall_readings.proofs.read.Reads as reads-at
 use Rattle.hall.proofs.Hall.new.Statement as new-states
 use Rattle.hall.proofs.Hall.set_up.Statement as set-up-states
 use Rattle.hall.proofs.Hall.register.Statement as register-states
@@ -64,10 +61,9 @@ use Rattle.hall_readings.proofs.who_can_force.Met as who-can-force-met
 use Rattle.hall_readings.proofs.read.Met as reading-met
 use Rattle.theorem.specs.EveryList.{Run, run-reached}
 use Rattle.theorem.specs.HallRuns.{MadeThrough, by-hall-contract, HallRun, hall-reached, SeatedRun, permitted-run, entries-answered, seated}
-
--- r is what the seat s reads in the hall h, as the method's own contract has it
-abbrev pub ReadsAt : Hall → Seat → Reading → Type 0
-ReadsAt h s r = reads-at.Post tt (h, (s, tt)) r (h, (s, tt))
+use Rattle.theorem.specs.LooksThrough.{LooksThrough, looks-through}
+use Rattle.theorem.specs.EveryMoment.{read-in, told-alike, EveryMoment, every-moment}
+pub use Rattle.theorem.specs.EveryMoment.{ReadsAt}
 
 -- each call through a seat, in every model
 pub record HallMeets (M : Type 1) : Type 2 where
@@ -97,12 +93,13 @@ pub record SeatsStated (M : Type 1) : Type 2 where
       r ≡ shownReading (reading (hallLedger ms) (seatOf s))
   pub barred : {s : Seat} {c : Call} {h k : Hall} {r : Answered} → MadeThrough s c h r k → mayMake (seatOf s) c ≡ false → (k ≡ h) × (r ≡ numberAlone 20)
   -- WHAT A DEVELOPER CAN LEARN: two runs that give developer n equal views tell it the same at every point of them; and so do the engine's own
-  -- readings behind them and its answers to n's calls. As each part of a run from its start is a run, that is so at every point
+  -- readings behind them and its answers to n's calls, and at every moment of them
   pub by-view : ByViewAlone
   pub learns :
       (n : ℕ) {ms ms′ : List Seated} {rs rs′ : List Answered} {h h′ : Hall} (r r′ : Reading) → view n ms ≡ view n ms′ →
       HallRun ms rs h → HallRun ms′ rs′ h′ → ReadsAt h (Developer n) r → ReadsAt h′ (Developer n) r′ →
       (r ≡ r′) × (ownAnswers n ms rs ≡ ownAnswers n ms′ rs′)
+  pub moments : EveryMoment
   -- what shows it nothing leaves what it reads; others' offers, cancellations, lodged lists and registrations show it nothing; and the published
   -- values change by accepted set-ups, openings and closings, by each of them, and by nothing else
   pub still : StillBetween
@@ -122,6 +119,8 @@ pub record SeatsStated (M : Type 1) : Type 2 where
   pub settling-barred :
       (κs : Lfts 1) (x : ArgsD signature κs) (r : Settled) (y : AtExit (endedOf 1 kinds.ps kinds.r) κs) →
       maySettle (seatOf (x .1 .0)) ≡ false → settle.Post κs x r y → (r ≡ refusedWith 20) × (now (y .1 .1 .1 .0) ≡ now (x .1 .1 .1 .0))
+  -- LOOKING THROUGH A SEAT: a preview, a point of the supply curve and who can force the price, likewise
+  pub looks : LooksThrough
 
 hall-meets : {M : Type 1} → HallMeets M
 hall-meets = record {
@@ -141,14 +140,6 @@ hall-meets = record {
   reading-meets = reading-met.met;
 }
 
-module _ {ms : List Seated} {rs : List Answered} {h : Hall} (s : Seat) (r : Reading) (w : HallRun ms rs h) (q : ReadsAt h s r) where
-  read-in : r ≡ shownReading (reading (hallLedger ms) (seatOf s))
-  read-in =
-      let e = hall-reached w .0 in
-      q .right (permitted (throughSeats ms)) (ap (λ (y : Hall). y .auction) e ∙ ap auctionOf (hall-is ms))
-      ∙ ap (λ (x : HallLedger). shownReading (reading x (seatOf s)))
-      (ap₂ (λ (l : Ledger) (y : Hall). record { ledger = l; excess = y .excess }) (sym (hall-is ms)) e)
-
 pub seats-stated : {M : Type 1} → SeatsStated M
 seats-stated = record {
   meets = hall-meets;
@@ -157,11 +148,8 @@ seats-stated = record {
   read = λ s r w q. read-in s r w q;
   barred = λ m e. by-hall-contract m .barred e;
   by-view = by-view-alone;
-  learns = λ n {ms} {ms′} r r′ e w w′ q q′.
-      let k = by-view-alone n ms ms′ e in (
-        read-in (Developer n) r w q ∙ ap shownReading (k .behind) ∙ sym (read-in (Developer n) r′ w′ q′),
-        ap (ownAnswers n ms) (hall-reached w .1) ∙ same-answers n ms ms′ (k .moments) ∙ sym (ap (ownAnswers n ms′) (hall-reached w′ .1)),
-      );
+  learns = told-alike;
+  moments = every-moment;
   still = still-between;
   unseen = others-unseen;
   clock = clock-alone;
@@ -170,4 +158,5 @@ seats-stated = record {
   list-of-run = seated;
   settles = λ {es} κs x r y w e s. stated (permitted es) (x .0 .auction) (x .1 .1 .0) (now (x .1 .1 .1 .0)) (now (y .1 .1 .1 .0)) r (run-reached (permitted-run w) .0) (s .made e);
   settling-barred = λ κs x r y e s. s .barred e;
+  looks = looks-through;
 }

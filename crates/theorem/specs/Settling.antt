@@ -4,6 +4,7 @@
 -- seats (`seats`). The engine's calls are tied in through their contracts, which each of them meets.
 use Prim.Native.Nat.{ℕ}
 use mathlib.Core.Path.{_≡_}
+use mathlib.Core.Bool.{true}
 use mathlib.Core.List.{List}
 use contract.Lifetimes.{Lfts}
 use denote.Ref.{now}
@@ -11,9 +12,10 @@ use denote.Triple.Clauses.{AtExit}
 use borrow.Fn.World.{ArgsD}
 use borrow.Fn.Kinds.{endedOf}
 use Rattle.rules.specs.Ledger.{Call, Ledger}
+use Rattle.rules.specs.Refusals.{isClosed}
 use Rattle.rules.specs.Rounds.{ledger, Answered, answers}
 use Rattle.reachable.specs.AcceptedCalls.{acceptedCalls}
-use Rattle.seats.specs.Seats.{Seated, hallLedger, hallAnswers}
+use Rattle.seats.specs.Seats.{Seated, hallLedger, hallAnswers, Entry, permitted, entryAnswers}
 use Rattle.auction.specs.Holds.{auctionOf}
 use Rattle.hall.specs.Through.{hallOf}
 use Rattle.settling.specs.declared.Settled.{Settled}
@@ -25,8 +27,10 @@ use Rattle.settling.proofs.settle.Met as settle-met
 use Rattle.theorem.specs.EveryList.{Run, run-reached, EveryList, every-list}
 use Rattle.theorem.specs.Untouched.{Untouched, untouched}
 use Rattle.theorem.specs.Runs.{runs}
-use Rattle.theorem.specs.HallRuns.{HallRun}
+use Rattle.theorem.specs.HallRuns.{HallRun, SeatedRun}
 use Rattle.theorem.specs.HallRunsExist.{hall-runs}
+use Rattle.theorem.specs.MixedRunsExist.{mixed-runs}
+use Rattle.theorem.specs.DemandStated.{DemandStated, demand-stated}
 use Rattle.theorem.specs.Readable.{Readable}
 use Rattle.theorem.specs.ReadableLaws.{readable}
 use Rattle.theorem.specs.FramesStated.{FramesStated, frames-stated}
@@ -36,10 +40,13 @@ use Rattle.theorem.specs.SupplyCurves.{CurveStated, curve-stated}
 use Rattle.theorem.specs.PriceForced.{ForcingStated, forcing-stated}
 use Rattle.theorem.specs.Arrived.{ArrivalStated, arrival-stated}
 use Rattle.theorem.specs.SealedStated.{SealedStated, sealed-stated}
+use Rattle.theorem.specs.SealedDecided.{SealedDecided, sealed-decided}
 use Rattle.theorem.specs.SeatsStated.{SeatsStated, seats-stated}
+use Rattle.theorem.specs.Premises.{Premises, premises}
 use Rattle.stated.specs.Stated.{Stated}
 use Rattle.stated.specs.Determined.{determined, by-accepted}
 use Rattle.stated.specs.StatedLaws.{stated}
+use Rattle.stated.specs.WordsDecide.{InWordsAlone, stated-words, words-decide}
 
 -- the arguments x: the auction, the limit, the buffer; y: the same at the call's end
 pub record Settling (M : Type 1) : Type 2 where
@@ -53,6 +60,14 @@ pub record Settling (M : Type 1) : Type 2 where
   pub determines :
       (l : Ledger) (limit : ℕ) (old new new′ : List ℕ) (r r′ : Settled) → Stated l limit old new r → Stated l limit old new′ r′ →
       (r ≡ r′) × (new ≡ new′)
+  -- and so do the words of an accepted settling alone, without the equations beside them: whoever states an answer and a buffer of which they hold
+  -- states these
+  pub in-words :
+      (l : Ledger) (limit : ℕ) (old new : List ℕ) (r : Settled) →
+      Stated l limit old new r → isClosed (l .phase) ≡ true → r .number ≡ 0 → InWordsAlone l old new r
+  pub words-determine :
+      (cs : List Call) (old new new′ : List ℕ) (r r′ : Settled) → isClosed (ledger cs .phase) ≡ true →
+      InWordsAlone (ledger cs) old new r → InWordsAlone (ledger cs) old new′ r′ → (r ≡ r′) × (new ≡ new′)
   -- DETERMINED BY THE ACCEPTED CALLS (document 02, 8): two lists of calls with the same accepted calls in the same order, whatever was refused
   -- between them, settled with one limit and buffers of equal bytes, get the same answer and leave the same bytes in the whole buffer
   pub by-accepted-calls :
@@ -63,9 +78,13 @@ pub record Settling (M : Type 1) : Type 2 where
       (r ≡ r′) × (now (y .1 .1 .0) ≡ now (y′ .1 .1 .0))
   -- WHAT NO CALL TOUCHES (demand 1), on every value of the struct, reached or not
   pub untouched : Untouched
-  -- for every list of calls, and of calls through seats, there is a run
+  -- for every list of calls, of calls through seats, and of both, there is a run
   pub runs : (cs : List Call) → Run cs (answers cs) (auctionOf (ledger cs))
   pub hall-runs : (ms : List Seated) → HallRun ms (hallAnswers ms) (hallOf (hallLedger ms))
+  pub mixed-runs : (es : List Entry) → SeatedRun es (entryAnswers es) (auctionOf (ledger (permitted es)))
+  -- DEMAND (document 01; document 02, 4): refused exactly outside the bounds; else the least quantity that the curve prices at most p, M1 at the top,
+  -- and the remainder that makes up exact demand
+  pub demand : DemandStated M
   -- REPLIES CAN BE READ (document 01, Frames) and FRAMES OUT AS WELL AS IN (document 02, 2): no figure of a reply is cut to its width, and what is
   -- written reads back
   pub readable : (cs : List Call) → Readable (ledger cs)
@@ -81,8 +100,11 @@ pub record Settling (M : Type 1) : Type 2 where
   pub arrival : ArrivalStated
   -- THE SEALED AUCTION FOR LONG BUILDS (document 02, 13), beside the calls: refusals, awards and what is left
   pub sealed : SealedStated M
+  pub sealed-words : SealedDecided
   -- SEATS IN THE AUCTION HALL (document 02, 14): calls through seats, what a developer can learn, and settling through a seat
   pub seats : SeatsStated M
+  -- what is asked of lists above can be met: a sample for each
+  pub premises : Premises
 
 module _ {cs : List Call} {rs : List Answered} (κs : Lfts 1) (x : ArgsD signature κs) (r : Settled) (y : AtExit (endedOf 1 kinds.ps kinds.r) κs) where
   as-stated : Run cs rs (x .0) → settle.Post κs x r y → Stated (ledger cs) (x .1 .0) (now (x .1 .1 .0)) (now (y .1 .1 .0)) r
@@ -94,11 +116,15 @@ settling = record {
   settle-meets = settle-met.met;
   statement = as-stated;
   determines = determined;
+  in-words = stated-words;
+  words-determine = words-decide;
   by-accepted-calls = λ {cs} {cs′} κs κs′ x x′ r r′ y y′ e f g w s w′ s′.
       by-accepted cs cs′ _ _ _ _ _ _ r r′ e f g (as-stated κs x r y w s) (as-stated κs′ x′ r′ y′ w′ s′);
   untouched = untouched;
   runs = runs;
   hall-runs = hall-runs;
+  mixed-runs = mixed-runs;
+  demand = demand-stated;
   readable = readable;
   frames = frames-stated;
   cancelling = cancelled;
@@ -107,5 +133,7 @@ settling = record {
   forcing = forcing-stated;
   arrival = arrival-stated;
   sealed = sealed-stated;
+  sealed-words = sealed-decided;
   seats = seats-stated;
+  premises = premises;
 }

@@ -14,7 +14,8 @@ use Rattle.replies.specs.Orders.{Order, Malformed, Settle, ordered, orderIn}
 use Rattle.frames.specs.Decoded.{callIn}
 use Rattle.frame_fields.specs.FrameFields.{fieldsOf, Reads}
 use Rattle.frame_fields.specs.FieldColumns.{below}
-use Rattle.auction.specs.Decided.{roundedIn}
+use Rattle.auction.specs.Decided.{roundedIn, withRounded}
+use Rattle.auction.specs.Parts.{withClock}
 use Rattle.auction.specs.declared.Auction.{Auction}
 use Rattle.frame_turns.specs.Turns.{MoveFrame, RegistrationFrame, ClockFrame, Takes}
 use Rattle.frame_turns.specs.TurnLaws.{framed, none-asked, takes-call, takes-move, takes-malformed, takes-no-round, takes-not-closed}
@@ -126,7 +127,10 @@ loop-again-4 c =
     let t = c .before .before .before .before .before in
     let w = t .clock-turn .ensures in
     let d = t .before .before .before .before .before .before .before .before .before .before in
-    again d _ _ _ _ _ refl (takes-call (d .decode .result) (w .call) _ _ _ (w .asked) (w .turns (head d .loop .auction))) (c .before .before .plain-at4 .ensures)
+    let a = head d .loop .auction in
+    let r = t .clock-turn .result in
+    let b = withClock a (r .phase) (r .settings) (r .opening) (r .closing) in
+    again d _ _ _ b _ refl (takes-call (d .decode .result) (w .call) a b (r .number) (w .asked) (w .turns a)) (c .before .before .plain-at4 .ensures)
 
 -- ---- a closing
 
@@ -145,8 +149,10 @@ loop-again-6 c =
     let shown = c .before .before .before .before .closing-reply in
     let fits : SFits w64 (rounded .result .excess) = search needs in
     let shows : ShowsClosing 0 (rounded .result .excess) (rounded .result .remainder) (shown .result) = rw (toZ-ofZ fits) at (shown .ensures) in
-    again d _ _ _ _ _ (asks-close _ (x .before .if5 .taken))
-    (takes-closing _ _ (roundedIn (rounded .result)) _ (rounded .ensures .right (head d .loop .auction) (x .if6 .left)) shows) (c .before .before .reply-at .ensures)
+    let a = head d .loop .auction in
+    let b = withRounded a (rounded .result) in
+    again d _ _ _ b _ (asks-close _ (x .before .if5 .taken))
+    (takes-closing a b (roundedIn (rounded .result)) _ (rounded .ensures .right a (x .if6 .left)) shows) (c .before .before .reply-at .ensures)
 
 -- ---- a settling
 

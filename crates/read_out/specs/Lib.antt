@@ -1,0 +1,5 @@
+pub mod ReadOut
+pub mod Beside
+pub mod ThroughSeats
+pub mod LooksOut
+pub mod SealedOut
