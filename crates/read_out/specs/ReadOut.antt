@@ -1,6 +1,6 @@
 -- READ OUT: what a customer may conclude, from the statement alone. The record of the statement is an argument here, and nothing else of its proof is
--- used, so that each conclusion rests on what the record says; a part of it that said nothing would leave one of them without its ground. Read
--- from the top: two runs of one list of calls, and one question, get one answer.
+-- used, so that each conclusion rests on what the record says: a clause that a conclusion below takes from it cannot be emptied. Read from the
+-- top: two runs of one list of calls, and one question, get one answer.
 use Prim.Native.Nat.{ℕ, _*_, _≤_, _<_}
 use mathlib.Core.Path.{_≡_, refl, sym, ap, _∙_, subst, subst₂}
 use mathlib.Core.Bool.{true, false}
