@@ -5,7 +5,7 @@
  * Quantities are whole kWh per day; prices are whole thousandths of US$ per MWh.
  *
  * No call takes memory of the heap. The stack of a thread that makes calls should have 128 KiB or
- * more for them: `replay` and `who_can_force` took 97 KiB in every record that was measured.
+ * more for them: `replay` took at most 74 KiB, `who_can_force` 56 KiB, in every record that was measured.
  */
 #ifndef REFERENCE_ENGINE_H
 #define REFERENCE_ENGINE_H
@@ -17,7 +17,7 @@
 extern "C" {
 #endif
 
-/* What a call returns for refusal n: 2^64 - n. README.md has the table of refusal numbers. */
+/* What a call returns for refusal n: 2^64 - n. docs/RULES.md has the table of refusal numbers. */
 #define REFERENCE_ENGINE_REFUSAL(n) (UINT64_C(0) - (n))
 
 /*
@@ -61,7 +61,8 @@ uint64_t demand_remainder(uint64_t ce, uint64_t d, uint64_t m1, uint64_t m2, uin
  *
  * A buffer of this size always fits: for each line of the record 5 bytes, 24 more if its second
  * character is 5, 458 more if it is 6. So long are the longest replies, to a closing and to a
- * settling with 32 awards. A shorter buffer may do; finding that out makes each call twice.
+ * settling with 32 awards. A shorter buffer may do; where the replies are longer than 24,576 bytes,
+ * finding that out makes each call twice.
  *
  * The record may hold any bytes in any number, and a length of 0 goes with any pointer, NULL
  * too. Refused calls and malformed lines are answered in the replies. The call keeps no state and

@@ -4,7 +4,7 @@ from __future__ import annotations
 
 from dataclasses import dataclass
 
-#: What each refusal number means (README.md has the table).
+#: What each refusal number means (docs/RULES.md has the table).
 MEANINGS: dict[int, str] = {
     1: "settings or price beyond their bounds",
     2: "call not accepted in this phase",

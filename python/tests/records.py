@@ -1,7 +1,8 @@
-"""Records that tests read: the sample, FORMAT's examples, random auctions, and a long one."""
+"""What tests read: records (the sample, FORMAT's, random ones, a long one), and tables of RULES."""
 
 from __future__ import annotations
 
+import os
 import random
 from dataclasses import dataclass
 from functools import cache
@@ -29,6 +30,15 @@ _MALFORMED = (
 )
 
 
+def processor_seconds() -> float:
+    """Processor time that this process and the programs that it ran took.
+
+    A bound on it, far above what is needed and below what all lines for each line would take, says
+    the same on a busy machine; one on the clock does not.
+    """
+    return sum(os.times()[:4])
+
+
 def sample() -> Record:
     """The sample record of docs/FORMAT.md: eleven lines, all accepted."""
     return Record.read(ROOT / "crates" / "replay" / "stdin")
@@ -37,6 +47,13 @@ def sample() -> Record:
 def first_lines(count: int) -> Record:
     """So many lines of the sample."""
     return Record(b"".join(bytes(sample()).splitlines(True)[:count]))
+
+
+def rules_table(*heads: str) -> list[list[str]]:
+    """The rows of the table of docs/RULES.md that has these heads behind the refusal's number."""
+    page = (ROOT / "docs/RULES.md").read_text(encoding="utf-8")
+    table = page.split(f"| Number | {' | '.join(heads)} |\n")[1].split("\n\n")[0]
+    return [[cell.strip() for cell in row.strip("|").split("|")] for row in table.splitlines()[1:]]
 
 
 def ready() -> Record:

@@ -10,7 +10,7 @@ from concurrent.futures import ThreadPoolExecutor
 from pathlib import Path
 from unittest import mock
 
-from records import ROOT, ready
+from records import ROOT, ready, rules_table
 from reference_engine import (
     MEANINGS,
     Forced,
@@ -118,7 +118,7 @@ class Demand(Untouched):
 
 
 class Sealed(Untouched):
-    # README.md's table.
+    # python/README.md's example.
     offers = (
         SealedOffer(21_000, 400, 100, 2),
         SealedOffer(19_000, 500, 500, 5),
@@ -245,10 +245,10 @@ class Built(unittest.TestCase):
 
 
 class Meanings(unittest.TestCase):
-    def test_every_number_of_the_readme(self) -> None:
-        table = (ROOT / "README.md").read_text().split("| No. | When |")[1].split("\n\n")[0]
-        numbers = [int(row.split("|")[1]) for row in table.splitlines()[2:]]
-        self.assertEqual(sorted(MEANINGS), numbers)
+    def test_every_refusal_of_the_rules(self) -> None:
+        """Each means what the table says before its first semicolon."""
+        table = rules_table("Hex", "Name", "When")
+        self.assertEqual(MEANINGS, {int(n): when.partition("; ")[0] for n, _, _, when in table})
 
 
 if __name__ == "__main__":

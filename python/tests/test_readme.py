@@ -1,4 +1,4 @@
-"""The README's commands and its Python example, run as they stand."""
+"""The commands and Python examples of README.md and python/README.md, run as they stand."""
 
 from __future__ import annotations
 
@@ -8,23 +8,27 @@ import shutil
 import subprocess
 import sys
 import tempfile
+import textwrap
 import unittest
 from pathlib import Path
 
 from records import ROOT
 
-BLOCK = re.compile(r"^```(sh|python|text)\n(.*?)^```$", re.MULTILINE | re.DOTALL)
+BLOCK = re.compile(r"^```(sh|python|text|c)\n(.*?)^```$", re.MULTILINE | re.DOTALL)
 
 
-class Readme(unittest.TestCase):
+class Shown(unittest.TestCase):
+    """A folder with what the commands read, so that nothing is written into the checkout."""
+
     def setUp(self) -> None:
-        """A folder with what the commands read, so that nothing is written into the checkout."""
         folder = tempfile.TemporaryDirectory()
         self.addCleanup(folder.cleanup)
         self.folder = Path(folder.name)
         shutil.copytree(ROOT / "crates/replay", self.folder / "crates/replay")
-        self.readme = (ROOT / "README.md").read_text(encoding="utf-8")
-        self.blocks = BLOCK.findall(self.readme)
+
+    def read(self, name: str) -> None:
+        self.page = (ROOT / name).read_text(encoding="utf-8")
+        self.blocks = BLOCK.findall(self.page)
 
     def run_here(self, command: str | list[str], status: int = 0) -> str:
         """What a command prints. It must end with the status, and say nothing else."""
@@ -47,17 +51,41 @@ class Readme(unittest.TestCase):
                 pairs.append((content, printed))
             elif language == "python":
                 printed = self.run_here([sys.executable, "-c", content])
-            else:
+            elif language == "sh":
                 for command in content.splitlines():
                     self.assertRegex(command, "^(PYTHONPATH=python )?python3 -m reference_engine ")
                     printed = self.run_here(command)
         return pairs
 
-    def test_blocks(self) -> None:
+    def assertPrinted(self, number: int) -> None:
+        """So many text blocks, each the end of what the block before it prints."""
         pairs = self.printed()
-        self.assertEqual(len(pairs), 3)
+        self.assertEqual(len(pairs), number)
         for text, printed in pairs:
             self.assertEqual(printed[-len(text) :], text)
+
+
+class Readme(Shown):
+    def setUp(self) -> None:
+        super().setUp()
+        self.read("README.md")
+
+    def test_blocks(self) -> None:
+        self.assertPrinted(1)
+
+    def test_lines_of_the_c_example(self) -> None:
+        quoted = [content for language, content in self.blocks if language == "c"]
+        self.assertEqual(len(quoted), 1)
+        self.assertIn(textwrap.indent(quoted[0], "    "), (ROOT / "tests/c/example.c").read_text())
+
+
+class PythonReadme(Shown):
+    def setUp(self) -> None:
+        super().setUp()
+        self.read("python/README.md")
+
+    def test_blocks(self) -> None:
+        self.assertPrinted(4)
         sample = self.folder / "sample.record"
         self.assertEqual(sample.read_bytes(), (ROOT / "crates/replay/stdin").read_bytes())
         self.assertIn("</svg>", (self.folder / "report.html").read_text(encoding="utf-8"))
@@ -68,11 +96,11 @@ class Readme(unittest.TestCase):
         self.assertEqual(sorted(shown), ["compare", "explain", "report", "table"])
 
     def test_difference_in_words(self) -> None:
-        """The sentence that the README quotes, of a program that has -54."""
+        """The sentence that the page quotes, of a program that has -54."""
         path = self.folder / "crates/replay/stdout"
         path.write_text(path.read_text().replace("C900000000", "CA00000000"))
         compare = next(content for _, content in self.blocks if " compare " in content)
-        quoted = re.search(r"`(line 10 \(close\): .*?)`", self.readme)
+        quoted = re.search(r"`(line 10 \(close\): .*?)`", self.page)
         self.assertIsNotNone(quoted)
         self.assertIn(quoted[1], self.run_here(compare, status=1))
 

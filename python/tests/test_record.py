@@ -5,11 +5,18 @@ from __future__ import annotations
 import tempfile
 import unittest
 from pathlib import Path
-from time import perf_counter
 from unittest import mock
 
-from records import ROOT, first_lines, lodged, ready, with_agents
-from reference_engine import Award, Closed, Record, Refused, Reply, Settlement, Step
+from records import (
+    ROOT,
+    first_lines,
+    lodged,
+    processor_seconds,
+    ready,
+    rules_table,
+    with_agents,
+)
+from reference_engine import MEANINGS, Award, Closed, Record, Refused, Reply, Settlement, Step
 from reference_engine import library, replay
 from reference_engine.auction import CurvePoint, read_auction
 from reference_engine.calls import (
@@ -222,18 +229,15 @@ class Replaying(unittest.TestCase):
         numbers = [reply.number for reply in before.replies()[7:]]
         self.assertEqual(numbers, [0, 0, 16, 0, 8, 3])
 
-    def test_refusals_of_the_format(self) -> None:
-        """The examples of docs/FORMAT.md, each behind the first so many lines of the sample."""
-        page = (ROOT / "docs/FORMAT.md").read_text().split("## Refusal numbers in replies")[1]
+    def test_refusals_of_the_rules(self) -> None:
+        """The examples of docs/RULES.md, each behind the first so many lines of the sample."""
         tried = 0
-        for row in page.split("\n\n")[2].splitlines()[2:]:
-            number, _, when, example, behind = (cell.strip() for cell in row.split("|")[1:6])
-            if not example:
-                continue
+        for number, reply, example, behind, why in rules_table("Reply", "Example", "Behind", "Why"):
             lines = SAMPLE.split(b"\n")[: int(behind)] + [example.strip("`").encode()]
+            replies = library.replies_to(b"\n".join(lines))
+            self.assertEqual(replies.split(b"\n")[-2].decode(), reply.strip("`"), why)
             refusal = replay(b"\n".join(lines))[-1].refusal
-            self.assertEqual(refusal.number, int(number), when)
-            self.assertEqual(str(refusal), f"refused by {number}: {refusal.meaning}")
+            self.assertEqual(str(refusal), f"refused by {number}: {MEANINGS[int(number)]}")
             tried += 1
         self.assertEqual(tried, 13)
 
@@ -258,7 +262,7 @@ class Replaying(unittest.TestCase):
         record.open(10_000).close()
         while len(record) <= 65_536 - 11:
             record.settle(1)
-        began = perf_counter()
+        began = processor_seconds()
         replies = record.replies()
         settled = [reply for reply in replies if isinstance(reply, Settlement)]
         self.assertEqual({len(reply.awards) for reply in settled}, {32})
@@ -266,15 +270,15 @@ class Replaying(unittest.TestCase):
         self.assertGreater(len(settled), 5_000)
         alone = Record(b"0600000001\n" * 10).replies()
         self.assertEqual(alone, [Reply(6, 2)] * 10)
-        self.assertLess(perf_counter() - began, 5)
+        self.assertLess(processor_seconds() - began, 30)
 
     def test_thousands_of_lines(self) -> None:
         record = Record(b"05\n" * 21_845)
-        began = perf_counter()
+        began = processor_seconds()
         auction = read_auction(record)
         self.assertEqual(len(auction.refused), 21_845)
         self.assertTrue(auction.traced)
-        self.assertLess(perf_counter() - began, 5)
+        self.assertLess(processor_seconds() - began, 30)
 
     def test_beyond_the_trace(self) -> None:
         auction = read_auction(SAMPLE + b"05\n" * 22_000)

@@ -1,134 +1,236 @@
 /*
- * A deliberately wrong engine over the right one, to see that the comparisons report a fault.
- * WRONG in the environment names it: demand (one kWh more), remainder (that of the quotient, which is
- * CE less the right one), digit (the last digit of the replies), behind (the byte behind the
- * replies), part (a buffer one byte too short gets what fits of the replies), far (the last digit of
- * replies that are longer than KEPT bytes, in a buffer of just their length), again (a settling
- * refused by 10 behind an accepted one has that one's reply, if the buffer is long enough), mark
- * (that of the second price is never short), sufficient (participation always is, by its mark), paid
- * (existing plants are always paid P), order (the first two awards change places), arrival (the last
- * digit of each closing, where the first offer is a higher developer's than the second), step (the
- * last digit of an offer's frame), width (an opening's price cut to its field), kind (a lodging
- * written as an offer), agent (a registration for the developer's own number), own (one for it in
- * frame 02), cost (the first digit of a set-up's CE), study (study value and start day of a
- * registration change places), short (14 for a closing whose buffer is too short), early (13 tested
- * before 14 for a settling), touched (the first byte of a refused settling's buffer), longer (a
- * cancellation's frame said to have one byte more), move (the rivals' first move: keep and withdraw
- * change places), kept (the outcome when both rivals keep), rivals (the second begins), beyond (the
- * byte behind the move, and the number behind the awards of a sealed auction), ties (of sealed offers
- * alike the later one first), cut (one may be awarded less than its minimum), listed (the first two
- * awards change places) or ceiling (19 tested before 18); without it the engine is right.
+ * Deliberately wrong engines over the right one, to see that the comparisons report a fault: each is a
+ * row of the table at the end. WRONG in the environment names it; without it the engine is right.
  */
 #include "reference_engine.h"
 #include <stdlib.h>
 #include <string.h>
 
-uint64_t right_demand(uint64_t ce, uint64_t d, uint64_t m1, uint64_t m2, uint64_t p);
-uint64_t right_demand_remainder(uint64_t ce, uint64_t d, uint64_t m1, uint64_t m2, uint64_t p);
-uint64_t right_replay(const uint8_t *record, size_t record_length, uint8_t *replies,
-                      size_t replies_length);
-uint64_t right_write_set_up(uint64_t ce, uint64_t d, uint64_t m1, uint64_t m2, uint64_t a,
-                            uint8_t *frame, size_t frame_length);
-uint64_t right_write_registration(uint64_t project, uint64_t developer, uint64_t kind, uint64_t study,
-                                  uint64_t day, const uint64_t *levels, size_t levels_length,
-                                  uint8_t *frame, size_t frame_length);
-uint64_t right_write_registration_for(uint64_t project, uint64_t developer, uint64_t kind,
-                                      uint64_t agent, uint64_t study, uint64_t day,
-                                      const uint64_t *levels, size_t levels_length, uint8_t *frame,
-                                      size_t frame_length);
-uint64_t right_write_opening(uint64_t c, uint8_t *frame, size_t frame_length);
-uint64_t right_write_offer(uint64_t developer, const uint64_t *prices, size_t prices_length,
-                           const uint64_t *levels, size_t levels_length, uint8_t *frame,
-                           size_t frame_length);
-uint64_t right_write_closing(uint8_t *frame, size_t frame_length);
-uint64_t right_write_settling(uint64_t limit, uint8_t *frame, size_t frame_length);
-uint64_t right_write_lodging(uint64_t developer, const uint64_t *prices, size_t prices_length,
-                             const uint64_t *levels, size_t levels_length, uint8_t *frame,
-                             size_t frame_length);
-uint64_t right_write_cancellation(uint64_t developer, uint8_t *frame, size_t frame_length);
-uint64_t right_who_can_force(const uint8_t *record, size_t record_length, uint64_t first,
-                             uint64_t second, const uint64_t *prices, size_t prices_length,
-                             uint8_t *move, size_t move_length);
-uint64_t right_sealed_auction(uint64_t ceiling, uint64_t demand, const uint64_t *prices,
-                              size_t prices_length, const uint64_t *quantities,
-                              size_t quantities_length, const uint64_t *minimums,
-                              size_t minimums_length, const uint64_t *ages, size_t ages_length,
-                              uint64_t *awards, size_t awards_length);
+struct list {
+    const uint64_t *at;
+    size_t length;
+};
 
-static int fault(const char *name) {
-    const char *wrong = getenv("WRONG");
-    return wrong != NULL && strcmp(wrong, name) == 0;
+/* A call: how the right engine makes it; its numbers as the header has them, but an agent last; its
+ * lists and its record; the lent buffer, of bytes or of awards; the answer; and its fault's number. */
+struct call {
+    uint64_t (*made)(const struct call *);
+    uint64_t numbers[6];
+    struct list lists[4];
+    const uint8_t *record;
+    size_t record_length;
+    uint8_t *bytes;
+    uint64_t *awards;
+    size_t length;
+    uint64_t answer;
+    int by;
+};
+
+static uint64_t answered(struct call call);
+
+/* CALL(NAME, PARAMETERS, ARGUMENTS, FIELDS): a call of the header. Its parameters are these fields of a
+ * struct call, and the right one, right_NAME by tests/run, gets its arguments out of that. */
+#define CALL(name, parameters, arguments, ...)                                                    \
+    extern __typeof__(name) right_##name;                                                         \
+    static uint64_t made_##name(const struct call *call) { return right_##name arguments; }       \
+    uint64_t name parameters { return answered((struct call){.made = made_##name, __VA_ARGS__}); }
+
+/* Arguments, parameters and fields that many have. */
+#define N(place) call->numbers[place]
+#define L(place) call->lists[place].at, call->lists[place].length
+#define RECORD call->record, call->record_length
+#define LENT call->bytes, call->length
+#define LIST(name) const uint64_t *name, size_t name##_length
+#define FRAME uint8_t *frame, size_t frame_length
+#define IN_FRAME .bytes = frame, .length = frame_length
+
+CALL(demand, (uint64_t ce, uint64_t d, uint64_t m1, uint64_t m2, uint64_t p),
+     (N(0), N(1), N(2), N(3), N(4)), .numbers = {ce, d, m1, m2, p})
+CALL(demand_remainder, (uint64_t ce, uint64_t d, uint64_t m1, uint64_t m2, uint64_t p),
+     (N(0), N(1), N(2), N(3), N(4)), .numbers = {ce, d, m1, m2, p})
+CALL(replay, (const uint8_t *record, size_t record_length, uint8_t *replies, size_t replies_length),
+     (RECORD, LENT), .record = record, .record_length = record_length, .bytes = replies,
+     .length = replies_length)
+CALL(write_set_up, (uint64_t ce, uint64_t d, uint64_t m1, uint64_t m2, uint64_t a, FRAME),
+     (N(0), N(1), N(2), N(3), N(4), LENT), .numbers = {ce, d, m1, m2, a}, IN_FRAME)
+CALL(write_registration,
+     (uint64_t project, uint64_t developer, uint64_t kind, uint64_t study, uint64_t day, LIST(levels),
+      FRAME),
+     (N(0), N(1), N(2), N(3), N(4), L(0), LENT), .numbers = {project, developer, kind, study, day},
+     .lists = {{levels, levels_length}}, IN_FRAME)
+CALL(write_registration_for,
+     (uint64_t project, uint64_t developer, uint64_t kind, uint64_t agent, uint64_t study,
+      uint64_t day, LIST(levels), FRAME),
+     (N(0), N(1), N(2), N(5), N(3), N(4), L(0), LENT),
+     .numbers = {project, developer, kind, study, day, agent}, .lists = {{levels, levels_length}},
+     IN_FRAME)
+CALL(write_opening, (uint64_t c, FRAME), (N(0), LENT), .numbers = {c}, IN_FRAME)
+CALL(write_offer, (uint64_t developer, LIST(prices), LIST(levels), FRAME), (N(0), L(0), L(1), LENT),
+     .numbers = {developer}, .lists = {{prices, prices_length}, {levels, levels_length}}, IN_FRAME)
+CALL(write_closing, (FRAME), (LENT), IN_FRAME)
+CALL(write_settling, (uint64_t limit, FRAME), (N(0), LENT), .numbers = {limit}, IN_FRAME)
+CALL(write_lodging, (uint64_t developer, LIST(prices), LIST(levels), FRAME), (N(0), L(0), L(1), LENT),
+     .numbers = {developer}, .lists = {{prices, prices_length}, {levels, levels_length}}, IN_FRAME)
+CALL(write_cancellation, (uint64_t developer, FRAME), (N(0), LENT), .numbers = {developer}, IN_FRAME)
+CALL(who_can_force,
+     (const uint8_t *record, size_t record_length, uint64_t first, uint64_t second, LIST(prices),
+      uint8_t *move, size_t move_length),
+     (RECORD, N(0), N(1), L(0), LENT), .record = record, .record_length = record_length,
+     .numbers = {first, second}, .lists = {{prices, prices_length}}, .bytes = move,
+     .length = move_length)
+CALL(sealed_auction,
+     (uint64_t ceiling, uint64_t demand, LIST(prices), LIST(quantities), LIST(minimums), LIST(ages),
+      uint64_t *awards, size_t awards_length),
+     (N(0), N(1), L(0), L(1), L(2), L(3), call->awards, call->length), .numbers = {ceiling, demand},
+     .lists = {{prices, prices_length}, {quantities, quantities_length}, {minimums, minimums_length},
+               {ages, ages_length}},
+     .awards = awards, .length = awards_length)
+
+/* Places of numbers, of demand, a registration, a game and a sealed auction, and of lists. */
+enum { CE = 0, PRICE_ASKED = 4, DEVELOPER = 1, STUDY = 3, AGENT = 5, RIVALS = 0, CEILING = 0 };
+enum { PRICES = 0, MINIMUMS = 2 };
+
+/* How a call is wrong before it is made. */
+
+static void exchange(uint64_t *pair) {
+    uint64_t first = pair[0];
+    pair[0] = pair[1];
+    pair[1] = first;
 }
 
-uint64_t demand(uint64_t ce, uint64_t d, uint64_t m1, uint64_t m2, uint64_t p) {
-    uint64_t answer = right_demand(ce, d, m1, m2, p);
-    return answer + (answer < REFERENCE_ENGINE_REFUSAL(1) && p == ce && fault("demand"));
+static void exchanged(struct call *call) { exchange(call->numbers + call->by); }
+
+static void own_number(struct call *call) { call->numbers[AGENT] = call->numbers[DEVELOPER]; }
+
+static void without_agent(struct call *call) {
+    if (call->numbers[AGENT] == call->numbers[DEVELOPER])
+        call->made = made_write_registration;
 }
 
-uint64_t demand_remainder(uint64_t ce, uint64_t d, uint64_t m1, uint64_t m2, uint64_t p) {
-    uint64_t answer = right_demand_remainder(ce, d, m1, m2, p);
-    return answer > 0 && answer < ce && fault("remainder") ? ce - answer : answer;
+static void cut_to_field(struct call *call) { call->numbers[0] = (uint32_t)call->numbers[0]; }
+
+static void as_offer(struct call *call) { call->made = made_write_offer; }
+
+/* How an answer is wrong. */
+
+static void raised(struct call *call) { call->answer += call->by; }
+
+static void raised_at_ce(struct call *call) {
+    if (call->numbers[PRICE_ASKED] == call->numbers[CE])
+        raised(call);
 }
 
-/* Where P and the awards of a settling's reply begin, the digits of a price, of each award, and of all
- * behind the awards: remainder, second price and its mark, then the mark of participation and the
- * price paid. */
+static void less_than_ce(struct call *call) {
+    if (call->answer > 0)
+        call->answer = call->numbers[CE] - call->answer;
+}
+
+static void refuse(struct call *call) { call->answer = REFERENCE_ENGINE_REFUSAL(call->by); }
+
+static void refuse_if_short(struct call *call) {
+    /* The bytes of a settling's frame. */
+    enum { SETTLING = 11 };
+    if (call->length < SETTLING)
+        refuse(call);
+}
+
+static void refuse_above_ceiling(struct call *call) {
+    for (size_t place = 0; place < call->lists[PRICES].length; place++)
+        if (call->lists[PRICES].at[place] > call->numbers[CEILING])
+            refuse(call);
+}
+
+/* How a buffer is wrong: by the byte so far from its start, or from the end of what is written. */
+
+static void byte(struct call *call) {
+    if ((size_t)call->by < call->length)
+        call->bytes[call->by] ^= 1;
+}
+
+static void byte_from_end(struct call *call) {
+    if (call->answer > 0 && call->answer + call->by < call->length)
+        call->bytes[call->answer + call->by] ^= 1;
+}
+
+static void byte_of_steps(struct call *call) {
+    if (call->lists[PRICES].length > 0)
+        byte_from_end(call);
+}
+
+static void byte_of_long(struct call *call) {
+    /* The most bytes of replies that the engine keeps until it knows that they fit. */
+    enum { KEPT = 24576 };
+    if (call->answer > KEPT && call->answer == call->length)
+        byte_from_end(call);
+}
+
+static void all_but_one(struct call *call) {
+    struct call longer = *call;
+    longer.bytes = malloc(++longer.length);
+    if (longer.made(&longer) == longer.length)
+        memcpy(call->bytes, longer.bytes, call->length);
+    free(longer.bytes);
+}
+
+/* How replies are wrong. Of a settling's: where P and the awards begin, the digits of a price, of each
+ * award, and of all behind the awards: remainder, second price and its mark, then the mark of
+ * participation and the price paid. */
 enum { P = 4, PRICE = 8, AWARDS = 50, AWARD = 12, BEHIND = 28 };
+enum { EXCESS, SHORT, PARTICIPATION, PAID, ORDER };
 
-/* The faults of an accepted settling's reply, which has so many characters. */
-static void settle_wrong(uint8_t *reply, uint64_t length) {
-    uint8_t *paid = reply + length - PRICE;
-    if (fault("mark"))
+static void in_reply(uint8_t *reply, uint64_t length, int what) {
+    if (memcmp(reply, what == EXCESS ? "0500" : "0600", 4) != 0)
+        return;
+    uint8_t first[AWARD], *awards = reply + AWARDS, *paid = reply + length - PRICE;
+    if (what == EXCESS)
+        reply[length - 1] ^= 1;
+    if (what == SHORT)
         paid[-3] = '0';
-    if (fault("sufficient"))
+    if (what == PARTICIPATION)
         paid[-1] = '0';
-    if (fault("paid"))
+    if (what == PAID)
         memcpy(paid, reply + P, PRICE);
-    if (fault("order") && length >= AWARDS + 2 * AWARD + BEHIND) {
-        uint8_t first[AWARD], *awards = reply + AWARDS;
+    if (what == ORDER && length >= AWARDS + 2 * AWARD + BEHIND) {
         memcpy(first, awards, AWARD);
         memcpy(awards, awards + AWARD, AWARD);
         memcpy(awards + AWARD, first, AWARD);
     }
 }
 
-/* Whether the first line of an offer names a higher developer than the second; digits are in the
- * order of their characters. */
-static int higher_first(const uint8_t *record, size_t length) {
-    const uint8_t *first = NULL;
-    for (size_t place = 0; place + 4 <= length; place++) {
-        const uint8_t *line = record + place;
-        if ((place > 0 && line[-1] != '\n') || memcmp(line, "04", 2) != 0)
-            continue;
-        if (first != NULL)
-            return memcmp(first + 2, line + 2, 2) > 0;
-        first = line;
-    }
-    return 0;
+static void in_replies(struct call *call) {
+    uint64_t start = 0;
+    for (uint64_t end = 0; end < call->answer; end++)
+        if (call->bytes[end] == '\n') {
+            in_reply(call->bytes + start, end - start, call->by);
+            start = end + 1;
+        }
 }
 
-/* The faults of all closings' replies, if they are wrong, and of all settlings'. */
-static void replies_wrong(uint8_t *replies, uint64_t written, int closings) {
-    uint64_t start = 0;
-    for (uint64_t end = 0; end < written; end++) {
-        if (replies[end] != '\n')
+/* Where the first line of an offer names a higher developer than the second; digits are in the order of
+ * their characters. */
+static void in_replies_by_arrival(struct call *call) {
+    const uint8_t *first = NULL;
+    for (size_t place = 0; place + 4 <= call->record_length; place++) {
+        const uint8_t *line = call->record + place;
+        if ((place > 0 && line[-1] != '\n') || memcmp(line, "04", 2) != 0)
             continue;
-        if (closings && memcmp(replies + start, "0500", 4) == 0)
-            replies[end - 1] ^= 1;
-        if (end - start > AWARDS && memcmp(replies + start, "0600", 4) == 0)
-            settle_wrong(replies + start, end - start);
-        start = end + 1;
+        if (first != NULL) {
+            if (memcmp(first + 2, line + 2, 2) > 0)
+                in_replies(call);
+            return;
+        }
+        first = line;
     }
 }
 
 /* The reply of the first accepted settling in place of those refused by 10 behind it, as far as the
- * buffer is long enough; the bytes of the replies then. */
-static uint64_t settled_again(uint8_t *replies, uint64_t written, size_t replies_length) {
+ * buffer is long enough. */
+static void settled_again(struct call *call) {
     /* Bytes of the longest reply and of a refusal, with their 0A. */
-    enum { LONGEST = 463, REFUSED = 5 };
-    uint8_t first[LONGEST];
+    enum { LONGEST = 463, REFUSAL = 5 };
+    uint8_t first[LONGEST], *replies = call->bytes;
     uint64_t start = 0, length = 0;
-    for (uint64_t end = 0; end < written; end++) {
+    for (uint64_t end = 0; end < call->answer; end++) {
         if (replies[end] != '\n')
             continue;
         if (length == 0 && memcmp(replies + start, "0600", 4) == 0) {
@@ -136,150 +238,33 @@ static uint64_t settled_again(uint8_t *replies, uint64_t written, size_t replies
             memcpy(first, replies + start, length);
         }
         int refused = length > 0 && memcmp(replies + start, "060A", 4) == 0;
-        uint64_t more = refused ? length - REFUSED : 0;
-        if (refused && more <= replies_length - written) {
-            memmove(replies + end + 1 + more, replies + end + 1, written - end - 1);
+        uint64_t more = refused ? length - REFUSAL : 0;
+        if (refused && more <= call->length - call->answer) {
+            memmove(replies + end + 1 + more, replies + end + 1, call->answer - end - 1);
             memcpy(replies + start, first, length);
-            written += more;
+            call->answer += more;
             end += more;
         }
         start = end + 1;
     }
-    return written;
 }
 
-/* What fits of the replies, if the buffer is one byte too short. */
-static void write_part(const uint8_t *record, size_t record_length, uint8_t *replies,
-                       size_t replies_length) {
-    uint8_t *enough = malloc(replies_length + 1);
-    if (right_replay(record, record_length, enough, replies_length + 1) == replies_length + 1)
-        memcpy(replies, enough, replies_length);
-    free(enough);
-}
-
-/* The most bytes of replies that the engine keeps until it knows that they fit. */
-enum { KEPT = 24576 };
-
-uint64_t replay(const uint8_t *record, size_t record_length, uint8_t *replies,
-                size_t replies_length) {
-    uint64_t written = right_replay(record, record_length, replies, replies_length);
-    if (written > replies_length && replies_length > 0 && fault("part"))
-        write_part(record, record_length, replies, replies_length);
-    if (written < 2 || written > replies_length)
-        return written;
-    if (fault("digit") || (fault("far") && written > KEPT && written == replies_length))
-        replies[written - 2] ^= 1;
-    if (fault("again"))
-        written = settled_again(replies, written, replies_length);
-    replies_wrong(replies, written, fault("arrival") && higher_first(record, record_length));
-    if (fault("behind") && written < replies_length)
-        replies[written] ^= 1;
-    return written;
-}
-
-uint64_t write_set_up(uint64_t ce, uint64_t d, uint64_t m1, uint64_t m2, uint64_t a, uint8_t *frame,
-                      size_t frame_length) {
-    uint64_t written = right_write_set_up(ce, d, m1, m2, a, frame, frame_length);
-    if (written <= frame_length && fault("cost"))
-        frame[2] ^= 1;
-    return written;
-}
-
-uint64_t write_registration(uint64_t project, uint64_t developer, uint64_t kind, uint64_t study,
-                            uint64_t day, const uint64_t *levels, size_t levels_length,
-                            uint8_t *frame, size_t frame_length) {
-    int exchanged = fault("study");
-    return right_write_registration(project, developer, kind, exchanged ? day : study,
-                                    exchanged ? study : day, levels, levels_length, frame,
-                                    frame_length);
-}
-
-uint64_t write_registration_for(uint64_t project, uint64_t developer, uint64_t kind, uint64_t agent,
-                                uint64_t study, uint64_t day, const uint64_t *levels,
-                                size_t levels_length, uint8_t *frame, size_t frame_length) {
-    if (agent == developer && fault("own"))
-        return right_write_registration(project, developer, kind, study, day, levels, levels_length,
-                                        frame, frame_length);
-    return right_write_registration_for(project, developer, kind,
-                                        fault("agent") ? developer : agent, study, day, levels,
-                                        levels_length, frame, frame_length);
-}
-
-uint64_t write_opening(uint64_t c, uint8_t *frame, size_t frame_length) {
-    return right_write_opening(fault("width") ? (uint32_t)c : c, frame, frame_length);
-}
-
-uint64_t write_offer(uint64_t developer, const uint64_t *prices, size_t prices_length,
-                     const uint64_t *levels, size_t levels_length, uint8_t *frame,
-                     size_t frame_length) {
-    uint64_t written = right_write_offer(developer, prices, prices_length, levels, levels_length,
-                                         frame, frame_length);
-    if (written <= frame_length && prices_length > 0 && fault("step"))
-        frame[written - 2] ^= 1;
-    return written;
-}
-
-uint64_t write_closing(uint8_t *frame, size_t frame_length) {
-    uint64_t written = right_write_closing(frame, frame_length);
-    return written > frame_length && fault("short") ? REFERENCE_ENGINE_REFUSAL(14) : written;
-}
-
-/* The bytes of a settling's frame. */
-enum { SETTLING = 11 };
-
-uint64_t write_settling(uint64_t limit, uint8_t *frame, size_t frame_length) {
-    if (frame_length < SETTLING && fault("early"))
-        return REFERENCE_ENGINE_REFUSAL(13);
-    uint64_t written = right_write_settling(limit, frame, frame_length);
-    if (written > frame_length && frame_length > 0 && fault("touched"))
-        frame[0] ^= 1;
-    return written;
-}
-
-uint64_t write_lodging(uint64_t developer, const uint64_t *prices, size_t prices_length,
-                       const uint64_t *levels, size_t levels_length, uint8_t *frame,
-                       size_t frame_length) {
-    return (fault("kind") ? right_write_offer : right_write_lodging)(
-        developer, prices, prices_length, levels, levels_length, frame, frame_length);
-}
-
-uint64_t write_cancellation(uint64_t developer, uint8_t *frame, size_t frame_length) {
-    uint64_t written = right_write_cancellation(developer, frame, frame_length);
-    return written + (written <= frame_length && fault("longer"));
-}
-
-/* The lowest of the prices that is the outcome of a game of its own: in a game of one price no move
- * lowers the supply there. */
-static uint64_t all_keep(const uint8_t *record, size_t record_length, uint64_t first, uint64_t second,
-                         const uint64_t *prices, size_t prices_length) {
-    uint64_t outcome = 0;
+/* How an outcome is wrong: the lowest price that is the outcome of a game of its own; in a game of one
+ * price no move lowers the supply there. */
+static void all_keep(struct call *call) {
     uint8_t move;
-    for (size_t left = prices_length; left > 0; left--) {
-        const uint64_t *price = prices + left - 1;
-        outcome = right_who_can_force(record, record_length, first, second, price, 1, &move, 1);
-        if (outcome == *price)
+    struct call game = *call;
+    game.bytes = &move;
+    game.length = 1;
+    for (size_t left = call->lists[PRICES].length; left > 0; left--) {
+        game.lists[PRICES] = (struct list){call->lists[PRICES].at + left - 1, 1};
+        call->answer = call->made(&game);
+        if (call->answer == *game.lists[PRICES].at)
             break;
     }
-    return outcome;
 }
 
-uint64_t who_can_force(const uint8_t *record, size_t record_length, uint64_t first, uint64_t second,
-                       const uint64_t *prices, size_t prices_length, uint8_t *move,
-                       size_t move_length) {
-    int exchanged = fault("rivals");
-    uint64_t outcome =
-        right_who_can_force(record, record_length, exchanged ? second : first,
-                            exchanged ? first : second, prices, prices_length, move, move_length);
-    if (outcome > REFERENCE_ENGINE_REFUSAL(18))
-        return outcome;
-    if (fault("move"))
-        move[0] ^= 1;
-    if (fault("beyond") && move_length > 1)
-        move[1] ^= 1;
-    if (fault("kept"))
-        return all_keep(record, record_length, first, second, prices, prices_length);
-    return outcome;
-}
+/* How the awards of a sealed auction are wrong. */
 
 /* The most sealed offers. */
 enum { OFFERS = 16 };
@@ -289,52 +274,100 @@ static void reverse(uint64_t *to, const uint64_t *from, size_t count) {
         to[place] = from[count - 1 - place];
 }
 
-/* The sound auction with its list the other way round, which only those alike feel. */
-static uint64_t ties_wrong(uint64_t ceiling, uint64_t demand, const uint64_t *prices,
-                           const uint64_t *quantities, const uint64_t *minimums,
-                           const uint64_t *ages, uint64_t *awards, size_t count) {
-    uint64_t lists[5][OFFERS];
-    reverse(lists[0], prices, count);
-    reverse(lists[1], quantities, count);
-    reverse(lists[2], minimums, count);
-    reverse(lists[3], ages, count);
-    uint64_t left = right_sealed_auction(ceiling, demand, lists[0], count, lists[1], count, lists[2],
-                                         count, lists[3], count, lists[4], count);
-    reverse(awards, lists[4], count);
-    return left;
-}
-
-/* Whether a price is above the ceiling. */
-static int above(uint64_t ceiling, const uint64_t *prices, size_t count) {
-    while (count > 0 && prices[count - 1] <= ceiling)
-        count--;
-    return count > 0;
-}
-
-uint64_t sealed_auction(uint64_t ceiling, uint64_t demand, const uint64_t *prices,
-                        size_t prices_length, const uint64_t *quantities, size_t quantities_length,
-                        const uint64_t *minimums, size_t minimums_length, const uint64_t *ages,
-                        size_t ages_length, uint64_t *awards, size_t awards_length) {
-    static const uint64_t ones[OFFERS] = {1, 1, 1, 1, 1, 1, 1, 1, 1, 1, 1, 1, 1, 1, 1, 1};
-    if (fault("ceiling") && above(ceiling, prices, prices_length))
-        return REFERENCE_ENGINE_REFUSAL(19);
-    uint64_t left = right_sealed_auction(ceiling, demand, prices, prices_length, quantities,
-                                         quantities_length, minimums, minimums_length, ages,
-                                         ages_length, awards, awards_length);
-    size_t count = prices_length;
-    if (left >= REFERENCE_ENGINE_REFUSAL(19))
-        return left;
-    if (fault("ties"))
-        return ties_wrong(ceiling, demand, prices, quantities, minimums, ages, awards, count);
-    if (fault("cut"))
-        return right_sealed_auction(ceiling, demand, prices, count, quantities, count, ones, count,
-                                    ages, count, awards, count);
-    if (fault("listed") && count > 1) {
-        uint64_t first = awards[0];
-        awards[0] = awards[1];
-        awards[1] = first;
+/* The list the other way round, which only those alike feel. */
+static void later_first(struct call *call) {
+    uint64_t lists[4][OFFERS], awards[OFFERS];
+    size_t count = call->lists[PRICES].length;
+    struct call reversed = *call;
+    for (size_t list = 0; list < 4; list++) {
+        reverse(lists[list], call->lists[list].at, count);
+        reversed.lists[list].at = lists[list];
     }
-    if (fault("beyond") && awards_length > count)
-        awards[count] ^= 1;
-    return left;
+    reversed.awards = awards;
+    reversed.length = count;
+    call->answer = call->made(&reversed);
+    reverse(call->awards, awards, count);
+}
+
+static void minimums_of_one(struct call *call) {
+    static const uint64_t ones[OFFERS] = {1, 1, 1, 1, 1, 1, 1, 1, 1, 1, 1, 1, 1, 1, 1, 1};
+    struct call cut = *call;
+    cut.lists[MINIMUMS].at = ones;
+    call->answer = call->made(&cut);
+}
+
+static void first_awards(struct call *call) {
+    if (call->lists[PRICES].length > 1)
+        exchange(call->awards);
+}
+
+static void award_behind(struct call *call) {
+    size_t count = call->lists[PRICES].length;
+    if (count < call->length)
+        call->awards[count] ^= 1;
+}
+
+/* Each wrong engine: its name; the call that it makes wrong; whether before the call is made, or where
+ * it is accepted or refused; how, and by what number. */
+static const struct fault {
+    const char *name;
+    uint64_t (*call)(const struct call *);
+    enum { BEFORE, ACCEPTED, REFUSED } when;
+    void (*how)(struct call *);
+    int by;
+} faults[] = {
+    {"demand", made_demand, ACCEPTED, raised_at_ce, 1}, /* one kWh more at CE */
+    {"remainder", made_demand_remainder, ACCEPTED, less_than_ce, 0}, /* that of the quotient */
+    {"digit", made_replay, ACCEPTED, byte_from_end, -2}, /* the last digit */
+    {"far", made_replay, ACCEPTED, byte_of_long, -2}, /* of long replies in an exact buffer */
+    {"behind", made_replay, ACCEPTED, byte_from_end, 0}, /* the byte behind the replies */
+    {"part", made_replay, REFUSED, all_but_one, 0}, /* written where one byte does not fit */
+    {"again", made_replay, ACCEPTED, settled_again, 0}, /* an accepted settling for 10 behind it */
+    {"mark", made_replay, ACCEPTED, in_replies, SHORT}, /* the second price is never short */
+    {"sufficient", made_replay, ACCEPTED, in_replies, PARTICIPATION}, /* participation is */
+    {"paid", made_replay, ACCEPTED, in_replies, PAID}, /* existing plants are always paid P */
+    {"order", made_replay, ACCEPTED, in_replies, ORDER}, /* the first two awards change places */
+    {"arrival", made_replay, ACCEPTED, in_replies_by_arrival, EXCESS}, /* the last digit of closings */
+    {"cost", made_write_set_up, ACCEPTED, byte, 2}, /* the first digit of CE */
+    {"study", made_write_registration, BEFORE, exchanged, STUDY}, /* with the start day */
+    {"agent", made_write_registration_for, BEFORE, own_number, 0}, /* always the developer's own */
+    {"own", made_write_registration_for, BEFORE, without_agent, 0}, /* that one in frame 02 */
+    {"width", made_write_opening, BEFORE, cut_to_field, 0}, /* a price too wide is cut */
+    {"step", made_write_offer, ACCEPTED, byte_of_steps, -2}, /* the last digit */
+    {"short", made_write_closing, REFUSED, refuse, 14}, /* 14 for 13 */
+    {"early", made_write_settling, REFUSED, refuse_if_short, 13}, /* 13 tested before 14 */
+    {"touched", made_write_settling, REFUSED, byte, 0}, /* the first byte */
+    {"kind", made_write_lodging, BEFORE, as_offer, 0}, /* written as an offer */
+    {"longer", made_write_cancellation, ACCEPTED, raised, 1}, /* said to have one byte more */
+    {"move", made_who_can_force, ACCEPTED, byte, 0}, /* keep and withdraw change places */
+    {"beyond", made_who_can_force, ACCEPTED, byte, 1}, /* the byte behind the move */
+    {"rivals", made_who_can_force, BEFORE, exchanged, RIVALS}, /* the second begins */
+    {"kept", made_who_can_force, ACCEPTED, all_keep, 0}, /* the outcome when both keep */
+    {"ties", made_sealed_auction, ACCEPTED, later_first, 0}, /* of those alike the later one first */
+    {"cut", made_sealed_auction, ACCEPTED, minimums_of_one, 0}, /* awards below a minimum */
+    {"listed", made_sealed_auction, ACCEPTED, first_awards, 0}, /* two change places */
+    {"beyond", made_sealed_auction, ACCEPTED, award_behind, 0}, /* the number behind the awards */
+    {"ceiling", made_sealed_auction, REFUSED, refuse_above_ceiling, 19}, /* 19 tested before 18 */
+};
+
+/* The row that WRONG names, if it is one of this call. */
+static const struct fault *named(const struct call *call) {
+    const char *wrong = getenv("WRONG");
+    for (size_t row = 0; wrong != NULL && row < sizeof faults / sizeof *faults; row++)
+        if (faults[row].call == call->made && strcmp(faults[row].name, wrong) == 0)
+            return &faults[row];
+    return NULL;
+}
+
+static uint64_t answered(struct call call) {
+    const struct fault *fault = named(&call);
+    if (fault == NULL)
+        return call.made(&call);
+    call.by = fault->by;
+    if (fault->when == BEFORE)
+        fault->how(&call);
+    call.answer = call.made(&call);
+    if (fault->when == (call.answer < REFERENCE_ENGINE_REFUSAL(20) ? ACCEPTED : REFUSED))
+        fault->how(&call);
+    return call.answer;
 }

@@ -1,8 +1,8 @@
 // Makes the calls on standard input on the library directly, a line each, and prints each one's kind and number and, for a settling, price,
 // demand, total, counts and the lent buffer. They are what no frame can say: wider settings, longer lists, lists of unequal length, buffers of
 // chosen lengths. The independent implementation (tests/independent/src/bin/direct_calls.rs) makes the same calls and has to print the same.
-use auction::Answer;
-use auction::Auction;
+use engine_auction::Answer;
+use engine_auction::Auction;
 use libc::STDIN_FILENO;
 use libc::STDOUT_FILENO;
 use lists::FALLS;
@@ -71,7 +71,7 @@ fn close(auction: Auction) -> Auction {
 
 // Settles with this buffer for the awards.
 fn settle_in(auction: Auction, limit: u32, awards: &mut [u8]) {
-    let s = settling::settle(auction, limit, awards);
+    let s = engine_settling::settle(auction, limit, awards);
     io::print_decimal(STDOUT_FILENO, 6);
     write_number(s.number as u64);
     write_number(s.price as u64);

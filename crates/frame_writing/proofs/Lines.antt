@@ -5,13 +5,13 @@ use mathlib.Core.List.{List, [], _∷_, _++_}
 use native.Mathlib.Omega.{arith}
 use borrow.Rule.Slice.PartMut.{putMid, midOf}
 use lib.ListN.{length, length-drop}
-use Rattle.numbers.specs.Lists.{total}
-use Rattle.numbers.specs.Tails.{laid, length-laid, tail-is, grow}
-use Rattle.format.specs.Hex.{digits}
-use Rattle.format.specs.HexLaws.{length-digits}
-use Rattle.format.specs.Fields.{textAt, rawCall}
-use Rattle.format.specs.Written.{writtenWidths, lineOf, frameOf}
-use Rattle.format.specs.WrittenLaws.{length-line}
+use Rattle.rules_numbers.specs.Lists.{total}
+use Rattle.rules_numbers.specs.Tails.{laid, length-laid, tail-is, grow}
+use Rattle.rules_format.specs.Hex.{digits}
+use Rattle.rules_format.specs.HexLaws.{length-digits}
+use Rattle.rules_format.specs.Fields.{textAt, rawCall}
+use Rattle.rules_format.specs.Written.{writtenWidths, lineOf, frameOf}
+use Rattle.rules_format.specs.WrittenLaws.{length-line}
 
 -- in a buffer that the line fits
 module _ (k : ℕ) (ns old : List ℕ) (room : length (lineOf (rawCall k ns)) ≤ length old) where

@@ -4,13 +4,13 @@ use mathlib.Core.Path.{_≡_}
 use mathlib.Core.Bool.{Bool}
 use mathlib.Core.List.{List}
 use lib.ListN.{length}
-use Rattle.format.specs.Fields.{RawCall}
-use Rattle.format.specs.Written.{frameOf, writable, refusal, written, lentFrame}
+use Rattle.rules_format.specs.Fields.{RawCall}
+use Rattle.rules_format.specs.Written.{frameOf, writable, writingRefusal, written, lentFrame}
 use Rattle.frame_writing.specs.declared.Written.{Written}
 
 -- of a frame: whether it may be written, the buffer before and afterwards, and the answer
 pub record WritesFrame (ok : Bool) (frame old new : List ℕ) (r : Written) : Type 0 where
-  pub number : r .number ≡ refusal ok frame (length old)
+  pub number : r .number ≡ writingRefusal ok frame (length old)
   pub bytes : r .bytes ≡ written ok frame (length old)
   pub buffer : new ≡ lentFrame ok frame old
 

@@ -6,14 +6,14 @@ use mathlib.Core.Logic.{⊎-elim}
 use mathlib.Core.List.{List}
 use native.Mathlib.Omega.{arith}
 use lib.ListN.{length}
-use Rattle.numbers.specs.Cases.{le-or-lt}
-use Rattle.numbers.specs.Tails.{laid}
-use Rattle.format.specs.Fields.{RawCall, rawCall}
-use Rattle.format.specs.Written.{lineOf, frameOf, writable}
-use Rattle.format.specs.WrittenLaws as laws
-use Rattle.format.specs.WrittenLaws.{length-line, length-frame}
-use Rattle.frame_sizes.specs.FrameSizes.{frameSize}
-use Rattle.frame_sizes.specs.FrameSizeLaws.{size-none, size-some}
+use Rattle.rules_numbers.specs.Cases.{le-or-lt}
+use Rattle.rules_numbers.specs.Tails.{laid}
+use Rattle.rules_format.specs.Fields.{RawCall, rawCall}
+use Rattle.rules_format.specs.Written.{lineOf, frameOf, writable}
+use Rattle.rules_format.specs.WrittenLaws as laws
+use Rattle.rules_format.specs.WrittenLaws.{length-line, length-frame}
+use Rattle.frame_writing.specs.frame_sizes.FrameSizes.{frameSize}
+use Rattle.frame_writing.specs.frame_sizes.FrameSizeLaws.{size-none, size-some}
 use Rattle.frame_writing.specs.declared.Written.{Written}
 use Rattle.frame_writing.specs.Encodes.{WritesFrame, Encodes, Refuses}
 

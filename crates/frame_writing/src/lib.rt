@@ -1,13 +1,18 @@
 // The frame of a call (document 02, 2), by the table of field widths that the reader uses, with its 0A, written at the start of a lent buffer.
-// The contracts are equations with the definitions of the crate `format`.
+// The contracts are equations with the definitions of the crate `rules_format`.
 ghost use mathlib.Core.Path.{_≡_};
 ghost use mathlib.Core.Bool.{true};
 ghost use Prim.Native.Nat.{_≤_};
 ghost use lib.ListN.{length};
-ghost use Rattle.numbers.specs.Tails.{laid};
-ghost use Rattle.format.specs.Fields.{rawCall};
-ghost use Rattle.format.specs.Written.{lineOf, writable};
+ghost use Rattle.rules_numbers.specs.Tails.{laid};
+ghost use Rattle.rules_format.specs.Fields.{rawCall};
+ghost use Rattle.rules_format.specs.Written.{lineOf, writable};
 ghost use Rattle.frame_writing.specs.Encodes.{Refuses, Encodes};
+use frame_bytes::field_table;
+use frame_bytes::field_writing;
+
+pub mod each_call;
+pub mod frame_sizes;
 
 // What writing answers: 0 and how many bytes were written, or a refusal's number and 0.
 pub struct Written {
@@ -17,9 +22,9 @@ pub struct Written {
 
 impl Written {
     // The buffer is too short for the frame.
-    pub const TOO_SHORT: u8 = 13;
+    pub const TOO_SHORT: u8 = engine_refusals::FRAME_BUFFER_TOO_SHORT;
     // The call is not writable.
-    pub const NOT_WRITABLE: u8 = 14;
+    pub const NOT_WRITABLE: u8 = engine_refusals::NOT_WRITABLE;
 
     pub fn refused(number: u8) -> Written
         ensures { λ r. ⌜ (r .number ≡ number) × (r .bytes ≡ 0) ⌝ }

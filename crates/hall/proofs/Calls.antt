@@ -1,16 +1,16 @@
 -- A call through a seat, by the test of its right: barred, or the auction's own.
 use mathlib.Core.Path.{_≡_, refl}
 use mathlib.Core.Bool.{Bool, true, false, not}
-use Rattle.rules.specs.Ledger.{Call}
-use Rattle.rules.specs.Rounds.{Answered, numberAlone}
-use Rattle.seats.specs.Seats.{Seat, mayMake, latestExcess}
-use Rattle.seat_rights.specs.RightLaws.{no-right, has-right}
-use Rattle.auction.specs.Called.{Called}
+use Rattle.rules_auction.specs.Ledger.{Call}
+use Rattle.rules_auction.specs.Rounds.{Answered, bareAnswer}
+use Rattle.rules_seats.specs.Seats.{Seat, mayMake, latestExcess}
+use Rattle.hall.specs.seat_rights.RightLaws.{no-right, has-right}
+use Rattle.engine_auction.specs.Called.{Called}
 use Rattle.hall.specs.Through.{CalledThrough}
 use Rattle.hall.specs.declared.Hall.{Hall}
 
 module _ (s : Seat) (c : Call) (h : Hall) (b : Bool) (e : b ≡ mayMake s c) where
-  pub barred-call : not b ≡ true → CalledThrough s c h h (numberAlone 20)
+  pub barred-call : not b ≡ true → CalledThrough s c h h (bareAnswer 20)
   barred-call t = record { barred = λ _. (refl, refl); made = no-right b e t; excess = no-right b e t }
 
   pub made-call :

@@ -4,11 +4,11 @@ use mathlib.Core.Bool.{Bool, false, cond, not}
 use mathlib.Core.Logic.{_⊎_, ⊎-elim}
 use lib.IntN.{ℤ}
 use borrow.Author.Tests.{eq-eqb, ne-eqb}
-use Rattle.rules.specs.Ledger.{Close}
-use Rattle.rules.specs.Rounds.{Answered}
-use Rattle.seats.specs.Seats.{Seat, mayMake, latestExcess}
-use Rattle.auction.specs.Called.{Called}
-use Rattle.auction.specs.declared.Auction.{Auction}
+use Rattle.rules_auction.specs.Ledger.{Close}
+use Rattle.rules_auction.specs.Rounds.{Answered}
+use Rattle.rules_seats.specs.Seats.{Seat, mayMake, latestExcess}
+use Rattle.engine_auction.specs.Called.{Called}
+use Rattle.engine_auction.specs.declared.Auction.{Auction}
 use Rattle.hall.specs.Through.{CalledThrough}
 use Rattle.hall.specs.declared.Hall.{Hall}
 use Rattle.hall.proofs.Calls.{made-call}

@@ -2,14 +2,18 @@
 // that the seat has no right to make is refused by 20 before every other check and leaves the hall as it is; otherwise it is the auction's own
 // call (specs/Through.antt).
 ghost use mathlib.Core.Path.{_≡_};
-ghost use Rattle.rules.specs.Ledger.{Open, By, Offer, Lodge, Cancel};
-ghost use Rattle.seats.specs.Seats.{freshHall};
-ghost use Rattle.seat_rights.specs.Rights.{seatOf};
-ghost use Rattle.auction.specs.Called.{setsUp, registers, registersFor};
-ghost use Rattle.hall.specs.Through.{hallOf, AnswersThrough, ClosesThrough, barredAnswer, answeredWith};
-use auction::Answer;
-use auction::Auction;
-use seat_rights::Seat;
+ghost use Rattle.rules_auction.specs.Ledger.{Open, By, Offer, Lodge, Cancel};
+ghost use Rattle.rules_seats.specs.Seats.{freshHall};
+ghost use Rattle.hall.specs.seat_rights.Rights.{seatIn};
+ghost use Rattle.engine_auction.specs.Called.{setsUp, registers, registersFor};
+ghost use Rattle.hall.specs.Through.{heldHall, AnswersThrough, ClosesThrough, barredAnswer, answeredWith};
+use crate::seat_rights::Seat;
+use engine_auction::Answer;
+use engine_auction::Auction;
+
+pub mod hall_readings;
+pub mod seat_readings;
+pub mod seat_rights;
 
 pub struct Hall {
     pub auction: Auction,
@@ -32,11 +36,11 @@ pub struct HallClosing {
 
 impl Hall {
     // A call that the seat has no right to make.
-    pub const NO_RIGHT: u8 = 20;
+    pub const NO_RIGHT: u8 = engine_refusals::NO_RIGHT;
 
     // A fresh auction, no round closed yet.
     pub fn new() -> Hall
-        ensures { λ r. ⌜ r ≡ hallOf freshHall ⌝ }
+        ensures { λ r. ⌜ r ≡ heldHall freshHall ⌝ }
     {
         Hall {
             auction: Auction::new(),
@@ -69,7 +73,7 @@ impl Hall {
     }
 
     pub fn set_up(self, seat: Seat, ce: u64, d: u64, m1: u64, m2: u64, a: u64) -> HallAnswer
-        ensures { λ r. ⌜ AnswersThrough (seatOf seat) (setsUp ce d m1 m2 a) self r ⌝ }
+        ensures { λ r. ⌜ AnswersThrough (seatIn seat) (setsUp ce d m1 m2 a) self r ⌝ }
     {
         if !seat_rights::conducts(seat) {
             return self.barred();
@@ -88,7 +92,7 @@ impl Hall {
         day: u32,
         levels: &[u32],
     ) -> HallAnswer
-        ensures { λ r. ⌜ AnswersThrough (seatOf seat) (registers project developer kind study day (now (levels .entry))) self r ⌝ }
+        ensures { λ r. ⌜ AnswersThrough (seatIn seat) (registers project developer kind study day (now (levels .entry))) self r ⌝ }
     {
         if !seat_rights::conducts(seat) {
             return self.barred();
@@ -108,7 +112,7 @@ impl Hall {
         day: u32,
         levels: &[u32],
     ) -> HallAnswer
-        ensures { λ r. ⌜ AnswersThrough (seatOf seat) (registersFor project developer kind agent study day (now (levels .entry))) self r ⌝ }
+        ensures { λ r. ⌜ AnswersThrough (seatIn seat) (registersFor project developer kind agent study day (now (levels .entry))) self r ⌝ }
     {
         if !seat_rights::conducts(seat) {
             return self.barred();
@@ -118,7 +122,7 @@ impl Hall {
     }
 
     pub fn lodge(self, seat: Seat, developer: u8, prices: &[u32], levels: &[u32]) -> HallAnswer
-        ensures { λ r. ⌜ AnswersThrough (seatOf seat) (By developer (Lodge (now (prices .entry)) (now (levels .entry)))) self r ⌝ }
+        ensures { λ r. ⌜ AnswersThrough (seatIn seat) (By developer (Lodge (now (prices .entry)) (now (levels .entry)))) self r ⌝ }
     {
         if !seat_rights::conducts(seat) {
             return self.barred();
@@ -128,7 +132,7 @@ impl Hall {
     }
 
     pub fn open(self, seat: Seat, c: u32) -> HallAnswer
-        ensures { λ r. ⌜ AnswersThrough (seatOf seat) (Open c) self r ⌝ }
+        ensures { λ r. ⌜ AnswersThrough (seatIn seat) (Open c) self r ⌝ }
     {
         if !seat_rights::conducts(seat) {
             return self.barred();
@@ -138,7 +142,7 @@ impl Hall {
     }
 
     pub fn offer(self, seat: Seat, developer: u8, prices: &[u32], levels: &[u32]) -> HallAnswer
-        ensures { λ r. ⌜ AnswersThrough (seatOf seat) (By developer (Offer (now (prices .entry)) (now (levels .entry)))) self r ⌝ }
+        ensures { λ r. ⌜ AnswersThrough (seatIn seat) (By developer (Offer (now (prices .entry)) (now (levels .entry)))) self r ⌝ }
     {
         if !seat_rights::offers_for(seat, developer) {
             return self.barred();
@@ -148,7 +152,7 @@ impl Hall {
     }
 
     pub fn cancel(self, seat: Seat, developer: u8) -> HallAnswer
-        ensures { λ r. ⌜ AnswersThrough (seatOf seat) (By developer Cancel) self r ⌝ }
+        ensures { λ r. ⌜ AnswersThrough (seatIn seat) (By developer Cancel) self r ⌝ }
     {
         if !seat_rights::offers_for(seat, developer) {
             return self.barred();
@@ -158,7 +162,7 @@ impl Hall {
     }
 
     pub fn close(self, seat: Seat) -> HallClosing
-        ensures { λ r. ⌜ ClosesThrough (seatOf seat) self r ⌝ }
+        ensures { λ r. ⌜ ClosesThrough (seatIn seat) self r ⌝ }
     {
         if !seat_rights::conducts(seat) {
             return HallClosing {

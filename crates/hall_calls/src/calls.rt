@@ -16,7 +16,8 @@ use crate::output::write_signed;
 use crate::output::write_word;
 use hall::Hall;
 use hall::HallAnswer;
-use seat_rights::Seat;
+use hall::hall_readings;
+use hall::seat_rights::Seat;
 
 fn seat_of(kind: u64, number: u64) -> Seat {
     match kind {

@@ -1,10 +1,10 @@
 // What is printed of a call: numbers with a blank before each, then what the seat reads.
-use history::History;
-use levels::Levels;
+use engine_held::history::History;
+use engine_held::levels::Levels;
+use engine_settling::Settled;
+use hall::seat_readings::Reading;
+use hall::seat_readings::StandingOffer;
 use libc::STDOUT_FILENO;
-use seat_readings::Reading;
-use seat_readings::StandingOffer;
-use settling::Settled;
 
 pub fn write(text: &[u8]) {
     io::write_all(STDOUT_FILENO, text);

@@ -3,14 +3,14 @@ use Prim.Native.Nat.{ℕ}
 use mathlib.Core.Path.{_≡_, ap₂, _∙_}
 use mathlib.Core.List.{List}
 use lib.ListN.{length}
-use Rattle.rules.specs.Ledger.{Ledger}
-use Rattle.record_forcing.specs.Chosen.{toldNumber, toldOutcome, Tells}
-use Rattle.record_forcing.specs.declared.Told.{Told}
-use Rattle.host_numbers.specs.HostNumbers.{valueAnswer, hostNumber}
+use Rattle.rules_auction.specs.Ledger.{Ledger}
+use Rattle.record_replay.specs.record_forcing.Chosen.{toldRefusal, toldOutcome, Tells}
+use Rattle.record_replay.specs.declared.record_forcing.Told.{Told}
+use Rattle.record_replay.specs.host_numbers.HostNumbers.{valueAnswer, hostNumber}
 
 -- of the auction with this ledger, for a buffer of so many bytes
 unfoldable pub hostForcing : Ledger → ℕ → ℕ → List ℕ → ℕ → ℕ
-hostForcing l m n ps room = hostNumber (valueAnswer (toldNumber l m n ps room) (toldOutcome l m n ps room))
+hostForcing l m n ps room = hostNumber (valueAnswer (toldRefusal l m n ps room) (toldOutcome l m n ps room))
 
 -- from what the library tells
 pub host-forcing : (l : Ledger) (m n : ℕ) (ps old new : List ℕ) (t : Told) (r : ℕ) → Tells l m n ps old new t

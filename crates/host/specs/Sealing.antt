@@ -3,13 +3,13 @@ use Prim.Native.Nat.{ℕ}
 use mathlib.Core.Path.{_≡_, ap₂, _∙_}
 use mathlib.Core.List.{List}
 use lib.ListN.{length}
-use Rattle.sealed.specs.Sealed.{Book, lentNumber, lentLeft}
-use Rattle.sealed_auction.specs.Cleared.{Lends}
-use Rattle.sealed_auction.specs.declared.Lent.{Lent}
-use Rattle.host_numbers.specs.HostNumbers.{hostNumber, valueAnswer}
+use Rattle.rules_sealed.specs.Sealed.{Book, lentRefusal, lentLeft}
+use Rattle.engine_sealed.specs.sealed_auction.Cleared.{Lends}
+use Rattle.engine_sealed.specs.declared.sealed_auction.Lent.{Lent}
+use Rattle.record_replay.specs.host_numbers.HostNumbers.{hostNumber, valueAnswer}
 
 unfoldable pub hostSealed : ℕ → ℕ → Book → ℕ → ℕ
-hostSealed ceiling demand b room = hostNumber (valueAnswer (lentNumber ceiling demand b room) (lentLeft ceiling demand b room))
+hostSealed ceiling demand b room = hostNumber (valueAnswer (lentRefusal ceiling demand b room) (lentLeft ceiling demand b room))
 
 -- from what the library tells
 pub host-sealed : (ceiling demand : ℕ) (b : Book) (old new : List ℕ) (t : Lent) (r : ℕ) → Lends ceiling demand b old new t

@@ -3,19 +3,19 @@ use Prim.Native.Nat.{ℕ}
 use mathlib.Core.Path.{_≡_, ap₂, _∙_}
 use mathlib.Core.List.{List}
 use lib.ListN.{length}
-use Rattle.curve.specs.Answer.{Answer}
-use Rattle.format.specs.Written.{refusal, written, lentFrame}
-use Rattle.replies.specs.Orders.{Order}
-use Rattle.replies.specs.WrittenOrders.{writableOrder, frameOfOrder}
+use Rattle.rules_demand.specs.Answer.{Answer}
+use Rattle.rules_format.specs.Written.{writingRefusal, written, lentFrame}
+use Rattle.rules_replies.specs.Orders.{Order}
+use Rattle.rules_replies.specs.WrittenOrders.{writableOrder, frameOfOrder}
 use Rattle.frame_writing.specs.declared.Written.{Written}
-use Rattle.writing.specs.Writes.{Writes}
-use Rattle.host_numbers.specs.HostNumbers.{valueAnswer, hostNumber}
+use Rattle.frame_writing.specs.each_call.Writes.{Writes}
+use Rattle.record_replay.specs.host_numbers.HostNumbers.{valueAnswer, hostNumber}
 
 -- the number for an order and a buffer
 unfoldable pub hostBytes : Order → List ℕ → ℕ
 hostBytes o old =
     let n = length old in
-    hostNumber (valueAnswer (refusal (writableOrder o) (frameOfOrder o) n) (written (writableOrder o) (frameOfOrder o) n))
+    hostNumber (valueAnswer (writingRefusal (writableOrder o) (frameOfOrder o) n) (written (writableOrder o) (frameOfOrder o) n))
 
 -- and what the buffer then holds
 pub record HostWrites (o : Order) (old new : List ℕ) (r : ℕ) : Type 0 where

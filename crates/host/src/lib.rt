@@ -1,21 +1,25 @@
 // The calls that a C host links: plain numbers and slices of them, no preconditions.
 ghost use mathlib.Core.Path.{_≡_};
 ghost use lib.ListN.{length};
-ghost use Rattle.curve.specs.Answer.{demandAnswer};
-ghost use Rattle.rules.specs.Ledger.{settingsOf, Offer, Lodge, Cancel, SetUp, Open, By, Close};
-ghost use Rattle.rules.specs.Rounds.{ledger};
-ghost use Rattle.replies.specs.Orders.{Asks, Settle};
-ghost use Rattle.replies.specs.Replies.{replies};
-ghost use Rattle.record_calls.specs.Calls.{callsIn};
+ghost use Rattle.rules_demand.specs.Answer.{demandAnswer};
+ghost use Rattle.rules_auction.specs.Ledger.{settingsOf, Offer, Lodge, Cancel, SetUp, Open, By, Close};
+ghost use Rattle.rules_auction.specs.Rounds.{ledger};
+ghost use Rattle.rules_replies.specs.Orders.{Asks, Settle};
+ghost use Rattle.rules_replies.specs.Replies.{replies};
+ghost use Rattle.rules_replies.specs.record_calls.Calls.{callsIn};
 ghost use Rattle.record_replay.specs.Replayed.{hosted, over};
-ghost use Rattle.record_forcing.specs.Chosen.{chosenIn};
-ghost use Rattle.writing.specs.Writes.{registration, registrationFor};
-ghost use Rattle.host_numbers.specs.HostNumbers.{hostNumber, hostRemainder};
-ghost use Rattle.sealed.specs.Sealed.{bookOf, lentAwards};
+ghost use Rattle.record_replay.specs.record_forcing.Chosen.{chosenIn};
+ghost use Rattle.frame_writing.specs.each_call.Writes.{registration, registrationFor};
+ghost use Rattle.record_replay.specs.host_numbers.HostNumbers.{hostNumber, hostRemainder};
+ghost use Rattle.rules_sealed.specs.Sealed.{bookOf, lentAwards};
 ghost use Rattle.host.specs.Forcing.{hostForcing};
 ghost use Rattle.host.specs.Sealing.{hostSealed};
 ghost use Rattle.host.specs.Writing.{answer, HostWrites};
+use engine_sealed::sealed_auction;
 use frame_writing::Written;
+use frame_writing::each_call;
+use record_replay::host_numbers;
+use record_replay::record_forcing;
 
 // Dem(p), or 2^64 - 1 where the settings or p are beyond their bounds.
 #[no_mangle]
@@ -99,7 +103,7 @@ fn host_bytes(written: Written) -> u64
 pub extern "C" fn write_set_up(ce: u64, d: u64, m1: u64, m2: u64, a: u64, frame: &mut [u8]) -> u64
     ensures { λ r. ⌜ HostWrites (Asks (SetUp (settingsOf ce d m1 m2 a))) (now (frame .entry)) (now (frame .exit)) r ⌝ }
 {
-    host_bytes(writing::write_set_up(ce, d, m1, m2, a, frame))
+    host_bytes(each_call::write_set_up(ce, d, m1, m2, a, frame))
 }
 
 // 02 registration.
@@ -115,7 +119,7 @@ pub extern "C" fn write_registration(
 ) -> u64
     ensures { λ r. ⌜ HostWrites (registration project developer kind study day (now (levels .entry))) (now (frame .entry)) (now (frame .exit)) r ⌝ }
 {
-    host_bytes(writing::write_registration(project, developer, kind, study, day, levels, frame))
+    host_bytes(each_call::write_registration(project, developer, kind, study, day, levels, frame))
 }
 
 // 03 open.
@@ -123,7 +127,7 @@ pub extern "C" fn write_registration(
 pub extern "C" fn write_opening(c: u64, frame: &mut [u8]) -> u64
     ensures { λ r. ⌜ HostWrites (Asks (Open c)) (now (frame .entry)) (now (frame .exit)) r ⌝ }
 {
-    host_bytes(writing::write_opening(c, frame))
+    host_bytes(each_call::write_opening(c, frame))
 }
 
 // 04 offer.
@@ -136,7 +140,7 @@ pub extern "C" fn write_offer(
 ) -> u64
     ensures { λ r. ⌜ HostWrites (Asks (By developer (Offer (now (prices .entry)) (now (levels .entry))))) (now (frame .entry)) (now (frame .exit)) r ⌝ }
 {
-    host_bytes(writing::write_offer(developer, prices, levels, frame))
+    host_bytes(each_call::write_offer(developer, prices, levels, frame))
 }
 
 // 05 close.
@@ -144,7 +148,7 @@ pub extern "C" fn write_offer(
 pub extern "C" fn write_closing(frame: &mut [u8]) -> u64
     ensures { λ r. ⌜ HostWrites (Asks Close) (now (frame .entry)) (now (frame .exit)) r ⌝ }
 {
-    host_bytes(writing::write_closing(frame))
+    host_bytes(each_call::write_closing(frame))
 }
 
 // 06 settle.
@@ -152,7 +156,7 @@ pub extern "C" fn write_closing(frame: &mut [u8]) -> u64
 pub extern "C" fn write_settling(limit: u64, frame: &mut [u8]) -> u64
     ensures { λ r. ⌜ HostWrites (Settle limit) (now (frame .entry)) (now (frame .exit)) r ⌝ }
 {
-    host_bytes(writing::write_settling(limit, frame))
+    host_bytes(each_call::write_settling(limit, frame))
 }
 
 // 07 lodging (document 02, 5).
@@ -165,7 +169,7 @@ pub extern "C" fn write_lodging(
 ) -> u64
     ensures { λ r. ⌜ HostWrites (Asks (By developer (Lodge (now (prices .entry)) (now (levels .entry))))) (now (frame .entry)) (now (frame .exit)) r ⌝ }
 {
-    host_bytes(writing::write_lodging(developer, prices, levels, frame))
+    host_bytes(each_call::write_lodging(developer, prices, levels, frame))
 }
 
 // 08 registration with its agent (document 02, 10).
@@ -182,7 +186,7 @@ pub extern "C" fn write_registration_for(
 ) -> u64
     ensures { λ r. ⌜ HostWrites (registrationFor project developer kind agent study day (now (levels .entry))) (now (frame .entry)) (now (frame .exit)) r ⌝ }
 {
-    host_bytes(writing::write_registration_for(
+    host_bytes(each_call::write_registration_for(
         project,
         developer,
         kind,
@@ -199,5 +203,5 @@ pub extern "C" fn write_registration_for(
 pub extern "C" fn write_cancellation(developer: u64, frame: &mut [u8]) -> u64
     ensures { λ r. ⌜ HostWrites (Asks (By developer Cancel)) (now (frame .entry)) (now (frame .exit)) r ⌝ }
 {
-    host_bytes(writing::write_cancellation(developer, frame))
+    host_bytes(each_call::write_cancellation(developer, frame))
 }

@@ -7,7 +7,7 @@ use native.Mathlib.Numerals.{add-one}
 use native.Mathlib.Omega.{arith}
 use lib.ListN.{length, getD, set}
 use lib.Seq.{paste, paste-zero, paste-suc, length-paste, take-length}
-use Rattle.numbers.specs.Tails.{laid}
+use Rattle.rules_numbers.specs.Tails.{laid}
 
 -- of the bytes, i stand in out, which was o at first
 pub record Copying (bytes o out : List ℕ) (i : ℕ) : Type 0 where

@@ -1,27 +1,33 @@
 -- A text in a lent buffer where it fits, from a run of the replies; the refusal; and what the program prints, by the tests.
-use Prim.Native.Nat.{ℕ, _-_, _≤_, _<_}
+use Prim.Native.Nat.{ℕ, _≤_, _<_}
 use mathlib.Core.Path.{_≡_, refl, sym, ap, _∙_}
 use mathlib.Core.Logic.{⊎-elim}
 use mathlib.Core.Bool.{true}
-use mathlib.Core.List.{List, [], _∷_, _++_, append-assoc}
+use mathlib.Core.List.{List, [], _++_, append-assoc}
+use native.Mathlib.Nat.{zero-add}
 use native.Mathlib.Omega.{arith}
 use borrow.Author.Tests.{le-leb, lt-leb, leb-true}
-use borrow.Rule.Slice.PartMut.{putMid, midOf}
 use lib.Dec.{leb}
 use lib.ListN.{length, take, drop, take-append-drop}
 use lib.Seq.{take-at, drop-append-le, length-take-le}
-use Rattle.numbers.specs.Cases.{le-or-lt}
-use Rattle.numbers.specs.Tails.{laid, grow}
-use Rattle.format.specs.Hex.{charOf, digits}
-use Rattle.rules.specs.Rounds.{stepAll, ledger}
-use Rattle.replies.specs.Lengths.{mostIn, replies-bound}
-use Rattle.replies.specs.Replies.{answerLine, replies}
-use Rattle.auction.specs.Holds.{auctionOf}
-use Rattle.auction.specs.declared.Auction.{Auction}
-use Rattle.record_replies.specs.Runs.{Replied, Runs}
+use Rattle.rules_numbers.specs.Cases.{le-or-lt}
+use Rattle.rules_numbers.specs.Tails.{laid}
+use Rattle.rules_format.specs.Hex.{charOf, digits}
+use Rattle.rules_auction.specs.Ledger.{start}
+use Rattle.rules_auction.specs.Rounds.{stepAll, ledger}
+use Rattle.rules_replies.specs.Lengths.{mostIn, replies-bound}
+use Rattle.rules_replies.specs.Replies.{answerLine, replies}
+use Rattle.engine_auction.specs.Holds.{heldAuction}
+use Rattle.engine_auction.specs.declared.Auction.{Auction}
+use Rattle.engine_auction.specs.Parts.{withClock}
+use Rattle.reply_writing.specs.Placed.{Puts}
+use Rattle.record_lines.specs.record_start.Progress.{puts-behind, all-replied}
+use Rattle.record_lines.specs.record_start.Begins.{Begins}
+use Rattle.record_lines.specs.declared.record_start.Begun.{Begun}
+use Rattle.record_replies.specs.Runs.{Runs}
 use Rattle.record_replies.specs.declared.Ran.{Ran}
-use Rattle.host_numbers.specs.HostNumbers.{valueAnswer, hostNumber}
-use Rattle.record_replay.specs.Replayed.{over, Fitted, hosted, printed}
+use Rattle.record_replay.specs.host_numbers.HostNumbers.{valueAnswer, hostNumber}
+use Rattle.record_replay.specs.Replayed.{over, Replied, Fitted, hosted, printed}
 
 -- ---- a text where it fits
 
@@ -64,10 +70,27 @@ module _ (t o : List ℕ) where
 
 -- ---- the replies of a run
 
-pub run-replies : {a : Auction} {s : List ℕ} {limit : ℕ} {o out : List ℕ} {r : Ran} → a ≡ auctionOf (ledger []) → Runs a s limit o out r
-    → Replied (replies s) limit o out (r .written)
-unfolding replies ledger stepAll
-run-replies e w = w .replied [] e
+put-replied : (t o out : List ℕ) (limit r : ℕ) → Puts t limit 0 o out r → Replied t limit o out r
+unfolding laid
+put-replied t o out limit r p = record {
+  fits = λ h. p .fits (omega arith) ∙ zero-add (length t);
+  over = λ h. p .over (omega arith);
+  text = λ h g. p .text (omega arith) (omega arith) [] o refl refl;
+}
+
+module _ (s : List ℕ) (limit : ℕ) (o out : List ℕ) (b : Begun) (d : Begins s limit o out b) where
+  -- the first lines are all
+  pub begun-all : length s ≤ b .read → Replied (replies s) limit o out (b .written)
+  unfolding replies ledger stepAll
+  begun-all h = put-replied _ _ _ _ _ (all-replied _ _ _ _ _ _ _ _ _ _ d h)
+
+  -- the run over those behind them
+  pub begun-run : (a : Auction) (out′ : List ℕ) (r : Ran) → a ≡ withClock (heldAuction start) (b .phase) (b .settings) (b .opening) (b .closing) →
+      Runs a s (b .read) limit (b .written) out out′ r → Replied (replies s) limit o out′ (r .written)
+  unfolding replies ledger stepAll
+  begun-run a out′ r e w =
+      put-replied _ _ _ _ _
+      (rw (d .all) (puts-behind (d .done) _ limit 0 (b .written) (r .written) o out out′ (d .puts) (w .replied (d .calls) (e ∙ d .holds))))
 
 -- into a buffer that is surely long enough
 pub replied-surely : (s o out : List ℕ) (r : ℕ) → leb (mostIn s) (length o) ≡ true → Replied (replies s) (length o) o out r
@@ -100,15 +123,17 @@ module _ (t o b x : List ℕ) (n : ℕ) (w : Replied t (length o) b x n) where
 
 -- ---- the program
 
--- FF0B and 0A, one behind the other
-pub refusal-laid : (o xs ys : List ℕ) → xs ≡ laid (digits 4 65291) o → ys ≡ laid (10 ∷ []) (midOf 4 (length xs - 4) xs)
-    → (5 ≡ length (answerLine 255 11 [])) × (putMid 4 (length xs - 4) xs ys ≡ laid (answerLine 255 11 []) o)
-unfolding digits charOf answerLine
-refusal-laid o xs ys e f = (refl, grow (digits 4 65291) (10 ∷ []) o xs ys 4 e refl f)
-
 refusal-length : length (answerLine 255 11 []) ≡ 5
 unfolding digits charOf answerLine
 refusal-length = refl
+
+-- FF0B and 0A, put at the start of a buffer that has room for them
+pub refusal-laid : (o out : List ℕ) (n : ℕ) → 5 ≤ length o → Puts (answerLine 255 11 []) 5 0 o out n →
+    (n ≡ length (answerLine 255 11 [])) × (out ≡ laid (answerLine 255 11 []) o)
+unfolding laid
+refusal-laid o out n h p =
+    let l = refusal-length in
+    (p .fits (omega arith) ∙ zero-add (length (answerLine 255 11 [])), p .text (omega arith) (omega arith) [] o refl refl)
 
 -- a text laid over a buffer's front is laid over the buffer
 front-laid : (t o : List ℕ) (m : ℕ) → length t ≤ m → m ≤ length o → laid t (take m o) ++ drop m o ≡ laid t o
@@ -143,7 +168,8 @@ module _ (s : List ℕ) where
         prints (replies s) o _ n (rw (le-leb (length s) 65536 h, le-leb (length (replies s)) 65536 g)) g
         (w .0, ap (λ (l : List ℕ). l ++ drop 65536 o) (w .1) ∙ front-laid (replies s) o 65536 g m)
 
-    pub print-over : 65536 < n → (out : List ℕ) (k : ℕ) → (k ≡ length (answerLine 255 11 [])) × (out ≡ laid (answerLine 255 11 []) (ys ++ drop 65536 o)) → Prints o out k
+    pub print-over : 65536 < n → (out : List ℕ) (k : ℕ) → (k ≡ length (answerLine 255 11 [])) × (out ≡ laid (answerLine 255 11 []) (ys ++ drop 65536 o)) →
+        Prints o out k
     unfolding printed
     print-over y out k w =
         let e = fitted-kept (replies s) (take 65536 o) ys n f (omega (arith, front)) in

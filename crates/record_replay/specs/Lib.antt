@@ -1,1 +1,3 @@
 pub mod Replayed
+pub mod host_numbers
+pub mod record_forcing

@@ -5,9 +5,15 @@ use mathlib.Core.Bool.{cond, _&&_}
 use mathlib.Core.List.{List, []}
 use lib.Dec.{leb}
 use lib.ListN.{length}
-use Rattle.numbers.specs.Tails.{laid}
-use Rattle.replies.specs.Replies.{answerLine, replies}
-use Rattle.host_numbers.specs.HostNumbers.{valueAnswer, hostNumber}
+use Rattle.rules_numbers.specs.Tails.{laid}
+use Rattle.rules_replies.specs.Replies.{answerLine, replies}
+use Rattle.record_replay.specs.host_numbers.HostNumbers.{valueAnswer, hostNumber}
+
+-- the texts t: r is their length if that is at most the limit, else above it; and they stand at the buffer's start, if they are within the limit and fit
+pub record Replied (t : List ℕ) (limit : ℕ) (o out : List ℕ) (r : ℕ) : Type 0 where
+  pub fits : length t ≤ limit → r ≡ length t
+  pub over : limit < length t → limit < r
+  pub text : length t ≤ limit → length t ≤ length o → out ≡ laid t o
 
 -- the text over the buffer's start where it fits, else the buffer as it was
 unfoldable pub over : List ℕ → List ℕ → List ℕ

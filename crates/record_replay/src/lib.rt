@@ -3,12 +3,17 @@ ghost use mathlib.Core.Path.{_≡_};
 ghost use mathlib.Core.List.{[]};
 ghost use Prim.Native.Nat.{_≤_, _<_};
 ghost use lib.ListN.{length};
-ghost use Rattle.numbers.specs.Tails.{laid};
-ghost use Rattle.replies.specs.Replies.{answerLine, replies};
-ghost use Rattle.record_replies.specs.Runs.{Replied};
+ghost use Rattle.rules_numbers.specs.Tails.{laid};
+ghost use Rattle.rules_replies.specs.Replies.{answerLine, replies};
 ghost use Rattle.reply_writing.specs.Placed.{most};
-ghost use Rattle.record_replay.specs.Replayed.{hosted, over, Fitted, longestRecord, printed};
-use auction::Auction;
+ghost use Rattle.record_replay.specs.Replayed.{hosted, over, Replied, Fitted, longestRecord, printed};
+use engine_auction::Auction;
+use record_lines::record_start;
+use reply_writing::reply_bound;
+
+pub mod host_numbers;
+pub mod record_auction;
+pub mod record_forcing;
 
 // The most bytes of a record, and of its replies, in the program.
 const LONGEST_RECORD: usize = 65_536;
@@ -29,17 +34,28 @@ fn copy(bytes: &[u8], out: &mut [u8])
     }
 }
 
-// A run of the replies from a fresh auction, of which only their number of bytes is kept.
+// The replies from a fresh auction on: their number of bytes. A first line that sets it up is answered before the auction is made, which is not done for a
+// record of that line alone.
 fn run_fresh(bytes: &[u8], limit: usize, out: &mut [u8]) -> usize
     requires { ⌜ limit < most ⌝ }
     ensures { λ r. ⌜ Replied (replies (now (bytes .entry))) limit (now (out .entry)) (now (out .exit)) r ⌝ }
 {
-    let ran = record_replies::run(Auction::new(), bytes, limit, out);
+    let begun = record_start::begin(bytes, limit, out);
+    if bytes.len() <= begun.read {
+        return begun.written;
+    }
+    let settings = begun.settings;
+    let mut auction = Auction::new();
+    auction.phase = begun.phase;
+    auction.settings = settings;
+    auction.opening = begun.opening;
+    auction.closing = begun.closing;
+    let ran = record_replies::run(auction, bytes, begun.read, limit, begun.written, out);
     ran.written
 }
 
 // Writes the replies to a record, if they fit, through a scratch buffer: from there they are copied. What is too long for it is computed again.
-fn replies_through(bytes: &[u8], scratch: &mut [u8], out: &mut [u8]) -> usize
+fn replies_by_scratch(bytes: &[u8], scratch: &mut [u8], out: &mut [u8]) -> usize
     ensures { λ r. ⌜ Fitted (replies (now (bytes .entry))) (now (out .entry)) (now (out .exit)) r ⌝ }
 {
     let room = out.len();
@@ -58,7 +74,7 @@ fn replies_tried(bytes: &[u8], out: &mut [u8]) -> usize
     ensures { λ r. ⌜ Fitted (replies (now (bytes .entry))) (now (out .entry)) (now (out .exit)) r ⌝ }
 {
     let mut scratch = [0u8; SCRATCH];
-    replies_through(bytes, &mut scratch, out)
+    replies_by_scratch(bytes, &mut scratch, out)
 }
 
 // Writes the replies to a record, if they fit: how many bytes they have, or more than the buffer has.
@@ -82,7 +98,7 @@ pub fn replay(bytes: &[u8], out: &mut [u8]) -> u64
     if n <= room {
         return n as u64;
     }
-    host_numbers::host_number(11, 0)
+    host_numbers::host_number(engine_refusals::BUFFER_TOO_SHORT, 0)
 }
 
 // Writes FF0B and 0A, and gives their number of bytes.
@@ -90,15 +106,14 @@ fn put_refusal(out: &mut [u8]) -> usize
     requires { ⌜ 5 ≤ length (now out) ⌝ }
     ensures { λ r. ⌜ (r ≡ length (answerLine 255 11 [])) × (now (out .exit) ≡ laid (answerLine 255 11 []) (now (out .entry))) ⌝ }
 {
-    field_writing::put_hex(out, 0xFF0B, 4);
-    field_writing::put_byte(&mut out[4..], 10);
-    5
+    reply_writing::plain_at(out, 5, 0, 255, engine_refusals::BUFFER_TOO_SHORT)
 }
 
 // Writes what the program prints for a record, and gives its number of bytes.
 pub fn print(bytes: &[u8], out: &mut [u8]) -> usize
     requires { ⌜ longestRecord ≤ length (now out) ⌝ }
-    ensures { λ r. ⌜ (r ≡ length (printed (now (bytes .entry)))) × (r ≤ longestRecord) × (now (out .exit) ≡ laid (printed (now (bytes .entry))) (now (out .entry))) ⌝ }
+    ensures { λ r. ⌜ (r ≡ length (printed (now (bytes .entry)))) × (r ≤ longestRecord)
+        × (now (out .exit) ≡ laid (printed (now (bytes .entry))) (now (out .entry))) ⌝ }
 {
     if LONGEST_RECORD < bytes.len() {
         return put_refusal(out);

@@ -3,26 +3,26 @@ use mathlib.Core.Path.{_≡_, refl, sym, ap, _∙_}
 use native.Mathlib.Omega.{arith}
 use Prim.Native.Nat.{ℕ}
 use lib.ListN.{getD}
-use Rattle.rules.specs.Ledger.{Close}
-use Rattle.rules.specs.Rounds.{Answered}
-use Rattle.replies.specs.Orders.{Asks, Settle, orderOf, ordered}
-use Rattle.frames.specs.Decoded.{callIn}
-use Rattle.frames.specs.declared.Frame.{Frame}
-use Rattle.frame_fields.specs.FrameFields.{fieldsOf}
-use Rattle.auction.specs.Called.{Called}
-use Rattle.auction.specs.declared.Auction.{Auction}
-use Rattle.reply_sizes.specs.Texts.{textOf}
-use Rattle.reply_sizes.specs.declared.Reply.{Reply}
+use Rattle.rules_auction.specs.Ledger.{Close}
+use Rattle.rules_auction.specs.Rounds.{Answered}
+use Rattle.rules_replies.specs.Orders.{Asks, Settle, orderOf, ordered}
+use Rattle.frame_reading.specs.frames.Decoded.{callIn}
+use Rattle.frame_reading.specs.declared.frames.Frame.{Frame}
+use Rattle.frame_reading.specs.arguments.FrameFields.{fieldsIn}
+use Rattle.engine_auction.specs.Called.{Called}
+use Rattle.engine_auction.specs.declared.Auction.{Auction}
+use Rattle.reply_writing.specs.reply_sizes.Texts.{textOf}
+use Rattle.reply_writing.specs.declared.reply_sizes.Reply.{Reply}
 use Rattle.reply_values.specs.Shows.{ShowsClosing}
 use Rattle.reply_values.specs.ShowsLaws.{closing-replied}
-use Rattle.frame_turns.specs.Turns.{Takes}
-use Rattle.frame_turns.specs.TurnLaws.{ordered-as}
+use Rattle.record_lines.specs.line_calls.Decisions.{Takes}
+use Rattle.record_lines.specs.line_calls.DecisionLaws.{ordered-as}
 
 pub asks-close : (f : Frame) → f .kind ≡ 5 → ordered (callIn f) ≡ Asks Close
 unfolding orderOf
 asks-close f e = ordered-as f 5 _ (λ z. omega arith) e refl
 
-pub asks-settling : (f : Frame) (n : ℕ) → f .kind ≡ 6 → n ≡ getD (fieldsOf f) 0 0 → ordered (callIn f) ≡ Settle n
+pub asks-settling : (f : Frame) (n : ℕ) → f .kind ≡ 6 → n ≡ getD (fieldsIn f) 0 0 → ordered (callIn f) ≡ Settle n
 unfolding orderOf
 asks-settling f n e en = ordered-as f 6 _ (λ z. omega arith) e refl ∙ ap Settle (sym en)
 

@@ -4,11 +4,17 @@ ghost use mathlib.Core.Path.{_≡_};
 ghost use Prim.Native.Nat.{_<_};
 ghost use Rattle.record_replies.specs.Runs.{Runs};
 ghost use Rattle.reply_writing.specs.Placed.{most};
-use auction::Auction;
-use settling::Settled;
-use settling::UNSETTLED;
+use engine_auction::Auction;
+use engine_refusals::MALFORMED_LINE;
+use engine_refusals::NOT_IN_THIS_PHASE;
+use engine_settling::Settled;
+use engine_settling::UNSETTLED;
+use frame_bytes::lines;
+use frame_reading::arguments;
+use frame_reading::frames;
+use record_lines::line_calls;
 
-// The auction behind the lines; the number of bytes of their replies, above the limit where they have more; and its settlement with the bytes of the award
+// The auction behind the lines; the place behind their replies, above the limit where they have more; and its settlement with the bytes of the award
 // records, if one was kept.
 pub struct Ran {
     pub auction: Auction,
@@ -18,29 +24,37 @@ pub struct Ran {
     pub awards: [u8; 192],
 }
 
-// Each reply is written behind the others, where all of them so far are at most `limit` bytes and lie within `out`.
-pub fn run(start: Auction, bytes: &[u8], limit: usize, out: &mut [u8]) -> Ran
+// The replies to the lines from the place `from` of the record on, written from the place `end` of `out` on: each behind the others, where all of them so
+// far end within the limit and lie within `out`.
+pub fn run(
+    start: Auction,
+    bytes: &[u8],
+    from: usize,
+    limit: usize,
+    end: usize,
+    out: &mut [u8],
+) -> Ran
     requires { ⌜ limit < most ⌝ }
-    ensures { λ r. ⌜ Runs start (now (bytes .entry)) limit (now (out .entry)) (now (out .exit)) r ⌝ }
+    ensures { λ r. ⌜ Runs start (now (bytes .entry)) from limit end (now (out .entry)) (now (out .exit)) r ⌝ }
 {
     let mut auction = start;
     // a closed auction never changes again: its settlement, once found
     let mut kept = false;
     let mut settled = UNSETTLED;
     let mut awards = [0u8; 192];
-    let mut read: usize = 0;
-    let mut written: usize = 0;
+    let mut read: usize = from;
+    let mut written: usize = end;
     while read < bytes.len() {
         let line = lines::next_line(bytes, read);
         let frame = frames::decode(line);
         read = read + line.len() + 1;
         let kind = frame.kind;
-        if frame_turns::is_move(kind) {
-            let i = frame_turns::mover(frame);
+        if line_calls::is_move(kind) {
+            let i = line_calls::mover(frame);
             let settings = auction.settings;
             let declared = auction.declared[i];
             let before = auction.histories[i];
-            let moved = frame_turns::move_turn(
+            let moved = line_calls::decide_move(
                 frame,
                 auction.phase,
                 settings,
@@ -56,10 +70,10 @@ pub fn run(start: Auction, bytes: &[u8], limit: usize, out: &mut [u8]) -> Ran
             written = reply_writing::plain_at(out, limit, written, kind, moved.number);
             continue;
         }
-        if frame_turns::is_registration(kind) {
+        if line_calls::is_registration(kind) {
             let projects = auction.projects;
             let kinds = auction.kinds;
-            let entered = frame_turns::registration_turn(frame, auction.phase, projects, kinds);
+            let entered = line_calls::decide_registration(frame, auction.phase, projects, kinds);
             if entered.number != 0 {
                 written = reply_writing::plain_at(out, limit, written, kind, entered.number);
                 continue;
@@ -76,11 +90,11 @@ pub fn run(start: Auction, bytes: &[u8], limit: usize, out: &mut [u8]) -> Ran
             written = reply_writing::plain_at(out, limit, written, kind, 0);
             continue;
         }
-        if frame_turns::is_clock(kind) {
+        if line_calls::is_clock(kind) {
             let before = auction.settings;
             let projects = auction.projects;
             let quantities = auction.quantities;
-            let turned = frame_turns::clock_turn(
+            let turned = line_calls::decide_clock(
                 frame,
                 auction.phase,
                 before,
@@ -99,7 +113,7 @@ pub fn run(start: Auction, bytes: &[u8], limit: usize, out: &mut [u8]) -> Ran
         }
         if kind == 5 {
             if auction.phase != Auction::ROUND {
-                written = reply_writing::plain_at(out, limit, written, 5, 2);
+                written = reply_writing::plain_at(out, limit, written, 5, NOT_IN_THIS_PHASE);
                 continue;
             }
             let settings = auction.settings;
@@ -109,7 +123,7 @@ pub fn run(start: Auction, bytes: &[u8], limit: usize, out: &mut [u8]) -> Ran
             let declared = auction.declared;
             let histories = auction.histories;
             let curve = auction.curve;
-            let rounded = auction::closing_round(
+            let rounded = engine_auction::closing_round(
                 settings,
                 auction.opening,
                 auction.closing,
@@ -136,12 +150,12 @@ pub fn run(start: Auction, bytes: &[u8], limit: usize, out: &mut [u8]) -> Ran
                 continue;
             }
             if auction.phase != Auction::CLOSED {
-                written = reply_writing::plain_at(out, limit, written, 6, 2);
+                written = reply_writing::plain_at(out, limit, written, 6, NOT_IN_THIS_PHASE);
                 continue;
             }
-            let asked = frame_fields::word(frame, 0);
+            let asked = arguments::word(frame, 0);
             if kept {
-                let number = settling::number_again(settled, asked);
+                let number = engine_settling::refusal_again(settled, asked);
                 if number != 0 {
                     written = reply_writing::plain_at(out, limit, written, 6, number);
                     continue;
@@ -150,13 +164,13 @@ pub fn run(start: Auction, bytes: &[u8], limit: usize, out: &mut [u8]) -> Ran
                 written = reply_writing::reply_at(out, limit, written, again);
                 continue;
             }
-            settled = settling::settle(auction, asked, &mut awards);
+            settled = engine_settling::settle(auction, asked, &mut awards);
             kept = settled.number == 0;
             let reply = reply_values::settling_reply(settled, &awards);
             written = reply_writing::reply_at(out, limit, written, reply);
             continue;
         }
-        written = reply_writing::plain_at(out, limit, written, 255, 12);
+        written = reply_writing::plain_at(out, limit, written, 255, MALFORMED_LINE);
     }
     Ran {
         auction,

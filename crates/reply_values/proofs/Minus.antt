@@ -10,7 +10,7 @@ use mir.Syntax.{w64}
 use mir.Val.{SFits, Fits, toZ, ofZ}
 use mir.Facts.{toZ-ofZ}
 use borrow.Author.Tests.{le-ltb, ltb-true}
-use Rattle.replies.specs.Replies.{twosComplement}
+use Rattle.rules_replies.specs.Replies.{twosComplement}
 
 minus : (k : ℕ) → negsuc 0 -ℤ negsuc k ≡ pos k
 minus k = let e : suc k - 1 ≡ k = omega arith in rw (le-ltb (suc k) 1 (omega arith)) (ap pos e)

@@ -4,15 +4,15 @@ use mathlib.Core.Path.{_≡_}
 use mathlib.Core.List.{List, flatten}
 use lib.IntN.{ℤ}
 use lib.ListN.{length}
-use Rattle.numbers.specs.ListLaws.{Each}
-use Rattle.numbers.specs.Tails.{laid}
-use Rattle.rules.specs.Rounds.{Answered}
-use Rattle.rules.specs.Settling.{Settlement}
-use Rattle.replies.specs.Replies.{closingText, settlingText, answerLine, awardRoom}
-use Rattle.settling.specs.Settles.{settledAs}
-use Rattle.settling.specs.declared.Settled.{Settled}
-use Rattle.reply_sizes.specs.Texts.{textOf}
-use Rattle.reply_sizes.specs.declared.Reply.{Reply}
+use Rattle.rules_numbers.specs.ListLaws.{Each}
+use Rattle.rules_numbers.specs.Tails.{laid}
+use Rattle.rules_auction.specs.Rounds.{Answered}
+use Rattle.rules_auction.specs.Settling.{Settlement}
+use Rattle.rules_replies.specs.Replies.{closingText, settlingText, answerLine, awardRoom}
+use Rattle.engine_settling.specs.Settles.{settledAs}
+use Rattle.engine_settling.specs.declared.Settled.{Settled}
+use Rattle.reply_writing.specs.reply_sizes.Texts.{textOf}
+use Rattle.reply_writing.specs.declared.reply_sizes.Reply.{Reply}
 
 -- the excess and the remainder, which are read in an accepted closing only
 pub record ShowsClosing (n : ℕ) (excess : ℤ) (remainder : ℕ) (r : Reply) : Type 0 where
@@ -23,7 +23,7 @@ pub record HoldsAwards (m : Settlement) (s : Settled) (bytes : List ℕ) : Type 
   pub answer : s ≡ settledAs m
   pub old : List ℕ
   pub buffer : bytes ≡ laid (flatten (m .records)) old
-  pub few : 6 * length (m .records) ≤ awardRoom
+  pub within-room : 6 * length (m .records) ≤ awardRoom
   pub six : Each (λ x. length x ≡ 6) (m .records)
 
 -- the settlement, which is read in an accepted settling only

@@ -3,17 +3,17 @@ ghost use mathlib.Core.Path.{_≡_};
 ghost use mathlib.Core.Bool.{cond};
 ghost use Prim.Native.Nat.{min, _*_};
 ghost use lib.ListN.{replicate};
-ghost use Rattle.numbers.specs.Lists.{padded};
-ghost use Rattle.rules.specs.Rounds.{Answered};
-ghost use Rattle.rules.specs.Settling.{Settlement};
-ghost use Rattle.replies.specs.Replies.{twosComplement, valuesOf, closingFields};
-ghost use Rattle.settling.specs.Settles.{settledAs};
-ghost use Rattle.reply_sizes.specs.Texts.{Valued};
+ghost use Rattle.rules_numbers.specs.Lists.{padded};
+ghost use Rattle.rules_auction.specs.Rounds.{Answered};
+ghost use Rattle.rules_auction.specs.Settling.{Settlement};
+ghost use Rattle.rules_replies.specs.Replies.{twosComplement, valuesOf, closingFields};
+ghost use Rattle.engine_settling.specs.Settles.{settledAs};
+ghost use Rattle.reply_writing.specs.reply_sizes.Texts.{Valued};
 ghost use Rattle.reply_values.specs.Shows.{ShowsClosing, ShowsSettling};
-use reply_sizes::AWARD_ROOM;
-use reply_sizes::Reply;
-use reply_sizes::Values;
-use settling::Settled;
+use engine_settling::Settled;
+use reply_writing::reply_sizes::AWARD_ROOM;
+use reply_writing::reply_sizes::Reply;
+use reply_writing::reply_sizes::Values;
 
 // A reply of this kind and number, zero in every other place.
 pub fn blank(kind: u8, number: u8) -> Reply

@@ -7,10 +7,10 @@ use native.Mathlib.Omega.{arith}
 use lib.ListN.{length, take, getD, length-append, length-drop}
 use lib.Seq.{take-suc, length-take-le}
 use borrow.Rule.Slice.PartMut.{putMid, midOf}
-use Rattle.format.specs.Hex.{digits}
-use Rattle.numbers.specs.Tails.{laid, grow, length-laid, tail-is}
-use Rattle.replies.specs.Replies.{recordDigits}
-use Rattle.replies.specs.Lengths.{bytes-append, bytes-length}
+use Rattle.rules_format.specs.Hex.{digits}
+use Rattle.rules_numbers.specs.Tails.{laid, grow, length-laid, tail-is}
+use Rattle.rules_replies.specs.Replies.{recordDigits}
+use Rattle.rules_replies.specs.Lengths.{bytes-append, bytes-length}
 
 -- ---- part by part: the buffer xs holds the text P over its old bytes o, and the next part starts at a
 

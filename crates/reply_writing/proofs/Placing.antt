@@ -8,10 +8,10 @@ use native.Mathlib.Omega.{arith}
 use borrow.Rule.Slice.PartMut.{putMid, midOf}
 use lib.ListN.{length, take, drop, length-append, length-drop, take-append-drop}
 use lib.Seq.{length-take-le}
-use Rattle.numbers.specs.Tails.{laid, grow, length-laid, tail-is}
-use Rattle.format.specs.Hex.{digits}
-use Rattle.format.specs.HexLaws.{length-digits}
-use Rattle.replies.specs.Replies.{answerLine}
+use Rattle.rules_numbers.specs.Tails.{laid, grow, length-laid, tail-is}
+use Rattle.rules_format.specs.Hex.{digits}
+use Rattle.rules_format.specs.HexLaws.{length-digits}
+use Rattle.rules_replies.specs.Replies.{answerLine}
 use Rattle.reply_writing.specs.Placed.{Puts, most}
 
 -- a place above the limit stays one
@@ -71,22 +71,3 @@ bare-line k n = go (eqb n 0)
 
 pub bare-length : (k n : ℕ) → 5 ≡ length (answerLine k n [])
 bare-length k n = rw (← bare-line) (simp (length-append, length-digits) (omega arith))
-
--- part by part: the buffer xs holds the text P over its old bytes o, and the next part starts at a
-pub record Held (P o xs : List ℕ) (a : ℕ) : Type 0 where
-  pub holds : xs ≡ laid P o
-  pub start : a ≡ length P
-  pub same : length xs ≡ length o
-
-pub held-first : (t o xs : List ℕ) (a : ℕ) → xs ≡ laid t o → a ≡ length t → a ≤ length o → Held t o xs a
-held-first t o xs a e s h = record { holds = e; start = s; same = ap length e ∙ length-laid t o (omega arith) }
-
-module _ {P o xs : List ℕ} {a : ℕ} (h : Held P o xs a) where
-  pub held-room : (n : ℕ) → a + n ≤ length o → n ≤ length (midOf a (length xs - a) xs)
-  held-room n g = rw tail-is (omega (arith, h .same, length-drop a xs))
-
-  pub held-next : (t : List ℕ) (n : ℕ) {ys : List ℕ} → n ≡ length t → a + n ≤ length o → ys ≡ laid t (midOf a (length xs - a) xs)
-      → Held (P ++ t) o (putMid a (length xs - a) xs ys) (a + n)
-  held-next t n {ys} m g e =
-      let k : length (P ++ t) ≡ a + n = omega (arith, h .start, length-append P t) in
-      held-first (P ++ t) o (putMid a (length xs - a) xs ys) (a + n) (grow P t o xs ys a (h .holds) (h .start) e) (sym k) g

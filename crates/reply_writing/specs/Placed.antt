@@ -3,7 +3,7 @@ use Prim.Native.Nat.{ℕ, _+_, _≤_, _<_}
 use mathlib.Core.Path.{_≡_}
 use mathlib.Core.List.{List, _++_}
 use lib.ListN.{length}
-use Rattle.numbers.specs.Tails.{laid}
+use Rattle.rules_numbers.specs.Tails.{laid}
 
 -- above every limit
 abbrev pub most : ℕ

@@ -3,14 +3,18 @@ ghost use mathlib.Core.Path.{_≡_};
 ghost use mathlib.Core.List.{[], map, flatten};
 ghost use Prim.Native.Nat.{_*_, _≤_, _<_};
 ghost use lib.ListN.{length, take};
-ghost use Rattle.format.specs.Hex.{digits};
-ghost use Rattle.format.specs.Fields.{textAt};
-ghost use Rattle.numbers.specs.Lists.{total};
-ghost use Rattle.numbers.specs.Tails.{laid};
-ghost use Rattle.replies.specs.Replies.{answerLine};
+ghost use Rattle.rules_format.specs.Hex.{digits};
+ghost use Rattle.rules_format.specs.Fields.{textAt};
+ghost use Rattle.rules_numbers.specs.Lists.{total};
+ghost use Rattle.rules_numbers.specs.Tails.{laid};
+ghost use Rattle.rules_replies.specs.Replies.{answerLine};
 ghost use Rattle.reply_writing.specs.Placed.{most, Puts};
-ghost use Rattle.reply_sizes.specs.Texts.{shownText, textOf};
-use reply_sizes::Reply;
+ghost use Rattle.reply_writing.specs.reply_sizes.Texts.{shownText, textOf};
+use crate::reply_sizes::Reply;
+use frame_bytes::field_writing;
+
+pub mod reply_bound;
+pub mod reply_sizes;
 
 // Writes the first n bytes, two digits each, at the start of `out`.
 fn put_bytes(out: &mut [u8], bytes: [u8; 192], n: usize)

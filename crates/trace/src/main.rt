@@ -5,7 +5,10 @@ ghost use mathlib.Core.Path.{_≡_};
 ghost use Prim.Native.Nat.{_+_, _≤_, min};
 ghost use lib.ListN.{length};
 ghost use Rattle.io.specs.Counts.{Counts};
-use auction::Auction;
+use engine_auction::Auction;
+use engine_looks::readings;
+use frame_bytes::lines;
+use frame_reading::frames;
 use record_replies::Ran;
 use trace_text::NO_PREVIEW;
 use trace_text::PreviewShown;
@@ -94,7 +97,7 @@ fn put_curve(text: &mut [u8], from: usize, auction: Auction, points: usize) -> u
 fn put_reply(text: &mut [u8], at: usize, auction: Auction, line: &[u8]) -> Ran
     requires { ⌜ at ≤ length (now text) ⌝ }
 {
-    record_replies::run(auction, line, LONGEST_REPLY, &mut text[at..])
+    record_replies::run(auction, line, 0, LONGEST_REPLY, 0, &mut text[at..])
 }
 
 // Puts the trace of a record's lines, and gives the place behind what is not yet written out.

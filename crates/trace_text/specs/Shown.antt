@@ -3,9 +3,9 @@ use Prim.Native.Nat.{_-_, _^_}
 use mathlib.Core.Path.{_≡_, refl}
 use mathlib.Core.Bool.{true}
 use mathlib.Core.List.{[], _∷_}
-use Rattle.decimal_text.specs.Decimal.{bytesOf, decimal, decimalIn}
-use Rattle.decimal_text.specs.Items.{numberItem, signed, item, signedItem}
-use Rattle.award_text.specs.AwardLines.{quantityAt, awardLine}
+use Rattle.trace_text.specs.decimal_text.Decimal.{bytesOf, decimal, decimalIn}
+use Rattle.trace_text.specs.decimal_text.Items.{numberItem, signed, item, signedItem}
+use Rattle.trace_text.specs.award_text.AwardLines.{quantityAt, awardLine}
 use Rattle.trace_text.specs.Words.{previewLine}
 
 pub shown :

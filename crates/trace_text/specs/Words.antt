@@ -3,10 +3,10 @@ use Prim.Native.Nat.{ℕ}
 use mathlib.Core.Bool.{Bool, cond}
 use mathlib.Core.List.{List, [], _++_}
 use lib.Dec.{eqb}
-use Rattle.settling.specs.declared.Settled.{Settled}
-use Rattle.decimal_text.specs.Decimal.{bytesOf}
-use Rattle.decimal_text.specs.Items.{numberItem, signed, item, signedItem}
-use Rattle.settling_text.specs.SettledLines.{settledLines}
+use Rattle.engine_settling.specs.declared.Settled.{Settled}
+use Rattle.trace_text.specs.decimal_text.Decimal.{bytesOf}
+use Rattle.trace_text.specs.decimal_text.Items.{numberItem, signed, item, signedItem}
+use Rattle.trace_text.specs.settling_text.SettledLines.{settledLines}
 use Rattle.trace_text.specs.declared.PreviewShown.{PreviewShown}
 
 -- below an accepted closing

@@ -3,8 +3,12 @@
 ghost use Prim.Native.Nat.{_+_, _≤_};
 ghost use lib.ListN.{length};
 ghost use Rattle.trace_text.specs.Words.{closedLines, previewLine, pointLine, linesBefore, linesBelow};
-ghost use Rattle.decimal_text.specs.Puts.{Puts};
-use settling::Settled;
+ghost use Rattle.trace_text.specs.decimal_text.Puts.{Puts};
+use engine_settling::Settled;
+
+pub mod award_text;
+pub mod decimal_text;
+pub mod settling_text;
 
 // What an accepted closing says.
 fn put_closed(out: &mut [u8], at: usize, excess: u64, remainder: u32) -> usize

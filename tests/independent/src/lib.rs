@@ -2,33 +2,17 @@
 //! the engine.
 //! It is written from the papers' rules alone and shares no code with the engine.
 //! Where the paper gives a rule and a formula for it, this one takes the rule.
+//!
+//! `model` is that implementation, `generators` make the inputs, `coverage` counts what they reach, and
+//! `comparisons` run the engine beside it. Each uses only those before it; unit tests use all.
 
-pub mod auction;
-pub mod calls;
-pub mod curve;
-pub mod cutting;
-mod demand;
-pub mod direct;
-pub mod forcing;
-pub mod games;
-pub mod hall;
-pub mod lent;
+pub mod comparisons;
+pub mod coverage;
+pub mod generators;
+pub mod model;
 pub mod parts;
-pub mod program;
-pub mod random;
-pub mod records;
-pub mod replay;
-pub mod report;
-pub mod sample;
-pub mod sealed;
-pub mod settling;
-pub mod shuffling;
 #[cfg(test)]
 mod tests;
-pub mod trace;
-
-pub use demand::{demand, demand_by_scan, demand_remainder, demand_remainder_by_scan};
-pub use demand::{HIGHEST_CE, HIGHEST_M2};
 
 /// An accepted call's number, or the number of its refusal.
 pub type Answer = Result<u64, u8>;

@@ -24,10 +24,10 @@ mod shuffling;
 mod trace;
 mod writing;
 
-use crate::auction::{Auction, EXISTING, NEW};
-use crate::records::records_of;
-use crate::replay::{lines, make, read_call, Accepted, Call};
-use crate::settling::Settlement;
+use crate::generators::records::records_of;
+use crate::model::auction::{Auction, EXISTING, NEW};
+use crate::model::replay::{lines, make, read_call, Accepted, Call};
+use crate::model::settling::Settlement;
 use crate::MALFORMED_LINE;
 use std::sync::LazyLock;
 

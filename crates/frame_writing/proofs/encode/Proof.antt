@@ -5,9 +5,9 @@ use mathlib.Core.Bool.{true}
 use native.Mathlib.Omega.{arith}
 use borrow.Author.Needs.{needs}
 use lib.ListN.{length}
-use Rattle.numbers.specs.Tails.{length-laid}
-use Rattle.format.specs.Fields.{rawCall}
-use Rattle.format.specs.Written.{lineOf, frameOf, writable}
+use Rattle.rules_numbers.specs.Tails.{length-laid}
+use Rattle.rules_format.specs.Fields.{rawCall}
+use Rattle.rules_format.specs.Written.{lineOf, frameOf, writable}
 use Rattle.frame_writing.specs.EncodesLaws.{encode-refused, encode-room, encode-written}
 use Rattle.frame_writing.proofs.Lines.{tail-room, frame-there}
 use Rattle.frame_writing.proofs.encode.Statement.{statement}
@@ -32,15 +32,6 @@ same c =
     let r = room (c .before .before) in
     ap length (c .put-line .ensures) ∙ length-laid (lineOf (rawCall (a .kind) (a .fields .now))) (a .out .now) (omega (arith, r .2, r .3))
 
-frame-size-requires : tie.Need-frame-size-requires
-frame-size-requires c κs = search needs
-
-refusal-of-requires : tie.Need-refusal-of-requires
-refusal-of-requires c κs = search needs
-
-refused-requires : tie.Need-refused-requires
-refused-requires c κs = search needs
-
 returns : tie.Need-returns
 returns c =
     let t = c .before .before in
@@ -58,17 +49,11 @@ sub-put-byte c = let p = c .before .before in omega (arith, same p, room (p .bef
 part-put-byte-start : tie.Need-part-put-byte-start
 part-put-byte-start c = let p = c .before .before in omega (arith, same p, room (p .before .before) .3)
 
-part-put-byte-end : tie.Need-part-put-byte-end
-part-put-byte-end c = search needs
-
 put-byte-requires : tie.Need-put-byte-requires
 put-byte-requires c κs =
     let p = c .before .before .before in
     let r = room (p .before .before) in
     tail-room (p .put-line .last .1 .1 .0) _ (omega (arith, same p, r .2, r .3))
-
-same-length : tie.Need-same-length
-same-length c = search needs
 
 returns-2 : tie.Need-returns-2
 returns-2 c =
@@ -85,15 +70,15 @@ pub encode-spec : {M : Type 1} → statement M
 encode-spec =
     tie.close
     (tie.spec
-    frame-size-requires
-    refusal-of-requires
-    refused-requires
+    (λ c κs. search needs)
+    (λ c κs. search needs)
+    (λ c κs. search needs)
     returns
     put-line-requires
     sub-end
     sub-put-byte
     part-put-byte-start
-    part-put-byte-end
+    (λ c. search needs)
     put-byte-requires
-    same-length
+    (λ c. search needs)
     returns-2)

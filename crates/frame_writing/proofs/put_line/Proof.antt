@@ -5,11 +5,11 @@ use native.Mathlib.Omega.{arith}
 use borrow.Author.Needs.{needs}
 use lib.ListN.{length, take, length-take}
 use lib.Seq.{length-take-le}
-use Rattle.format.specs.Fields.{rawCall}
-use Rattle.format.specs.Written.{writtenWidths}
-use Rattle.format.specs.WrittenLaws.{Writable, is-writable}
-use Rattle.field_table.specs.RowLaws.{row-known, row-own}
-use Rattle.frame_sizes.specs.FrameSizeLaws.{as-many, few-fields, widths-are}
+use Rattle.rules_format.specs.Fields.{rawCall}
+use Rattle.rules_format.specs.Written.{writtenWidths}
+use Rattle.rules_format.specs.WrittenLaws.{Writable, is-writable}
+use Rattle.frame_bytes.specs.field_table.RowLaws.{row-known, row-own}
+use Rattle.frame_writing.specs.frame_sizes.FrameSizeLaws.{as-many, few-fields, widths-are}
 use Rattle.frame_writing.proofs.Lines.{kind-room, kind-same, fields-room, line-there}
 use Rattle.frame_writing.proofs.put_line.Statement.{statement}
 use Rattle.frame_writing.proofs.put_line.Tie as tie
@@ -65,9 +65,6 @@ sub-put-fields c = room (c .before .before)
 part-put-fields-start : tie.Need-part-put-fields-start
 part-put-fields-start c = omega (arith, room (c .before .before))
 
-part-put-fields-end : tie.Need-part-put-fields-end
-part-put-fields-end c = search needs
-
 array-share-prefix-widths : tie.Need-array-share-prefix-widths
 array-share-prefix-widths c =
     let s = shaped (c .before .before .before) in
@@ -88,9 +85,6 @@ put-fields-requires c κs =
       fields-room _ _ _ (start h .pre .1) _ (h .put-hex .ensures) _ (widths s),
     )
 
-same-length : tie.Need-same-length
-same-length c = search needs
-
 returns : tie.Need-returns
 returns c =
     let f = c .before .before in
@@ -106,9 +100,9 @@ put-line-spec =
     put-hex-requires
     sub-put-fields
     part-put-fields-start
-    part-put-fields-end
+    (λ c. search needs)
     array-share-prefix-widths
     slice-aggregate-put-fields
     put-fields-requires
-    same-length
+    (λ c. search needs)
     returns)

@@ -4,17 +4,12 @@ use Rattle.host.specs.Writing.{host-writes}
 use Rattle.host.proofs.write_lodging.Statement.{statement}
 use Rattle.host.proofs.write_lodging.Tie as tie
 
-write-lodging-requires : tie.Need-write-lodging-requires
-write-lodging-requires c κs = search needs
-
-host-bytes-requires : tie.Need-host-bytes-requires
-host-bytes-requires c κs = search needs
-
-same-length : tie.Need-same-length
-same-length c = search needs
-
 returns : tie.Need-returns
 returns c = host-writes _ _ _ _ _ (c .before .before .before .write-lodging .ensures) (c .host-bytes .ensures)
 
 pub write-lodging-spec : {M : Type 1} → statement M
-write-lodging-spec = tie.close (tie.spec write-lodging-requires host-bytes-requires same-length returns)
+write-lodging-spec = tie.close (tie.spec
+    (λ c κs. search needs)
+    (λ c κs. search needs)
+    (λ c. search needs)
+    returns)

@@ -20,17 +20,8 @@ long c = copying-long _ _ (c .before .pre) _ _ (c .loop .inv)
 loop-holds : tie.Need-loop-holds Inv-loop μ-loop
 loop-holds c = copying-first _ _
 
-shared-slice-read-out : tie.Need-shared-slice-read-out Inv-loop μ-loop
-shared-slice-read-out c = search needs
-
 slice-write-out : tie.Need-slice-write-out Inv-loop μ-loop
 slice-write-out c = let h = c .before .before in omega (arith, long h, h .before .pre, c .before .loop-test .taken)
-
-add-i : tie.Need-add-i Inv-loop μ-loop
-add-i c = search needs
-
-loop-less : tie.Need-loop-less Inv-loop μ-loop
-loop-less c = search needs
 
 loop-again : tie.Need-loop-again Inv-loop μ-loop
 loop-again c = let h = c .before .before in copying-next _ _ (h .before .pre) _ _ (h .loop .inv) (c .before .loop-test .taken)
@@ -48,10 +39,10 @@ copy-spec =
     Inv-loop
     μ-loop
     loop-holds
-    shared-slice-read-out
+    (λ c. search needs)
     slice-write-out
-    add-i
-    loop-less
+    (λ c. search needs)
+    (λ c. search needs)
     loop-again
     same-length
     returns)

@@ -1,20 +1,34 @@
--- A fresh auction holds the ledger of no calls.
+-- The first line, and the run over those behind it from the auction that it leaves.
+use mathlib.Core.Path.{_≡_, ap}
 use borrow.Author.Needs.{needs}
-use Rattle.record_replay.proofs.Replaying.{run-replies}
+use Rattle.rules_auction.specs.Rounds.{stepAll, ledger}
+use Rattle.engine_auction.specs.Parts.{withClock}
+use Rattle.engine_auction.specs.declared.Auction.{Auction}
+use Rattle.record_replay.proofs.Replaying.{begun-all, begun-run}
 use Rattle.record_replay.proofs.run_fresh.Statement.{statement}
 use Rattle.record_replay.proofs.run_fresh.Tie as tie
 
-new-requires : tie.Need-new-requires
-new-requires c κs = search needs
-
-run-requires : tie.Need-run-requires
-run-requires c κs = search needs
-
-same-length : tie.Need-same-length
-same-length c = search needs
-
 returns : tie.Need-returns
-returns c = let r = c .before .before in run-replies (r .before .before .new .ensures) (r .run .ensures)
+returns c = begun-all _ _ _ _ _ (c .before .before .before .before .begin .ensures) (c .if1 .taken)
+
+returns-2 : tie.Need-returns-2
+unfolding ledger stepAll
+returns-2 c =
+    let r = c .before .before in
+    let f = r .before .before in
+    let b = f .before .before .before .before .before .before in
+    let k = b .begin .result in
+    begun-run _ _ _ _ _ (b .begin .ensures) _ _ _
+    (ap (λ (x : Auction). withClock x (k .phase) (k .settings) (k .opening) (k .closing)) (f .new .ensures)) (r .run .ensures)
 
 pub run-fresh-spec : {M : Type 1} → statement M
-run-fresh-spec = tie.close (tie.spec new-requires run-requires same-length returns)
+run-fresh-spec =
+    tie.close
+    (tie.spec
+    (λ c κs. search needs)
+    (λ c. search needs)
+    returns
+    (λ c κs. search needs)
+    (λ c κs. search needs)
+    (λ c. search needs)
+    returns-2)

@@ -4,19 +4,10 @@ use mir.Facts.{toZ-ofZ}
 use mir.Syntax.{w64}
 use mir.Val.{SFits}
 use borrow.Author.Needs.{needs}
-use Rattle.replies.specs.Replies.{twosComplement, closingText}
-use Rattle.reply_sizes.specs.TextLaws.{text-of, closing-added}
+use Rattle.rules_replies.specs.Replies.{twosComplement, closingText}
+use Rattle.reply_writing.specs.reply_sizes.TextLaws.{text-of, closing-added}
 use Rattle.reply_values.proofs.closing_reply.Statement.{statement}
 use Rattle.reply_values.proofs.closing_reply.Tie as tie
-
-blank-requires : tie.Need-blank-requires
-blank-requires c κs = search needs
-
-bits-of-requires : tie.Need-bits-of-requires
-bits-of-requires c κs = search needs
-
-closing-values-requires : tie.Need-closing-values-requires
-closing-values-requires c κs = search needs
 
 returns : tie.Need-returns
 returns c = record {
@@ -28,4 +19,8 @@ returns c = record {
 }
 
 pub closing-reply-spec : {M : Type 1} → statement M
-closing-reply-spec = tie.close (tie.spec blank-requires bits-of-requires closing-values-requires returns)
+closing-reply-spec = tie.close (tie.spec
+    (λ c κs. search needs)
+    (λ c κs. search needs)
+    (λ c κs. search needs)
+    returns)

@@ -1,29 +1,23 @@
 -- The numbers of a settlement, in the order of the fields.
-use mathlib.Core.Path.{refl}
+use mathlib.Core.Path.{_≡_, refl}
+use mathlib.Core.Bool.{cond}
 use borrow.Author.Needs.{needs}
 use Rattle.reply_values.proofs.settling_values.Statement.{statement}
 use Rattle.reply_values.proofs.settling_values.Tie as tie
 
-cast-t2 : tie.Need-cast-t2
-cast-t2 c = search needs
-
-cast-t5 : tie.Need-cast-t5
-cast-t5 c = search needs
-
-cast-t6 : tie.Need-cast-t6
-cast-t6 c = search needs
-
-mark-requires : tie.Need-mark-requires
-mark-requires c κs = search needs
-
-mark-requires-2 : tie.Need-mark-requires-2
-mark-requires-2 c κs = search needs
-
-cast-t9 : tie.Need-cast-t9
-cast-t9 c = search needs
+-- the second mark is that of participation
+marked : (c : tie.After-mark2) → c .mark2 .result ≡ cond (c .before .before .before .before .before .args .settled .insufficient) 1 0
+marked c = c .mark2 .ensures
 
 returns : tie.Need-returns
-returns c = λ s e. rw (c .before .before .mark .ensures, c .before .mark2 .ensures, e) record { head = refl; tail = refl }
+returns c = λ s e. record { head = rw e refl; tail = rw (c .before .before .mark .ensures, marked (c .before), e) refl }
 
 pub settling-values-spec : {M : Type 1} → statement M
-settling-values-spec = tie.close (tie.spec cast-t2 cast-t5 cast-t6 mark-requires mark-requires-2 cast-t9 returns)
+settling-values-spec = tie.close (tie.spec
+    (λ c. search needs)
+    (λ c. search needs)
+    (λ c. search needs)
+    (λ c κs. search needs)
+    (λ c κs. search needs)
+    (λ c. search needs)
+    returns)

@@ -1,6 +1,6 @@
 -- Beyond the limit already, above it now, outside the buffer, or written.
 use mathlib.Core.List.{[]}
-use Rattle.replies.specs.Replies.{answerLine}
+use Rattle.rules_replies.specs.Replies.{answerLine}
 use native.Mathlib.Omega.{arith}
 use Rattle.reply_writing.proofs.Placing.{bare-length, puts-beyond, puts-over, puts-outside, puts-tail, puts-length, puts-inside}
 use Rattle.reply_writing.proofs.plain_at.Statement.{statement}

@@ -6,12 +6,12 @@ use native.Mathlib.Omega.{arith}
 use borrow.Author.Needs.{needs}
 use borrow.Rule.Slice.PartMut.{putMid}
 use lib.ListN.{length}
-use Rattle.format.specs.Hex.{digits}
-use Rattle.format.specs.HexLaws.{length-digits}
-use Rattle.replies.specs.Replies.{answerLine}
-use Rattle.reply_sizes.specs.declared.Reply.{Reply}
-use Rattle.reply_sizes.specs.Texts.{shownText, textOf}
-use Rattle.reply_sizes.specs.TextLaws.{text-length}
+use Rattle.rules_format.specs.Hex.{digits}
+use Rattle.rules_format.specs.HexLaws.{length-digits}
+use Rattle.rules_replies.specs.Replies.{answerLine}
+use Rattle.reply_writing.specs.declared.reply_sizes.Reply.{Reply}
+use Rattle.reply_writing.specs.reply_sizes.Texts.{shownText, textOf}
+use Rattle.reply_writing.specs.reply_sizes.TextLaws.{text-length}
 use Rattle.reply_writing.proofs.Laws.{Held, held-first, held-room, held-next}
 use Rattle.reply_writing.proofs.put.Statement.{statement}
 use Rattle.reply_writing.proofs.put.Tie as tie
@@ -65,9 +65,6 @@ held-added c =
 last-room : (c : tie.After-slice-known4) → 4 + c .before .before .put-added .result + 1 ≤ length (old (kinded (answered c)))
 last-room c = omega (arith, room (start (kinded (answered c))), c .before .before .put-added .ensures .0)
 
-cast-put-hex : tie.Need-cast-put-hex
-cast-put-hex c = search needs
-
 put-hex-requires : tie.Need-put-hex-requires
 put-hex-requires c κs = omega (arith, room (c .before .before .before))
 
@@ -77,12 +74,6 @@ sub-put-hex c = omega (arith, room (start c), held-kind c .same)
 part-put-hex-start : tie.Need-part-put-hex-start
 part-put-hex-start c = omega (arith, room (start c), held-kind c .same)
 
-part-put-hex-end : tie.Need-part-put-hex-end
-part-put-hex-end c = search needs
-
-cast-put-hex-2 : tie.Need-cast-put-hex-2
-cast-put-hex-2 c = search needs
-
 put-hex-requires-2 : tie.Need-put-hex-requires-2
 put-hex-requires-2 c κs = let k = c .before .before in held-room (held-kind k) 2 (omega (arith, room (start k)))
 
@@ -91,9 +82,6 @@ sub-put-added c = omega (arith, room (start (kinded c)), held-answer c .same)
 
 part-put-added-start : tie.Need-part-put-added-start
 part-put-added-start c = omega (arith, room (start (kinded c)), held-answer c .same)
-
-part-put-added-end : tie.Need-part-put-added-end
-part-put-added-end c = search needs
 
 put-added-requires : tie.Need-put-added-requires
 put-added-requires c κs = let a = c .before in held-room (held-answer a) _ (omega (arith, room (start (kinded a))))
@@ -107,17 +95,11 @@ sub-put-byte c = omega (arith, last-room c, held-added c .same)
 part-put-byte-start : tie.Need-part-put-byte-start
 part-put-byte-start c = omega (arith, last-room c, held-added c .same)
 
-part-put-byte-end : tie.Need-part-put-byte-end
-part-put-byte-end c = search needs
-
 put-byte-requires : tie.Need-put-byte-requires
 put-byte-requires c κs = held-room (held-added (c .before)) 1 (last-room (c .before))
 
 add-result : tie.Need-add-result
 add-result c = let a = c .before .before .before .before in omega (arith, last-room a, start (kinded (answered a)) .good)
-
-same-length : tie.Need-same-length
-same-length c = search needs
 
 returns : tie.Need-returns
 unfolding textOf answerLine shownText
@@ -130,22 +112,22 @@ pub put-spec : {M : Type 1} → statement M
 put-spec =
     tie.close
     (tie.spec
-    cast-put-hex
+    (λ c. search needs)
     put-hex-requires
     sub-put-hex
     part-put-hex-start
-    part-put-hex-end
-    cast-put-hex-2
+    (λ c. search needs)
+    (λ c. search needs)
     put-hex-requires-2
     sub-put-added
     part-put-added-start
-    part-put-added-end
+    (λ c. search needs)
     put-added-requires
     add-end
     sub-put-byte
     part-put-byte-start
-    part-put-byte-end
+    (λ c. search needs)
     put-byte-requires
     add-result
-    same-length
+    (λ c. search needs)
     returns)

@@ -7,15 +7,15 @@ use borrow.Author.Needs.{needs}
 use borrow.Rule.Slice.PartMut.{putMid}
 use lib.ListN.{length, take}
 use lib.Seq.{length-take-le}
-use Rattle.numbers.specs.Lists.{total}
-use Rattle.numbers.specs.Tails.{laid}
-use Rattle.format.specs.Fields.{textAt}
-use Rattle.format.specs.WidthLaws.{length-text}
-use Rattle.replies.specs.Replies.{recordDigits}
-use Rattle.replies.specs.Lengths.{bytes-length}
-use Rattle.reply_sizes.specs.declared.Form.{Form}
-use Rattle.reply_sizes.specs.declared.Reply.{Reply}
-use Rattle.reply_sizes.specs.TextLaws.{shown-refused, Parts, parts}
+use Rattle.rules_numbers.specs.Lists.{total}
+use Rattle.rules_numbers.specs.Tails.{laid}
+use Rattle.rules_format.specs.Fields.{textAt}
+use Rattle.rules_format.specs.WidthLaws.{length-text}
+use Rattle.rules_replies.specs.Replies.{recordDigits}
+use Rattle.rules_replies.specs.Lengths.{bytes-length}
+use Rattle.reply_writing.specs.declared.reply_sizes.Form.{Form}
+use Rattle.reply_writing.specs.declared.reply_sizes.Reply.{Reply}
+use Rattle.reply_writing.specs.reply_sizes.TextLaws.{shown-refused, Parts, parts}
 use Rattle.reply_writing.proofs.Laws.{Held, held-first, held-room, held-next}
 use Rattle.reply_writing.proofs.put_added.Statement.{statement}
 use Rattle.reply_writing.proofs.put_added.Tie as tie
@@ -67,7 +67,7 @@ recorded : (c : tie.After-slice-known3) →
 recorded c =
     let f = formed (first c) in
     let n = f .least .result in
-    let few = length-take-le n (reply f .awards) (omega (arith, added f .few, full f)) in
+    let few = length-take-le n (reply f .awards) (omega (arith, added f .within-room, full f)) in
     let m : 2 * n ≡ length (recordDigits (take n (reply f .awards))) = omega (arith, bytes-length (take n (reply f .awards))) in
     held-next (headed (first c)) _ (2 * n) m (omega (arith, room (first c))) (c .before .before .put-bytes .ensures)
 
@@ -76,12 +76,6 @@ unfolding laid
 returns c =
     let e = shown-refused (c .before .before .before .args .reply) (c .if1 .taken) in
     (sym (ap length e), rw e)
-
-form-of-requires : tie.Need-form-of-requires
-form-of-requires c κs = search needs
-
-least-requires : tie.Need-least-requires
-least-requires c κs = search needs
 
 put-values-requires : tie.Need-put-values-requires
 put-values-requires c κs = let l = c .before .before .before .before in omega (arith, added l .size, start l .pre)
@@ -92,16 +86,13 @@ sub-put-bytes c = omega (arith, room (c .before), headed (c .before) .same)
 part-put-bytes-start : tie.Need-part-put-bytes-start
 part-put-bytes-start c = omega (arith, room (c .before), headed (c .before) .same)
 
-part-put-bytes-end : tie.Need-part-put-bytes-end
-part-put-bytes-end c = search needs
-
 put-bytes-requires : tie.Need-put-bytes-requires
 put-bytes-requires c κs =
     let h = c .before .before in
-    (added (formed h) .few, held-room (headed h) _ (omega (arith, room h)))
+    (added (formed h) .within-room, held-room (headed h) _ (omega (arith, room h)))
 
 mul-behind : tie.Need-mul-behind
-mul-behind c = omega (arith, added (formed (first c)) .few)
+mul-behind c = omega (arith, added (formed (first c)) .within-room)
 
 add-behind : tie.Need-add-behind
 add-behind c = omega (arith, room (first c), start (formed (first c)) .good)
@@ -112,9 +103,6 @@ sub-put-values c = let r = c .before .before in omega (arith, room (first r), re
 part-put-values-start : tie.Need-part-put-values-start
 part-put-values-start c = let r = c .before .before in omega (arith, room (first r), recorded r .same)
 
-part-put-values-end : tie.Need-part-put-values-end
-part-put-values-end c = search needs
-
 put-values-requires-2 : tie.Need-put-values-requires-2
 put-values-requires-2 c κs = let r = c .before .before .before in held-room (recorded r) _ (room (first r))
 
@@ -122,9 +110,6 @@ add-result : tie.Need-add-result
 add-result c =
     let r = c .before .before .before .before .before .before in
     omega (arith, room (first r), c .before .before .put-values2 .ensures .0, start (formed (first r)) .good)
-
-same-length : tie.Need-same-length
-same-length c = search needs
 
 returns-2 : tie.Need-returns-2
 returns-2 c =
@@ -139,19 +124,19 @@ put-added-spec =
     tie.close
     (tie.spec
     returns
-    form-of-requires
-    least-requires
+    (λ c κs. search needs)
+    (λ c κs. search needs)
     put-values-requires
     sub-put-bytes
     part-put-bytes-start
-    part-put-bytes-end
+    (λ c. search needs)
     put-bytes-requires
     mul-behind
     add-behind
     sub-put-values
     part-put-values-start
-    part-put-values-end
+    (λ c. search needs)
     put-values-requires-2
     add-result
-    same-length
+    (λ c. search needs)
     returns-2)

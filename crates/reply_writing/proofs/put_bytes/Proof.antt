@@ -17,33 +17,6 @@ abbrev μ-loop : tie.MeasureT-loop
 loop-holds : tie.Need-loop-holds Inv-loop μ-loop
 loop-holds c = passed-none _ _ _
 
-mul-put-hex : tie.Need-mul-put-hex Inv-loop μ-loop
-mul-put-hex c = omega arith
-
-sub-put-hex : tie.Need-sub-put-hex Inv-loop μ-loop
-sub-put-hex c = omega arith
-
-part-put-hex-start : tie.Need-part-put-hex-start Inv-loop μ-loop
-part-put-hex-start c = omega arith
-
-part-put-hex-end : tie.Need-part-put-hex-end Inv-loop μ-loop
-part-put-hex-end c = search needs
-
-array-read-put-hex : tie.Need-array-read-put-hex Inv-loop μ-loop
-array-read-put-hex c = omega arith
-
-cast-put-hex : tie.Need-cast-put-hex Inv-loop μ-loop
-cast-put-hex c = search needs
-
-put-hex-requires : tie.Need-put-hex-requires Inv-loop μ-loop
-put-hex-requires c κs = search needs
-
-add-i : tie.Need-add-i Inv-loop μ-loop
-add-i c = omega arith
-
-loop-less : tie.Need-loop-less Inv-loop μ-loop
-loop-less c = omega arith
-
 loop-again : tie.Need-loop-again Inv-loop μ-loop
 loop-again c =
     let h = c .before .before .before .before .before in
@@ -68,15 +41,15 @@ put-bytes-spec =
     Inv-loop
     μ-loop
     loop-holds
-    mul-put-hex
-    sub-put-hex
-    part-put-hex-start
-    part-put-hex-end
-    array-read-put-hex
-    cast-put-hex
-    put-hex-requires
-    add-i
-    loop-less
+    (λ c. omega arith)
+    (λ c. omega arith)
+    (λ c. omega arith)
+    (λ c. search needs)
+    (λ c. omega arith)
+    (λ c. search needs)
+    (λ c κs. search needs)
+    (λ c. omega arith)
+    (λ c. omega arith)
     loop-again
     same-length
     returns)

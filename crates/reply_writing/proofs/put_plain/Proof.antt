@@ -6,10 +6,11 @@ use native.Mathlib.Omega.{arith}
 use borrow.Author.Needs.{needs}
 use borrow.Rule.Slice.PartMut.{putMid}
 use lib.ListN.{length}
-use Rattle.numbers.specs.Tails.{laid}
-use Rattle.format.specs.Hex.{digits}
-use Rattle.format.specs.HexLaws.{length-digits}
-use Rattle.reply_writing.proofs.Placing.{bare-line, Held, held-first, held-room, held-next}
+use Rattle.rules_numbers.specs.Tails.{laid}
+use Rattle.rules_format.specs.Hex.{digits}
+use Rattle.rules_format.specs.HexLaws.{length-digits}
+use Rattle.reply_writing.proofs.Laws.{Held, held-first, held-room, held-next}
+use Rattle.reply_writing.proofs.Placing.{bare-line}
 use Rattle.reply_writing.proofs.put_plain.Statement.{statement}
 use Rattle.reply_writing.proofs.put_plain.Tie as tie
 
@@ -27,7 +28,8 @@ out-answered c =
     let k = kinded c .before .before .put-hex .last .0 in
     putMid 2 (length k - 2) k (c .before .before .put-hex2 .last .0)
 
-held-answer : (c : tie.After-slice-known3) → let s = start (kinded c) in Held (digits 2 (s .args .kind) ++ digits 2 (s .args .number)) (s .args .out .now) (out-answered c) 4
+held-answer : (c : tie.After-slice-known3) → let s = start (kinded c) in
+    Held (digits 2 (s .args .kind) ++ digits 2 (s .args .number)) (s .args .out .now) (out-answered c) 4
 held-answer c =
     let s = start (kinded c) in
     held-next (held-kind (kinded c)) _ 2 (sym (length-digits 2 (s .args .number))) (omega (arith, s .pre)) (c .before .before .put-hex2 .ensures)

@@ -1,6 +1,6 @@
 -- Beyond the limit already, above it now, outside the buffer, or written.
 use native.Mathlib.Omega.{arith}
-use Rattle.reply_sizes.specs.Texts.{textOf}
+use Rattle.reply_writing.specs.reply_sizes.Texts.{textOf}
 use borrow.Author.Needs.{needs}
 use Rattle.reply_writing.proofs.Placing.{puts-beyond, puts-over, puts-outside, puts-tail, puts-length, puts-inside}
 use Rattle.reply_writing.proofs.reply_at.Statement.{statement}
@@ -22,12 +22,14 @@ put-requires c κs =
 same-length : tie.Need-same-length
 same-length c =
     let x = c .before .before .before .before in
-    puts-length _ (x .before .before .before .before .before .args .limit) _ _ _ (x .before .before .size .ensures) (x .if3 .left) _ (c .before .before .put .ensures .1)
+    puts-length _ (x .before .before .before .before .before .args .limit) _ _ _ (x .before .before .size .ensures) (x .if3 .left) _
+    (c .before .before .put .ensures .1)
 
 returns-4 : tie.Need-returns-4
 returns-4 c =
     let x = c .before .before .before .before in
-    puts-inside _ _ _ _ _ (x .before .before .size .ensures) (x .before .if2 .left) (x .before .before .before .if1 .left) (x .if3 .left) _ (c .before .before .put .ensures .1)
+    puts-inside _ _ _ _ _ (x .before .before .size .ensures) (x .before .if2 .left) (x .before .before .before .if1 .left) (x .if3 .left) _
+    (c .before .before .put .ensures .1)
 
 pub reply-at-spec : {M : Type 1} → statement M
 reply-at-spec =

@@ -5,7 +5,7 @@ use native.Mathlib.Omega.{arith}
 use lib.ListN.{length}
 use lib.Seq.{length-take-le}
 use borrow.Author.Needs.{needs}
-use Rattle.format.specs.LineLaws.{line-inside}
+use Rattle.rules_format.specs.LineLaws.{line-inside}
 use Rattle.trace.proofs.put_lines.Statement.{statement}
 use Rattle.trace.proofs.put_lines.Tie as tie
 
@@ -26,7 +26,8 @@ inside c =
 -- the part of the record with the line and its 0A is not empty and ends inside the record
 next :
     (c : tie.After-least Inv-loop μ-loop) →
-    let loop = c .before .before .before in (loop .loop .at < c .least .result) × (c .least .result ≤ length (loop .before .before .before .before .args .bytes .now))
+    let loop = c .before .before .before in (loop .loop .at < c .least .result)
+    × (c .least .result ≤ length (loop .before .before .before .before .args .bytes .now))
 next c =
     let line = c .before in
     (omega (arith, c .least .ensures, inside line, line .before .loop-test .taken), omega (arith, c .least .ensures))
@@ -37,13 +38,16 @@ placed c = let p = c .put-before in omega (arith, c .before .before .with-room .
 
 -- the buffer stays as long as it was
 kept : (c : tie.After-put-reply Inv-loop μ-loop) → length (c .put-reply .last .0) ≡ length (c .before .before .before .before .before .before .before .before .before .before .before .before .before .before .before .before .before .before .args .text .now)
-kept c = omega (arith, c .put-reply .kept .0, c .before .before .before .before .before .put-before .kept .0, c .before .before .before .before .before .before .before .before .before .before .before .before .before .before .loop .inv .1)
+kept c =
+    omega (
+      arith,
+      c .put-reply .kept .0,
+      c .before .before .before .before .before .put-before .kept .0,
+      c .before .before .before .before .before .before .before .before .before .before .before .before .before .before .loop .inv .1,
+    )
 
 new-requires : tie.Need-new-requires Inv-loop μ-loop
 new-requires c κs = tt
-
-loop-holds : tie.Need-loop-holds Inv-loop μ-loop
-loop-holds c = search needs
 
 next-line-requires : tie.Need-next-line-requires Inv-loop μ-loop
 next-line-requires c κs = tt
@@ -88,15 +92,24 @@ add-put-below : tie.Need-add-put-below Inv-loop μ-loop
 add-put-below c = omega (arith, placed (c .before .before .before .before .before .before .before .before .before .before .before), c .before .before .before .least2 .ensures, c .before .before .before .before .before .before .before .before .before .before .before .before .before .before .before .before .before .before .before .before .before .before .before .before .good, kept (c .before .before .before .before .before .before))
 
 put-below-requires : tie.Need-put-below-requires Inv-loop μ-loop
-put-below-requires c κs = omega (arith, placed (c .before .before .before .before .before .before .before .before .before .before .before), c .before .before .before .least2 .ensures, c .before .before .before .before .before .before .put-reply .kept .0)
+put-below-requires c κs =
+    omega (
+      arith,
+      placed (c .before .before .before .before .before .before .before .before .before .before .before),
+      c .before .before .before .least2 .ensures,
+      c .before .before .before .before .before .before .put-reply .kept .0,
+    )
 
 points-shown-requires : tie.Need-points-shown-requires Inv-loop μ-loop
 points-shown-requires c κs = tt
 
 put-curve-requires : tie.Need-put-curve-requires Inv-loop μ-loop
 put-curve-requires c κs =
-    let p = c .before .before .before .before .before .put-below in
-    (omega (arith, p .ensures .inside, p .kept .0), omega (arith, p .kept .0, kept (c .before .before .before .before .before .before .before .before .before .before .before .before)))
+    let p = c .before .before .before .before .before .put-below in (
+      omega (arith, p .ensures .inside, p .kept .0),
+      omega
+          (arith, p .kept .0, kept (c .before .before .before .before .before .before .before .before .before .before .before .before)),
+    )
 
 loop-less : tie.Need-loop-less Inv-loop μ-loop
 loop-less c = omega (arith, next (c .before .before .before .before .before .before .before .before .before .before .before .before .before .before .before .before .before .before .before .before .before .before .before .before .before .before))
@@ -106,9 +119,6 @@ loop-again c =
     let p = c .before .before .put-curve in
     let k : length (p .last .0) ≡ length (c .before .before .before .before .before .before .before .before .before .before .before .before .before .before .before .before .before .before .before .before .before .before .before .before .before .before .before .before .before .before .before .before .before .args .text .now) = omega (arith, p .kept .0, c .before .before .before .before .before .before .before .before .put-below .kept .0, kept (c .before .before .before .before .before .before .before .before .before .before .before .before .before .before .before)) in
     (next (c .before .before .before .before .before .before .before .before .before .before .before .before .before .before .before .before .before .before .before .before .before .before .before .before .before .before) .1, k, omega (arith, p .ensures, p .kept .0))
-
-same-length : tie.Need-same-length Inv-loop μ-loop
-same-length c = search needs
 
 returns : tie.Need-returns Inv-loop μ-loop
 returns c = let h = c .before .loop .inv .2 in (h, sym (length-take-le _ _ h))
@@ -120,7 +130,7 @@ put-lines-spec =
     Inv-loop
     μ-loop
     new-requires
-    loop-holds
+    (λ c. search needs)
     next-line-requires
     add-least
     add-least-2
@@ -140,5 +150,5 @@ put-lines-spec =
     put-curve-requires
     loop-less
     loop-again
-    same-length
+    (λ c. search needs)
     returns)

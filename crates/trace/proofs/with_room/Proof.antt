@@ -6,21 +6,14 @@ use borrow.Author.Needs.{needs}
 use Rattle.trace.proofs.with_room.Statement.{statement}
 use Rattle.trace.proofs.with_room.Tie as tie
 
-sub-if1 : tie.Need-sub-if1
-sub-if1 c = omega arith
-
-returns : tie.Need-returns
-returns c = omega arith
-
 slice-aggregate-write-all : tie.Need-slice-aggregate-write-all
 slice-aggregate-write-all c = sym (length-take-le _ _ (omega arith))
 
-write-all-requires : tie.Need-write-all-requires
-write-all-requires c κs = search needs
-
-returns-2 : tie.Need-returns-2
-returns-2 c = omega arith
-
 pub with-room-spec : {M : Type 1} → statement M
 with-room-spec =
-    tie.close (tie.spec sub-if1 returns slice-aggregate-write-all write-all-requires returns-2)
+    tie.close (tie.spec
+    (λ c. omega arith)
+    (λ c. omega arith)
+    slice-aggregate-write-all
+    (λ c κs. search needs)
+    (λ c. omega arith))

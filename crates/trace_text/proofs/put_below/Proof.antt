@@ -3,19 +3,13 @@ use mathlib.Core.Path.{sym}
 use native.Mathlib.Omega.{arith}
 use borrow.Author.Needs.{needs}
 use borrow.Author.Tests.{not-true, not-false}
-use Rattle.decimal_text.specs.PutsLaws.{puts-none, puts-as}
-use Rattle.trace_text.proofs.Laws.{below-refused, below-closing, below-settling, below-other}
+use Rattle.trace_text.specs.decimal_text.PutsLaws.{puts-none, puts-as}
+use Rattle.trace_text.specs.WordsLaws.{below-refused, below-closing, below-settling, below-other}
 use Rattle.trace_text.proofs.put_below.Statement.{statement}
 use Rattle.trace_text.proofs.put_below.Tie as tie
 
 returns : tie.Need-returns
 returns c = puts-as (puts-none _ 0 _ (omega arith)) _ 3000 (sym (below-refused _ _ _ _ _ (not-true _ (c .if1 .taken)))) (omega arith)
-
-put-closed-requires : tie.Need-put-closed-requires
-put-closed-requires c κs = omega arith
-
-same-length : tie.Need-same-length
-same-length c = search needs
 
 returns-2 : tie.Need-returns-2
 returns-2 c =
@@ -23,12 +17,6 @@ returns-2 c =
     let kind = closing .before .before in
     let accepted = kind .before in
     puts-as (closing .put-closed .ensures) _ 3000 (sym (below-closing _ _ _ _ _ (not-false _ (accepted .if1 .left)) (kind .if2 .taken))) (omega arith)
-
-put-settled-requires : tie.Need-put-settled-requires
-put-settled-requires c κs = search needs
-
-same-length-2 : tie.Need-same-length-2
-same-length-2 c = search needs
 
 returns-3 : tie.Need-returns-3
 returns-3 c =
@@ -45,10 +33,10 @@ put-below-spec =
     tie.close
     (tie.spec
     returns
-    put-closed-requires
-    same-length
+    (λ c κs. omega arith)
+    (λ c. search needs)
     returns-2
-    put-settled-requires
-    same-length-2
+    (λ c κs. search needs)
+    (λ c. search needs)
     returns-3
     returns-4)

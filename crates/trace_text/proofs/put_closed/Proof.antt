@@ -3,24 +3,15 @@ use mathlib.Core.Path.{refl}
 use native.Mathlib.Omega.{arith}
 use borrow.Author.Needs.{needs}
 use Rattle.trace_text.specs.Words.{closedLines}
-use Rattle.decimal_text.specs.PutsLaws.{puts-as, puts-then}
+use Rattle.trace_text.specs.decimal_text.PutsLaws.{puts-as, puts-then}
 use Rattle.trace_text.proofs.put_closed.Statement.{statement}
 use Rattle.trace_text.proofs.put_closed.Tie as tie
 
 slice-aggregate-put-signed-item : tie.Need-slice-aggregate-put-signed-item
 slice-aggregate-put-signed-item c = refl
 
-put-signed-item-requires : tie.Need-put-signed-item-requires
-put-signed-item-requires c κs = omega arith
-
 slice-aggregate-put-item : tie.Need-slice-aggregate-put-item
 slice-aggregate-put-item c = refl
-
-put-item-requires : tie.Need-put-item-requires
-put-item-requires c κs = omega arith
-
-same-length : tie.Need-same-length
-same-length c = search needs
 
 returns : tie.Need-returns
 unfolding closedLines
@@ -34,8 +25,8 @@ put-closed-spec =
     tie.close
     (tie.spec
     slice-aggregate-put-signed-item
-    put-signed-item-requires
+    (λ c κs. omega arith)
     slice-aggregate-put-item
-    put-item-requires
-    same-length
+    (λ c κs. omega arith)
+    (λ c. search needs)
     returns)

@@ -3,27 +3,12 @@ use mathlib.Core.Path.{refl}
 use native.Mathlib.Omega.{arith}
 use borrow.Author.Needs.{needs}
 use Rattle.trace_text.specs.Words.{pointLine}
-use Rattle.decimal_text.specs.PutsLaws.{puts-as, puts-then}
+use Rattle.trace_text.specs.decimal_text.PutsLaws.{puts-as, puts-then}
 use Rattle.trace_text.proofs.put_point.Statement.{statement}
 use Rattle.trace_text.proofs.put_point.Tie as tie
 
 slice-aggregate-put-name : tie.Need-slice-aggregate-put-name
 slice-aggregate-put-name c = refl
-
-put-name-requires : tie.Need-put-name-requires
-put-name-requires c κs = omega arith
-
-put-number-requires : tie.Need-put-number-requires
-put-number-requires c κs = omega arith
-
-put-number-requires-2 : tie.Need-put-number-requires-2
-put-number-requires-2 c κs = omega arith
-
-put-number-requires-3 : tie.Need-put-number-requires-3
-put-number-requires-3 c κs = omega arith
-
-same-length : tie.Need-same-length
-same-length c = search needs
 
 returns : tie.Need-returns
 unfolding pointLine
@@ -39,9 +24,9 @@ put-point-spec =
     tie.close
     (tie.spec
     slice-aggregate-put-name
-    put-name-requires
-    put-number-requires
-    put-number-requires-2
-    put-number-requires-3
-    same-length
+    (λ c κs. omega arith)
+    (λ c κs. omega arith)
+    (λ c κs. omega arith)
+    (λ c κs. omega arith)
+    (λ c. search needs)
     returns)

@@ -3,39 +3,12 @@ use mathlib.Core.Path.{refl}
 use native.Mathlib.Omega.{arith}
 use borrow.Author.Needs.{needs}
 use Rattle.trace_text.specs.Words.{previewLine}
-use Rattle.decimal_text.specs.PutsLaws.{puts-as, puts-then}
+use Rattle.trace_text.specs.decimal_text.PutsLaws.{puts-as, puts-then}
 use Rattle.trace_text.proofs.put_preview.Statement.{statement}
 use Rattle.trace_text.proofs.put_preview.Tie as tie
 
 slice-aggregate-put-name : tie.Need-slice-aggregate-put-name
 slice-aggregate-put-name c = refl
-
-put-name-requires : tie.Need-put-name-requires
-put-name-requires c κs = omega arith
-
-cast-put-number : tie.Need-cast-put-number
-cast-put-number c = search needs
-
-put-number-requires : tie.Need-put-number-requires
-put-number-requires c κs = omega arith
-
-put-signed-requires : tie.Need-put-signed-requires
-put-signed-requires c κs = omega arith
-
-cast-put-number-2 : tie.Need-cast-put-number-2
-cast-put-number-2 c = search needs
-
-put-number-requires-2 : tie.Need-put-number-requires-2
-put-number-requires-2 c κs = omega arith
-
-mark-requires : tie.Need-mark-requires
-mark-requires c κs = search needs
-
-put-number-requires-3 : tie.Need-put-number-requires-3
-put-number-requires-3 c κs = omega arith
-
-same-length : tie.Need-same-length
-same-length c = search needs
 
 returns : tie.Need-returns
 unfolding previewLine
@@ -54,13 +27,13 @@ put-preview-spec =
     tie.close
     (tie.spec
     slice-aggregate-put-name
-    put-name-requires
-    cast-put-number
-    put-number-requires
-    put-signed-requires
-    cast-put-number-2
-    put-number-requires-2
-    mark-requires
-    put-number-requires-3
-    same-length
+    (λ c κs. omega arith)
+    (λ c. search needs)
+    (λ c κs. omega arith)
+    (λ c κs. omega arith)
+    (λ c. search needs)
+    (λ c κs. omega arith)
+    (λ c κs. search needs)
+    (λ c κs. omega arith)
+    (λ c. search needs)
     returns)

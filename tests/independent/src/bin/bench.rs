@@ -4,15 +4,17 @@
 //! of a record or a call, their ratio, and the most that it may be.
 //! With the argument `check` it also names the rows whose ratio is above that, and then fails.
 
-#[path = "../engine.rs"]
+#[path = "../comparisons/engine.rs"]
 mod engine;
 
-use independent::forcing::who_can_force;
-use independent::games::stated;
-use independent::records::{easy_book, hard_book, largest_book, long_record, timed, LARGEST_BOOKS};
-use independent::replay::{lines, replay, replay_into};
-use independent::sample;
-use independent::sealed::{sealed_auction, Offer, Sealed};
+use independent::generators::games::stated;
+use independent::generators::records::{
+    easy_book, hard_book, largest_book, long_record, timed, LARGEST_BOOKS,
+};
+use independent::generators::sample;
+use independent::model::forcing::who_can_force;
+use independent::model::replay::{lines, replay, replay_into};
+use independent::model::sealed::{sealed_auction, Offer, Sealed};
 use std::env;
 use std::hint::black_box;
 use std::process::ExitCode;
@@ -45,10 +47,6 @@ use Timed::{Game, Lines, Replay, SealedAuction};
 /// The most of every ratio that has no other bound.
 const HALF: [f64; 2] = [0.5, 0.5];
 
-/// A replay makes a fresh auction, with the places of all developers, and hands it to its loop and
-/// back: of a record of one line that is the greater part.
-const ONE_LINE: [f64; 2] = [1.6, 1.6];
-
 #[rustfmt::skip]
 const ROWS: &[Row] = &[
     row("sample record", Lines(|| sample::RECORD.into()), 200, HALF),
@@ -64,7 +62,7 @@ const ROWS: &[Row] = &[
     row("refused lodgings", Lines(timed::refused_lodgings), 5, HALF),
     row("refused cancellations", Lines(timed::refused_cancellations), 5, HALF),
     row("calls out of phase", Lines(timed::refused_by_phase), 5, HALF),
-    row("a set-up alone", Lines(timed::set_up), 1_000, ONE_LINE),
+    row("a set-up alone", Lines(timed::set_up), 1_000, HALF),
     row("registrations", Lines(timed::registrations), 50, HALF),
     row("registrations for an agent", Lines(timed::registrations_for), 50, HALF),
     row("openings and closings, 3 developers", Lines(timed::openings_and_closings), 5, HALF),

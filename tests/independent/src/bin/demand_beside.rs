@@ -3,15 +3,18 @@
 //! the first difference.
 //! The exit status is 0 only if no group differs.
 
-#[path = "../engine.rs"]
+#[path = "../comparisons/engine.rs"]
 mod engine;
 
-use independent::random::Random;
-use independent::report::{few, inputs, verdict};
-use independent::sample::MARKED_CASES;
-use independent::{demand, demand_by_scan, demand_remainder, demand_remainder_by_scan};
+use independent::comparisons::report::{few, inputs, verdict};
+use independent::generators::random::Random;
+use independent::generators::sample::MARKED_CASES;
+use independent::model::demand::{
+    demand, demand_by_scan, demand_remainder, demand_remainder_by_scan,
+};
+use independent::model::demand::{HIGHEST_CE, HIGHEST_M2};
+use independent::BEYOND_BOUNDS;
 use independent::{host_number, Answer};
-use independent::{BEYOND_BOUNDS, HIGHEST_CE, HIGHEST_M2};
 use std::process::ExitCode;
 
 /// The call's arguments in its order: CE, D, M1, M2, p.

@@ -1,7 +1,7 @@
 //! Makes the calls of the engine's program `direct_calls`, from the same standard input, by the
 //! independent implementation and prints the same lines.
 
-use independent::direct::printed;
+use independent::model::direct::printed;
 use std::io;
 
 fn main() -> io::Result<()> {

@@ -5,10 +5,11 @@
 //! One line with what was seen, and `ok` or the first difference; the exit status is 0 only if
 //! nothing differs.
 
-use independent::direct::{auction, printed, Line};
+use independent::comparisons::program;
+use independent::comparisons::report::{few, inputs};
+use independent::generators::direct::{auction, Line};
+use independent::model::direct::printed;
 use independent::parts::in_parts;
-use independent::program;
-use independent::report::{few, inputs};
 use std::ffi::OsStr;
 use std::process::ExitCode;
 

@@ -5,13 +5,14 @@
 //! refused questions show. The exit status is 0 only if no group differs and no kind of game or
 //! refusal is too rare among the random questions.
 
-#[path = "../engine.rs"]
+#[path = "../comparisons/engine.rs"]
 mod engine;
 
-use independent::forcing::{write_move, Forced};
-use independent::games::{question, stated, Question};
-use independent::lent::{difference, lend};
-use independent::report::{few, listed, verdict, Asked, Compared, QUESTIONS};
+use independent::comparisons::report::{few, listed, verdict, Compared};
+use independent::coverage::{Asked, QUESTIONS};
+use independent::generators::games::{question, stated, Question};
+use independent::generators::lent::{difference, lend};
+use independent::model::forcing::{write_move, Forced};
 use std::process::ExitCode;
 
 /// Random questions.

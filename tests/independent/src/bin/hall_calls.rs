@@ -1,7 +1,7 @@
 //! Makes the calls of the engine's program `hall_calls`, from the same standard input, by the
 //! independent implementation and prints the same lines.
 
-use independent::hall::lines::printed;
+use independent::model::hall::lines::printed;
 use std::io;
 
 fn main() -> io::Result<()> {

@@ -6,14 +6,15 @@
 //! One line a group, with `ok` or the first difference; below it, what the runs and the pairs show. The
 //! exit status is 0 only if nothing differs and nothing of that is too rare.
 
-use independent::hall::beside::{difference, groups, input, pair_difference, parts};
-use independent::hall::lines::{events, Event, Line};
-use independent::hall::pairs::{pair, Pair};
-use independent::hall::runs::run;
-use independent::hall::stated;
-use independent::hall::views::Shown;
-use independent::program;
-use independent::report::{few, verdict, Compared, PAIRS, SEATS};
+use independent::comparisons::hall::{difference, groups, input, pair_difference, parts};
+use independent::comparisons::program;
+use independent::comparisons::report::{few, verdict, Compared};
+use independent::coverage::{PAIRS, SEATS};
+use independent::generators::hall::pairs::{pair, Pair};
+use independent::generators::hall::runs::run;
+use independent::generators::hall::stated;
+use independent::model::hall::lines::{events, Event, Line};
+use independent::model::hall::views::Shown;
 use std::ffi::OsStr;
 use std::iter::zip;
 use std::process::ExitCode;

@@ -7,16 +7,16 @@
 //! `ok` or the first difference; below it what these records show, as in `replay_beside`, what was
 //! moved in them and what was compared behind. The exit status is 0 only if no group differs.
 
-#[path = "../engine.rs"]
+#[path = "../comparisons/engine.rs"]
 mod engine;
-#[path = "../replaying.rs"]
+#[path = "../comparisons/replaying.rs"]
 mod replaying;
 
-use independent::records::{fixed, long_record, records_of, Records};
-use independent::replay::replay;
-use independent::report::{inputs, verdict, Group};
-use independent::sample;
-use independent::shuffling::Order;
+use independent::comparisons::report::{inputs, verdict, Group};
+use independent::generators::records::{fixed, long_record, records_of, Records};
+use independent::generators::sample;
+use independent::generators::shuffling::Order;
+use independent::model::replay::replay;
 use replaying::{compare_lent, engines_replies};
 use std::process::ExitCode;
 

@@ -11,18 +11,19 @@
 //! were, who moved by closings, and how much was cut. The exit status is 0 only if no group differs, and
 //! nothing of settlings, buffers and moves is too rare among the records settled again.
 
-#[path = "../engine.rs"]
+#[path = "../comparisons/engine.rs"]
 mod engine;
-#[path = "../replaying.rs"]
+#[path = "../comparisons/replaying.rs"]
 mod replaying;
 
-use independent::cutting::{cancelled, refused, without};
+use independent::comparisons::report::{few, inputs, verdict, Group};
+use independent::coverage::Buffer;
+use independent::generators::cutting::{cancelled, refused, without};
+use independent::generators::random::Random;
+use independent::generators::records::{edges, fixed, records_of, repeated_record, Records};
+use independent::generators::sample;
+use independent::model::replay::{fields, lines, read_call, replay, Call};
 use independent::parts::in_parts;
-use independent::random::Random;
-use independent::records::{edges, fixed, records_of, repeated_record, Records};
-use independent::replay::{fields, lines, read_call, replay, Call};
-use independent::report::{few, inputs, verdict, Buffer, Group};
-use independent::sample;
 use replaying::{compare_lent, engines_replies};
 use std::collections::BTreeSet;
 use std::process::ExitCode;

@@ -3,11 +3,11 @@
 //! One line a group of records: what was printed by kind and answer, and `ok` or the first
 //! difference. The exit status is 0 only if no group differs.
 
-use independent::program::{run, AT_ONCE};
-use independent::records::{edges, records_of, Records};
-use independent::replay::printed;
-use independent::report::{few, inputs, verdict, Group};
-use independent::sample;
+use independent::comparisons::program::{run, AT_ONCE};
+use independent::comparisons::report::{few, inputs, verdict, Group};
+use independent::generators::records::{edges, records_of, Records};
+use independent::generators::sample;
+use independent::model::replay::printed;
 use std::process::{Command, ExitCode, Output};
 
 fn main() -> ExitCode {

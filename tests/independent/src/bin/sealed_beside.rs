@@ -5,12 +5,14 @@
 //! the refusals show. The exit status is 0 only if no group differs and nothing of that is too rare
 //! among the random auctions.
 
-#[path = "../engine.rs"]
+#[path = "../comparisons/engine.rs"]
 mod engine;
 
-use independent::lent::{difference, lend};
-use independent::report::{few, verdict, Compared, Opened, SEALED};
-use independent::sealed::{generated, stated, write_awards, Awards};
+use independent::comparisons::report::{few, verdict, Compared};
+use independent::coverage::{Opened, SEALED};
+use independent::generators::lent::{difference, lend};
+use independent::generators::sealed::{generated, stated};
+use independent::model::sealed::{write_awards, Awards};
 use std::process::ExitCode;
 
 /// Random auctions.

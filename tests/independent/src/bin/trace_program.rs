@@ -4,13 +4,13 @@
 //! their words were, how the searches of those that settle went, and what their closings did to the
 //! supply curve. The exit status is 0 only if no group differs.
 
-use independent::program::{run, AT_ONCE};
-use independent::records::{edges, fixed, records_of, Records};
-use independent::replay::{lines, PROGRAM_BYTES};
-use independent::report::{few, inputs, verdict, Group};
-use independent::sample;
-use independent::shuffling::Order;
-use independent::trace::traced_with_settlement;
+use independent::comparisons::program::{run, AT_ONCE};
+use independent::comparisons::report::{few, inputs, verdict, Group};
+use independent::generators::records::{edges, fixed, records_of, Records};
+use independent::generators::sample;
+use independent::generators::shuffling::Order;
+use independent::model::replay::{lines, PROGRAM_BYTES};
+use independent::model::trace::traced_with_settlement;
 use std::process::{Command, ExitCode, Output};
 
 fn main() -> ExitCode {

@@ -5,18 +5,18 @@
 //! One line a kind of call: how often each behaviour was reached, and `ok` or the first
 //! difference; then the line of the records. The exit status is 0 only if nothing differs.
 
-#[path = "../engine.rs"]
+#[path = "../comparisons/engine.rs"]
 mod engine;
 
-use independent::auction::Auction;
-use independent::calls::{behaviour, buffer, call, kinds};
-use independent::lent::{difference, lend, MARGIN};
-use independent::random::Random;
-use independent::replay::{
+use independent::comparisons::report::{inputs, verdict, Group};
+use independent::generators::calls::{behaviour, buffer, call, kinds};
+use independent::generators::lent::{difference, lend, MARGIN};
+use independent::generators::random::Random;
+use independent::generators::sample;
+use independent::model::auction::Auction;
+use independent::model::replay::{
     fields, kind_of, lines, make, read_call, reply_of, write_frame, Call, Fields,
 };
-use independent::report::{inputs, verdict, Group};
-use independent::sample;
 use std::collections::BTreeMap;
 use std::process::ExitCode;
 

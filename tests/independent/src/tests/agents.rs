@@ -2,11 +2,11 @@
 //! other sums, wrong readings of the rule, and what does not go by agents.
 
 use super::{each_step, RECORDS, SETTLINGS};
-use crate::auction::{Auction, Developer, EXISTING, NEW};
-use crate::cutting::refused;
-use crate::records::with_agent;
-use crate::replay::{kind_of, lines, make, read_call, replay, write_call, Call};
-use crate::settling::Settlement;
+use crate::generators::cutting::refused;
+use crate::generators::records::with_agent;
+use crate::model::auction::{Auction, Developer, EXISTING, NEW};
+use crate::model::replay::{kind_of, lines, make, read_call, replay, write_call, Call};
+use crate::model::settling::Settlement;
 use std::collections::BTreeMap;
 
 /// With sums agent by agent: less for small agents than for others.
@@ -36,7 +36,7 @@ fn generated_settlings() {
             .partition(|(agent, _)| existing[agent] * 20 < d * 3);
         let sum = |awards: Vec<(u8, u128)>| awards.iter().map(|award| award.1).sum::<u128>();
         assert_eq!(settlement.insufficient, sum(small) < sum(others));
-        let p = settlement.closing_price;
+        let p = settlement.price;
         let above = 10 * p > 11 * auction.settings().ce;
         if settlement.insufficient && above {
             let less = 11 * auction.settings().ce - 10 * settlement.paid;
@@ -86,7 +86,7 @@ const WRONG_READINGS: &[(&str, Reading)] = &[
         let insufficient = whole > 0 && 2 * small <= whole;
         (
             insufficient,
-            auction.paid_to_existing(settlement.closing_price, insufficient),
+            auction.paid_to_existing(settlement.price, insufficient),
         )
     }),
     ("half of the whole award", |auction, settlement| {
@@ -94,27 +94,27 @@ const WRONG_READINGS: &[(&str, Reading)] = &[
         let insufficient = 2 * small < settlement.total;
         (
             insufficient,
-            auction.paid_to_existing(settlement.closing_price, insufficient),
+            auction.paid_to_existing(settlement.price, insufficient),
         )
     }),
     ("always the lower", |auction, settlement| {
-        let paid = auction.paid_to_existing(settlement.closing_price, true);
+        let paid = auction.paid_to_existing(settlement.price, true);
         (settlement.insufficient, paid)
     }),
     ("never the lower", |_, settlement| {
-        (settlement.insufficient, settlement.closing_price)
+        (settlement.insufficient, settlement.price)
     }),
     ("CE × 11 / 10 above P", |auction, settlement| {
         let paid = if settlement.insufficient {
             auction.most_paid()
         } else {
-            settlement.closing_price
+            settlement.price
         };
         (settlement.insufficient, paid)
     }),
     ("rounded up", |auction, settlement| {
         let most = (11 * auction.settings().ce).div_ceil(10);
-        let p = settlement.closing_price;
+        let p = settlement.price;
         let paid = if settlement.insufficient {
             p.min(most)
         } else {
@@ -155,7 +155,7 @@ fn with_mark(
 ) -> (bool, u64) {
     let (small, whole) = new_award(auction, settlement, small);
     let insufficient = 2 * small < whole;
-    let paid = auction.paid_to_existing(settlement.closing_price, insufficient);
+    let paid = auction.paid_to_existing(settlement.price, insufficient);
     (insufficient, paid)
 }
 

@@ -1,10 +1,10 @@
 //! What document 01's rules imply for settlings, on those of generated records.
 
 use super::{choices, each_step, RECORDS, SETTLINGS};
-use crate::auction::{Auction, Developer};
-use crate::cutting::{refused, without};
-use crate::replay::replay;
-use crate::settling::{Award, Settlement};
+use crate::generators::cutting::{refused, without};
+use crate::model::auction::{Auction, Developer};
+use crate::model::replay::replay;
+use crate::model::settling::{Award, Settlement};
 use std::cmp::Reverse;
 
 fn each_settling(mut visit: impl FnMut(&Auction, &Settlement)) {
@@ -26,7 +26,7 @@ fn each_short_settling(mut visit: impl FnMut(&Auction, &Settlement)) {
 #[test]
 fn highs_are_lows_above() {
     each_settling(|auction, settlement| {
-        let p = settlement.closing_price;
+        let p = settlement.price;
         for developer in auction.developers().values() {
             for p in [p.saturating_sub(1), p, p + 1] {
                 assert_eq!(developer.high(p), developer.low(p + 1));
@@ -45,7 +45,7 @@ const LONGEST_WALK: u64 = 3_000;
 fn closing_price_is_the_walk() {
     let mut walked = 0;
     each_settling(|auction, settlement| {
-        let p = settlement.closing_price;
+        let p = settlement.price;
         let last_c = auction.last_c().expect("a closed round");
         let passed = last_c..=auction.settings().a;
         let covered_from_p = |price: u64| auction.covered(price) == (price >= p);
@@ -74,7 +74,7 @@ fn closing_price_after_an_excess() {
         let last_c = auction.last_c().expect("a closed round");
         let demand = auction.settings().demand(last_c);
         if auction.supply() >= demand {
-            assert_eq!(settlement.closing_price, last_c);
+            assert_eq!(settlement.price, last_c);
             assert_eq!(settlement.covering, settlement.choices);
             let excess = auction.supply() - demand;
             from_1_to_999 += u64::from((1..=999).contains(&excess));
@@ -97,7 +97,7 @@ fn awarded_levels(auction: &Auction, settlement: &Settlement) -> Vec<u64> {
 #[test]
 fn award_among_all_choices() {
     each_short_settling(|auction, settlement| {
-        let choices = choices(auction, settlement.closing_price);
+        let choices = choices(auction, settlement.price);
         let total = |choice: &Vec<u64>| choice.iter().sum::<u64>();
         let covers = |choice: &&Vec<u64>| total(choice) >= settlement.demand;
         let covering: Vec<&Vec<u64>> = choices.iter().filter(covers).collect();
@@ -106,7 +106,7 @@ fn award_among_all_choices() {
         let award = awarded_levels(auction, settlement);
         assert!(covering.contains(&&award));
         assert_eq!(settlement.total, total(&award));
-        let (settings, p) = (auction.settings(), settlement.closing_price);
+        let (settings, p) = (auction.settings(), settlement.price);
         assert_eq!(settlement.demand, settings.demand(p));
         assert_eq!(settlement.remainder, settings.remainder(p));
         for other in covering {
@@ -125,7 +125,7 @@ fn award_among_all_choices() {
 #[test]
 fn open_levels_by_definition() {
     each_settling(|auction, settlement| {
-        let p = settlement.closing_price;
+        let p = settlement.price;
         let open = auction.open_levels(p);
         for (project, developers) in auction.projects() {
             let open = &open[&project];
@@ -147,7 +147,7 @@ fn open_levels_by_definition() {
 #[test]
 fn awarded_developers() {
     each_settling(|auction, settlement| {
-        let p = settlement.closing_price;
+        let p = settlement.price;
         let awards = &settlement.awards;
         assert!(awards.is_sorted_by(|before, after| before.project < after.project));
         for &Award {
@@ -157,7 +157,7 @@ fn awarded_developers() {
         } in awards
         {
             let awarded = &auction.developers()[&developer];
-            let rank = |d: &Developer| (Reverse(d.study_value), d.start_day, d.number);
+            let rank = |d: &Developer| (Reverse(d.study), d.day, d.number);
             assert!(quantity > 0 && awarded.project == project);
             assert!(awarded.levels.contains(&quantity));
             assert!((awarded.low(p)..=awarded.high(p)).contains(&quantity));

@@ -2,10 +2,10 @@
 //! others say, and the answer has to be the first in the paper's order that fails.
 
 use super::{each_step, Step, RECORDS};
-use crate::auction::{Auction, Developer, Phase, EXISTING, NEW};
-use crate::demand;
-use crate::replay::{kind_of, Call};
-use crate::settling::number_of_choices;
+use crate::model::auction::{Auction, Developer, Phase, EXISTING, NEW};
+use crate::model::demand::demand;
+use crate::model::replay::{kind_of, Call};
+use crate::model::settling::number_of_choices;
 use std::collections::BTreeMap;
 
 /// The checks of each call in order, with whether each one fails.
@@ -13,11 +13,9 @@ fn failing(auction: &Auction, call: &Call) -> Vec<(u8, bool)> {
     let phase = auction.phase();
     let out_of_phase = match call {
         Call::SetUp { .. } => *phase != Phase::Fresh,
-        Call::Register { .. } | Call::Lodge { .. } => *phase != Phase::Registering,
-        Call::Open { .. } => !matches!(phase, Phase::Registering | Phase::BetweenRounds),
-        Call::Offer { .. } | Call::Cancel { .. } | Call::Close => {
-            !matches!(phase, Phase::RoundOpen(_))
-        }
+        Call::Register { .. } | Call::Lodge { .. } => *phase != Phase::Ready,
+        Call::Open { .. } => !matches!(phase, Phase::Ready | Phase::Between),
+        Call::Offer { .. } | Call::Cancel { .. } | Call::Close => !matches!(phase, Phase::Round(_)),
         Call::Settle { .. } => *phase != Phase::Closed,
     };
     let mut checks = vec![(2, out_of_phase)];
@@ -76,7 +74,7 @@ fn registration(auction: &Auction, call: &Call) -> Vec<(u8, bool)> {
 
 fn opening(auction: &Auction, c: u64) -> Vec<(u8, bool)> {
     let settings = auction.settings();
-    let first = *auction.phase() == Phase::Registering;
+    let first = *auction.phase() == Phase::Ready;
     vec![
         (5, c < settings.floor() || c >= auction.opening_price()),
         (9, first && auction.supply() < settings.demand(settings.a)),
@@ -94,9 +92,9 @@ fn offer(auction: &Auction, call: &Call) -> Vec<(u8, bool)> {
     };
     let known = auction.developers().get(developer);
     let (c, opening_price, second) = match auction.phase() {
-        Phase::RoundOpen(round) => (
-            round.c,
-            round.opening_price,
+        Phase::Round(round) => (
+            round.closing,
+            round.opening,
             round.offers.contains_key(developer),
         ),
         _ => (0, u64::MAX, false),
@@ -130,7 +128,7 @@ fn lodging(auction: &Auction, call: &Call) -> Vec<(u8, bool)> {
 fn cancellation(auction: &Auction, developer: u8) -> Vec<(u8, bool)> {
     let known = auction.developers().get(&developer);
     let standing = match auction.phase() {
-        Phase::RoundOpen(round) => round.offers.contains_key(&developer),
+        Phase::Round(round) => round.offers.contains_key(&developer),
         _ => false,
     };
     vec![

@@ -1,14 +1,14 @@
 //! Who can force the price (document 02, request 11): each sentence of it in games worked out by hand,
 //! and what the rules imply for it on generated ones. The stated games say what demand and supply are.
 
-use crate::auction::{Auction, Developer, Phase};
-use crate::forcing::Move::{self, Keep, Withdraw};
-use crate::forcing::{who_can_force, Forced, Game, MOST_PRICES_TRIED};
-use crate::games::question;
-use crate::games::stated::{between_rounds, questions, written, TEN};
-use crate::lent::lend;
-use crate::replay::{auction_after, make, write_call, Call};
-use crate::report::Asked;
+use crate::coverage::Asked;
+use crate::generators::games::question;
+use crate::generators::games::stated::{between_rounds, questions, written, TEN};
+use crate::generators::lent::lend;
+use crate::model::auction::{Auction, Developer, Phase};
+use crate::model::forcing::Move::{self, Keep, Withdraw};
+use crate::model::forcing::{who_can_force, Forced, Game, MOST_PRICES_TRIED};
+use crate::model::replay::{auction_after, make, write_call, Call};
 use crate::{host_number, BUFFER_TOO_SHORT, NOT_IN_THIS_PHASE, NO_SUCH_GAME};
 use std::sync::LazyLock;
 
@@ -335,7 +335,7 @@ fn outcomes_by_quantities() {
 fn first_failing_check_answers() {
     for asked in ASKED.iter() {
         let auction = auction_after(&asked.question.record);
-        let expected = if *auction.phase() != Phase::BetweenRounds {
+        let expected = if *auction.phase() != Phase::Between {
             Some(NOT_IN_THIS_PHASE)
         } else if !asked.causes().is_empty() {
             Some(NO_SUCH_GAME)

@@ -1,8 +1,8 @@
 //! Frames by bytes: what is a line, what is a frame, and which calls frames make.
 
-use crate::records::with_agent;
-use crate::replay::{lines, next_line, read_call, replay, write_call, Call};
-use crate::sample::{RECORD, REPLY};
+use crate::generators::records::with_agent;
+use crate::generators::sample::{RECORD, REPLY};
+use crate::model::replay::{lines, next_line, read_call, replay, write_call, Call};
 
 /// The sample's lines up to and with its opening; registrations stand second to fifth.
 const REGISTERED: usize = 5;
@@ -80,8 +80,8 @@ fn calls_of_the_sample() {
             developer: 2,
             kind: 2,
             agent: None,
-            study_value: 400,
-            start_day: 10,
+            study: 400,
+            day: 10,
             levels: vec![100, 200]
         }
     );
@@ -133,8 +133,8 @@ fn widest_fields() {
         developer: 255,
         kind: 255,
         agent: None,
-        study_value: u32::MAX,
-        start_day: u32::MAX,
+        study: u32::MAX,
+        day: u32::MAX,
         levels: vec![u32::MAX],
     };
     let line = format!("02{}01FFFFFFFF", "F".repeat(22));

@@ -1,15 +1,15 @@
 //! Seats in the auction hall (document 02, request 14): each sentence of it in runs worked out by hand,
 //! what it says of all runs on generated ones, and that the comparisons report what differs.
 
-use crate::auction::Withdrawal;
-use crate::hall::beside::{difference, groups, input, pair_difference, parts};
-use crate::hall::lines::{events, printed, Event, Line};
-use crate::hall::pairs::{pair, Pair};
-use crate::hall::runs::run;
-use crate::hall::stated::runs;
-use crate::hall::views::{view, Run, Shown};
-use crate::hall::{Answer, Call, Hall, Published, Reading, Seat};
-use crate::replay::{self, PROGRAM_BYTES};
+use crate::comparisons::hall::{difference, groups, input, pair_difference, parts};
+use crate::generators::hall::pairs::{pair, Pair};
+use crate::generators::hall::runs::run;
+use crate::generators::hall::stated::runs;
+use crate::model::auction::Withdrawal;
+use crate::model::hall::lines::{events, printed, Event, Line};
+use crate::model::hall::views::{view, Run, Shown};
+use crate::model::hall::{Answer, Call, Hall, Published, Reading, Seat};
+use crate::model::replay::{self, PROGRAM_BYTES};
 use crate::NO_RIGHT;
 use std::collections::BTreeMap;
 use std::iter::zip;
@@ -196,9 +196,9 @@ impl Told {
                 developer, levels, ..
             } => drop(self.levels.insert(*developer, wide(levels))),
             replay::Call::Open { c } => {
-                let last_c = self.published.c;
-                self.published.opening_price = if last_c == 0 { self.a } else { last_c };
-                self.published.c = (*c).into();
+                let last_c = self.published.closing;
+                self.published.opening = if last_c == 0 { self.a } else { last_c };
+                self.published.closing = (*c).into();
                 self.published.phase = 2;
             }
             replay::Call::Offer {
@@ -264,10 +264,10 @@ const OFFERED: [&str; 4] = [
 #[test]
 fn view_of_the_sample() {
     let run = read(&[&OPENED[..], &OFFERED].concat());
-    let published = |opening_price, c, excess, phase| {
+    let published = |opening, closing, excess, phase| {
         Shown::Published(Published {
-            opening_price,
-            c,
+            opening,
+            closing,
             excess,
             phase,
         })

@@ -4,9 +4,9 @@
 use super::{
     close, each_step, sample_opened, sample_registered, sample_set_up, RECORDS, SETTLINGS,
 };
-use crate::auction::{Auction, Developer, Phase, Withdrawal, EXISTING, NEW};
-use crate::replay::Call;
-use crate::settling::Settlement;
+use crate::model::auction::{Auction, Developer, Phase, Withdrawal, EXISTING, NEW};
+use crate::model::replay::Call;
+use crate::model::settling::Settlement;
 
 /// The sample's settings with existing plants of these levels, each of the project of its number.
 fn existing(plants: &[&[u32]]) -> Auction {
@@ -45,12 +45,12 @@ fn settled(auction: &Auction) -> Settlement {
 fn prices(auction: &Auction) -> (u64, u64, bool) {
     let settlement = settled(auction);
     let Settlement {
-        closing_price,
-        second_price,
+        price,
+        second,
         short,
         ..
     } = settlement;
-    (closing_price, second_price, short)
+    (price, second, short)
 }
 
 #[test]
@@ -63,7 +63,7 @@ fn between_set_up_and_the_first_round() {
     }
     let mut auction = existing(&[&[3_000]]);
     assert!(round(&mut auction, 30_000) > 1_000);
-    assert_eq!(*auction.phase(), Phase::BetweenRounds);
+    assert_eq!(*auction.phase(), Phase::Between);
     assert_eq!(auction.lodge(1, &[], &[]), Err(2));
     // A refused opening leaves the time of lodging as it was.
     let mut short = existing(&[&[899]]);
@@ -261,7 +261,7 @@ fn second_prices() {
             auction.settings().a,
             auction.last_c().expect("a closed round"),
         );
-        let (first, second) = (settlement.closing_price, settlement.second_price);
+        let (first, second) = (settlement.price, settlement.second);
         assert!(second >= first);
         let out = |d: &Developer| applied_step(auction, d);
         let none = !auction.developers().values().any(out);

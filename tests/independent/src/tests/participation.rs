@@ -2,11 +2,11 @@
 //! small, when participation is sufficient, and what existing plants are paid.
 
 use super::{close, sample_closed, sample_opened, sample_set_up};
-use crate::auction::{Auction, EXISTING, HIGHEST_LEVEL, NEW};
-use crate::direct::printed;
-use crate::records::fixed;
-use crate::replay::replay;
-use crate::settling::{Award, Settlement};
+use crate::generators::records::fixed;
+use crate::model::auction::{Auction, EXISTING, HIGHEST_LEVEL, NEW};
+use crate::model::direct::printed;
+use crate::model::replay::replay;
+use crate::model::settling::{Award, Settlement};
 
 /// A plant: developer, which is also its project, kind, agent and level.
 type Plant = (u8, u8, u8, u32);
@@ -41,7 +41,7 @@ fn settled(mut auction: Auction, c: u32, leave_at: u32) -> Settlement {
 /// The mark and the price paid where new plants leave at 26,000; 22,000 is CE × 11 / 10.
 fn marked(plants: &[Plant]) -> (bool, u64) {
     let settlement = settled(registered(plants), 25_000, 26_000);
-    assert_eq!(settlement.closing_price, 26_000);
+    assert_eq!(settlement.price, 26_000);
     (settlement.insufficient, settlement.paid)
 }
 
@@ -262,7 +262,7 @@ fn paid() {
         for (agent, insufficient, paid) in [(1, true, paid), (2, false, price)] {
             let plants = [(1, EXISTING, 1, 820), (2, NEW, agent, 300)];
             let settlement = settled(registered(&plants), 20_000, price as u32);
-            assert_eq!(settlement.closing_price, price);
+            assert_eq!(settlement.price, price);
             assert_eq!(
                 (settlement.insufficient, settlement.paid),
                 (insufficient, paid)

@@ -1,9 +1,9 @@
 //! What document 01's rules imply for the ledger and the replies, on generated records.
 
 use super::{each_step, Step, RECORDS};
-use crate::auction::{Auction, Closing, Phase, EXISTING};
-use crate::records::{edges, record};
-use crate::replay::{lines, replay, replay_into, Accepted, Call, PROGRAM_BYTES};
+use crate::generators::records::{edges, record};
+use crate::model::auction::{Auction, Closing, Phase, EXISTING};
+use crate::model::replay::{lines, replay, replay_into, Accepted, Call, PROGRAM_BYTES};
 use crate::{host_number, BUFFER_TOO_SHORT};
 
 /// How many of the records are looked at.
@@ -34,7 +34,7 @@ fn refused_calls_and_settlings_change_nothing() {
 #[test]
 fn a_stays_covered() {
     each_line(|step| {
-        if !matches!(step.after.phase(), Phase::Fresh | Phase::Registering) {
+        if !matches!(step.after.phase(), Phase::Fresh | Phase::Ready) {
             assert!(step.after.covered(step.after.settings().a));
         }
     });
@@ -64,7 +64,7 @@ fn excess_and_phase_agree() {
         let phase = if closed {
             Phase::Closed
         } else {
-            Phase::BetweenRounds
+            Phase::Between
         };
         assert_eq!(*after.phase(), phase);
     });

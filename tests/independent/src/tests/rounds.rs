@@ -1,7 +1,7 @@
 //! Rounds by calls: phases, offers, missing offers, the excess and when the auction closes.
 
 use super::{close, sample_closed, sample_opened, sample_registered, sample_set_up};
-use crate::auction::{Auction, Phase, Withdrawal, EXISTING, NEW};
+use crate::model::auction::{Auction, Phase, Withdrawal, EXISTING, NEW};
 
 /// The withdrawals of a developer, as (price, level).
 fn history(auction: &Auction, developer: u8) -> Vec<(u64, u64)> {
@@ -72,7 +72,7 @@ fn greatest_of_a_project() {
     let (auction, excess) = all_stay(30_000);
     assert_eq!(auction.supply(), 2_170);
     assert_eq!(excess, 2_170 - 950);
-    assert_eq!(*auction.phase(), Phase::BetweenRounds);
+    assert_eq!(*auction.phase(), Phase::Between);
     // 500 and 500 on one project do not cover the 900 at A.
     let mut short = sample_set_up();
     for developer in [1, 2] {
@@ -140,10 +140,10 @@ fn when_closed() {
         (1, Phase::Closed),
         (998, Phase::Closed),
         (999, Phase::Closed),
-        (1_000, Phase::BetweenRounds),
-        (1_001, Phase::BetweenRounds),
-        (1_999, Phase::BetweenRounds),
-        (1_000_000, Phase::BetweenRounds),
+        (1_000, Phase::Between),
+        (1_001, Phase::Between),
+        (1_999, Phase::Between),
+        (1_000_000, Phase::Between),
     ] {
         for (c, demand) in [(29_999, 951), (30_000, 950), (10_050, 1_199)] {
             let plant = u32::try_from(demand + excess).expect("a level");
@@ -154,7 +154,7 @@ fn when_closed() {
     }
     let plenty = 1_000_000_000;
     let (excess, phase) = closed_at(10_001, plenty);
-    assert_eq!((excess, phase), (999_998_800, Phase::BetweenRounds));
+    assert_eq!((excess, phase), (999_998_800, Phase::Between));
     let (excess, phase) = closed_at(10_000, plenty);
     assert_eq!((excess, phase), (999_998_800, Phase::Closed));
 }
@@ -193,7 +193,7 @@ fn closing_price_after_an_excess() {
         assert_eq!(*auction.phase() == Phase::Closed, excess <= 999);
         if excess <= 999 {
             let settlement = auction.settle(2, &mut [0; 192]).expect("two choices");
-            assert_eq!((settlement.closing_price, settlement.demand), (30_000, 950));
+            assert_eq!((settlement.price, settlement.demand), (30_000, 950));
             assert_eq!((settlement.choices, settlement.covering), (2, 2));
             assert_eq!(settlement.total, u64::from(plant) + 100);
         }

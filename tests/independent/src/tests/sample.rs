@@ -2,9 +2,9 @@
 //! the records with lodged lists, with cancellations and with agents.
 
 use super::sample_closed;
-use crate::replay::{lines, replay, replay_into};
-use crate::sample::{CANCELLED, LODGED, PARTICIPATION, RECORD, REPLY};
-use crate::settling::Award;
+use crate::generators::sample::{CANCELLED, LODGED, PARTICIPATION, RECORD, REPLY};
+use crate::model::replay::{lines, replay, replay_into};
+use crate::model::settling::Award;
 
 #[test]
 fn whole_reply() {
@@ -61,12 +61,12 @@ fn settled_by_calls() {
     let settlement = auction
         .settle(100, &mut buffer)
         .expect("the sample settles");
-    assert_eq!(settlement.closing_price, 26_000);
+    assert_eq!(settlement.price, 26_000);
     assert_eq!(settlement.demand, 970);
     assert_eq!(settlement.total, 1_020);
     assert_eq!((settlement.choices, settlement.covering), (4, 3));
     assert_eq!(settlement.remainder, 0);
-    assert_eq!((settlement.second_price, settlement.short), (26_000, false));
+    assert_eq!((settlement.second, settlement.short), (26_000, false));
     assert_eq!((settlement.insufficient, settlement.paid), (false, 26_000));
     let award = |project, developer, quantity| Award {
         project,

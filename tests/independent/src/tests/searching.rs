@@ -2,9 +2,9 @@
 //! books that are written out, and beside searches that are wrong in one thing.
 
 use super::{sample_closed, SETTLINGS};
-use crate::records::{easy_book, hard_book};
-use crate::settling::{kept, Settlement};
-use crate::trace::traced_with_settlement;
+use crate::generators::records::{easy_book, hard_book};
+use crate::model::settling::{kept, Settlement};
+use crate::model::trace::traced_with_settlement;
 use std::cmp::Reverse;
 use std::collections::BTreeMap;
 
@@ -55,7 +55,7 @@ fn ordered<K: Ord>(open: &Open, key: impl Fn((u8, u64)) -> K) -> Vec<Project> {
 fn each_short_settling(mut visit: impl FnMut(&Open, &Settlement)) {
     for (auction, settlement) in &*SETTLINGS {
         if settlement.choices <= 1_024 {
-            visit(&auction.open_levels(settlement.closing_price), settlement);
+            visit(&auction.open_levels(settlement.price), settlement);
         }
     }
 }

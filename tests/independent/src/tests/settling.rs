@@ -2,8 +2,8 @@
 //! awarded levels, limits and buffers. The paper's plausible errors among them.
 
 use super::{close, sample_closed, sample_opened, sample_registered, sample_set_up};
-use crate::auction::{Auction, EXISTING, NEW};
-use crate::settling::{number_of_choices, Award, Settlement};
+use crate::model::auction::{Auction, EXISTING, NEW};
+use crate::model::settling::{number_of_choices, Award, Settlement};
 
 /// A developer's fall: project, number, study value, start day, levels, new level.
 type Fall<'a> = (u8, u8, u32, u32, &'a [u32], u32);
@@ -13,8 +13,8 @@ type Fall<'a> = (u8, u8, u32, u32, &'a [u32], u32);
 fn closed_after(existing: u32, falls: &[Fall]) -> Auction {
     let mut auction = sample_set_up();
     let mut answers = vec![auction.register(32, 32, EXISTING, 0, 0, &[existing])];
-    for &(project, developer, study_value, start_day, levels, _) in falls {
-        answers.push(auction.register(project, developer, NEW, study_value, start_day, levels));
+    for &(project, developer, study, day, levels, _) in falls {
+        answers.push(auction.register(project, developer, NEW, study, day, levels));
     }
     answers.push(auction.open(30_000));
     for &(_, developer, _, _, levels, to) in falls {
@@ -31,7 +31,7 @@ fn fallen(existing: u32, falls: &[Fall]) -> (Auction, Settlement) {
     let auction = closed_after(existing, falls);
     let settled = auction.settle(65_536, &mut [0; 192]);
     let settlement = settled.expect("choices within the limit");
-    assert_eq!(settlement.closing_price, 30_000);
+    assert_eq!(settlement.price, 30_000);
     (auction, settlement)
 }
 
@@ -202,7 +202,7 @@ fn developers_without_the_level() {
         assert_eq!(answer, Ok(()));
     }
     let settlement = auction.settle(2, &mut [0; 192]).expect("two choices");
-    assert_eq!(settlement.closing_price, 30_000);
+    assert_eq!(settlement.price, 30_000);
     assert_eq!(awards(&settlement), [(1, 1, 850), (2, 3, 100)]);
 }
 

@@ -2,14 +2,14 @@
 //! The shares are printed: cargo test --lib --release shares -- --nocapture
 
 use super::{each_step, Step, RECORDS};
-use crate::auction::Auction;
-use crate::records::DECISIVE;
-use crate::replay::{always_fits, lines, replay, Accepted, Call};
-use crate::report::{
+use crate::coverage::{
     Cancellations, Closings, Features, Lodgings, Participation, Redrawn, Remainders,
 };
-use crate::report::{CANCELLATIONS, CURVES, LODGINGS, PARTICIPATION};
-use crate::settling::{Award, Settlement};
+use crate::coverage::{CANCELLATIONS, CURVES, LODGINGS, PARTICIPATION};
+use crate::generators::records::DECISIVE;
+use crate::model::auction::Auction;
+use crate::model::replay::{always_fits, lines, replay, Accepted, Call};
+use crate::model::settling::{Award, Settlement};
 use std::collections::BTreeMap;
 
 /// What the replies to the records say, counted.
@@ -184,14 +184,14 @@ impl Settled {
     fn choices_of_the_total(&self) -> usize {
         let Settlement {
             choices,
-            closing_price,
+            price,
             total,
             ..
         } = self.settlement;
         if choices > 4_096 {
             return 0;
         }
-        let listed = super::choices(&self.auction, closing_price);
+        let listed = super::choices(&self.auction, price);
         let totals = listed.iter().map(|choice| choice.iter().sum::<u64>());
         totals.filter(|&other| other == total).count()
     }
@@ -214,7 +214,7 @@ impl Settled {
     fn having(&self, award: &Award) -> Vec<u8> {
         let developers = self.auction.projects().remove(&award.project);
         let mut developers = developers.expect("an awarded project");
-        developers.retain(|d| d.has_open(award.quantity, self.settlement.closing_price));
+        developers.retain(|d| d.has_open(award.quantity, self.settlement.price));
         developers
             .iter()
             .map(|developer| developer.number)
@@ -239,7 +239,7 @@ impl Settled {
 
     /// Whether the highs at P are just the demand.
     fn just_covered(&self) -> bool {
-        let p = self.settlement.closing_price;
+        let p = self.settlement.price;
         self.auction.sum_of_greatest(|developer| developer.high(p)) == self.settlement.demand
     }
 
@@ -281,14 +281,10 @@ const FEATURES: &[Feature] = &[
     ("closed at 999", |s| s.excess() == 999),
     ("closed at 1,000, the floor", |s| s.excess() == 1_000),
     ("highs at P are demand", Settled::just_covered),
-    ("P is A", |s| {
-        s.settlement.closing_price == s.auction.settings().a
-    }),
-    ("P is the last C", |s| {
-        s.settlement.closing_price == s.last_c()
-    }),
+    ("P is A", |s| s.settlement.price == s.auction.settings().a),
+    ("P is the last C", |s| s.settlement.price == s.last_c()),
     ("no withdrawal at P", |s| {
-        !s.withdrawal_at(s.settlement.closing_price)
+        !s.withdrawal_at(s.settlement.price)
     }),
     ("missing in round 1", |s| {
         s.withdrawal_at(s.auction.settings().a)

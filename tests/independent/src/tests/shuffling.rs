@@ -2,12 +2,12 @@
 //! what the rules imply for it.
 
 use super::{each_step, Step, RECORDS};
-use crate::auction::{Auction, Phase};
-use crate::records::fixed;
-use crate::replay::{lines, replay, Call};
-use crate::report::{Features, PASSAGES};
-use crate::sample::{RECORD, REPLY};
-use crate::shuffling::Order;
+use crate::coverage::{Features, PASSAGES};
+use crate::generators::records::fixed;
+use crate::generators::sample::{RECORD, REPLY};
+use crate::generators::shuffling::Order;
+use crate::model::auction::{Auction, Phase};
+use crate::model::replay::{lines, replay, Call};
 use std::collections::{BTreeMap, BTreeSet};
 
 /// The sample with these lines in place of its offers.
@@ -26,7 +26,7 @@ fn closing_with(offers: &[&str]) -> String {
 
 /// The developer whose line it is, if it asks an offer or a cancellation in an open round.
 fn developer_in_round(step: &Step) -> Option<u8> {
-    let open = matches!(step.before.phase(), Phase::RoundOpen(_));
+    let open = matches!(step.before.phase(), Phase::Round(_));
     match step.call? {
         Call::Offer { developer, .. } | Call::Cancel { developer } if open => Some(*developer),
         _ => None,

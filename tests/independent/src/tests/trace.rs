@@ -1,9 +1,9 @@
 //! What the program `trace` prints, written out.
 
-use crate::records::edges;
-use crate::replay::{lines, replay, PROGRAM_BYTES};
-use crate::sample::{LODGED, PARTICIPATION, RECORD, TRACE};
-use crate::trace::traced;
+use crate::generators::records::edges;
+use crate::generators::sample::{LODGED, PARTICIPATION, RECORD, TRACE};
+use crate::model::replay::{lines, replay, PROGRAM_BYTES};
+use crate::model::trace::traced;
 
 #[test]
 fn sample() {

@@ -4,22 +4,16 @@ use mir.Facts.{toZ-ofZ}
 use mir.Syntax.{w64}
 use mir.Val.{SFits}
 use borrow.Author.Needs.{needs}
-use Rattle.seats.specs.Seats.{mayMake}
-use Rattle.auction.specs.Called.{closingIn}
+use Rattle.rules_seats.specs.Seats.{mayMake}
+use Rattle.engine_auction.specs.Called.{closingIn}
 use Rattle.hall.proofs.Calls.{barred-call}
 use Rattle.hall.proofs.Closing.{closing-made}
 use Rattle.hall.proofs.Hall.close.Statement.{statement}
 use Rattle.hall.proofs.Hall.close.Tie as tie
 
-conducts-requires : tie.Need-conducts-requires
-conducts-requires c κs = search needs
-
 returns : tie.Need-returns
 unfolding mayMake
 returns c = barred-call _ _ _ _ (c .before .conducts .ensures) (c .if1 .taken)
-
-close-requires : tie.Need-close-requires
-close-requires c κs = search needs
 
 returns-2 : tie.Need-returns-2
 unfolding mayMake
@@ -32,4 +26,8 @@ returns-2 c =
     (⊎-elim (λ w. inl (w .0 .taken, w .2)) (λ w. inr (w .0 .left, w .1)) (c .before .if2 .came))
 
 pub close-spec : {M : Type 1} → statement M
-close-spec = tie.close (tie.spec conducts-requires returns close-requires returns-2)
+close-spec = tie.close (tie.spec
+    (λ c κs. search needs)
+    returns
+    (λ c κs. search needs)
+    returns-2)

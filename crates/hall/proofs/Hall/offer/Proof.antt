@@ -1,26 +1,14 @@
 -- An offer: barred, or the auction's.
 use mathlib.Core.Path.{refl}
 use borrow.Author.Needs.{needs}
-use Rattle.seats.specs.Seats.{mayMake, latestExcess}
+use Rattle.rules_seats.specs.Seats.{mayMake, latestExcess}
 use Rattle.hall.proofs.Calls.{barred-call, made-call}
 use Rattle.hall.proofs.Hall.offer.Statement.{statement}
 use Rattle.hall.proofs.Hall.offer.Tie as tie
 
-offers-for-requires : tie.Need-offers-for-requires
-offers-for-requires c κs = search needs
-
-barred-requires : tie.Need-barred-requires
-barred-requires c κs = search needs
-
 returns : tie.Need-returns
 unfolding mayMake
 returns c = rw (c .barred .ensures) (barred-call _ _ _ _ (c .before .before .offers-for .ensures) (c .before .if1 .taken))
-
-offer-requires : tie.Need-offer-requires
-offer-requires c κs = search needs
-
-answered-requires : tie.Need-answered-requires
-answered-requires c κs = search needs
 
 returns-2 : tie.Need-returns-2
 unfolding mayMake latestExcess
@@ -29,4 +17,10 @@ returns-2 c =
     rw (c .answered .ensures) (made-call _ _ _ _ (tested .before .offers-for .ensures) _ _ (tested .if1 .left) (c .before .offer .ensures) refl)
 
 pub offer-spec : {M : Type 1} → statement M
-offer-spec = tie.close (tie.spec offers-for-requires barred-requires returns offer-requires answered-requires returns-2)
+offer-spec = tie.close (tie.spec
+    (λ c κs. search needs)
+    (λ c κs. search needs)
+    returns
+    (λ c κs. search needs)
+    (λ c κs. search needs)
+    returns-2)

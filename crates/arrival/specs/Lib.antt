@@ -1,6 +1,0 @@
-pub mod Arrival
-pub mod WithAnswers
-pub mod ArrivalLaws
-pub mod LineLaws
-pub mod ArrivalSample
-pub mod ReorderedSample

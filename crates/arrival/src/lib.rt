@@ -1,1 +1,0 @@
-// Arrival order in a round. Specifications only: see specs/.

@@ -1,3 +1,0 @@
-pub mod Awarding
-pub mod Choosing
-pub mod AwardingLaws

@@ -1,1 +1,0 @@
-// Laws of the open levels, the award and its developers. Specifications only: see specs/.

@@ -1,2 +1,0 @@
-mod Laying
-mod Tallying

@@ -1,0 +1,3 @@
+pub mod awarding
+pub mod award_records
+pub mod participation

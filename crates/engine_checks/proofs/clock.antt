@@ -1,0 +1,2 @@
+mod Bounded
+mod Covering

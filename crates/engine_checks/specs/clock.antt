@@ -1,0 +1,5 @@
+pub mod Held
+pub mod Reading
+pub mod ReadingLaws
+pub mod Opening
+pub mod Demands

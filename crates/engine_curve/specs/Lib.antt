@@ -1,0 +1,3 @@
+pub mod kept_curve
+pub mod highs_and_lows
+pub mod curve_closing

@@ -1,0 +1,3 @@
+pub mod levels
+pub mod history
+pub mod supply

@@ -1,0 +1,4 @@
+pub mod ByProject
+pub mod ByProjectLaws
+pub mod Reading
+pub mod Words

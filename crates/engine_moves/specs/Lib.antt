@@ -1,0 +1,2 @@
+pub mod closing_entries
+pub mod moves

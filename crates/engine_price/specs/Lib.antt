@@ -1,0 +1,3 @@
+pub mod price
+pub mod second_price
+pub mod clearing

@@ -1,0 +1,2 @@
+pub mod TakingOrder
+pub mod Fields

@@ -1,0 +1,6 @@
+mod Rows
+mod Tallying
+mod Exploring
+mod Orders
+mod Passing
+mod Finding

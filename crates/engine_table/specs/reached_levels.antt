@@ -1,0 +1,2 @@
+pub mod MayHold
+pub mod Firsts

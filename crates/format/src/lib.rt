@@ -1,1 +1,0 @@
-// Document 01, Frames: digits, lines, and the table of field widths by which a line is read, with their laws. Specifications only: see specs/.

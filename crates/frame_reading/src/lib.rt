@@ -1,0 +1,3 @@
+// A line's call, and its arguments.
+pub mod arguments;
+pub mod frames;

@@ -1,0 +1,2 @@
+pub mod cancelling
+pub mod arrival

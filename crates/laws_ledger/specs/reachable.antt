@@ -1,0 +1,15 @@
+pub mod Steps
+pub mod Closed
+pub mod AcceptedCalls
+pub mod Checks
+pub mod Histories
+pub mod Supplies
+pub mod Held
+pub mod Registering
+pub mod Opening
+pub mod Moving
+pub mod Closing
+pub mod Reachable
+pub mod Counting
+pub mod Bounds
+pub mod AcceptedSample

@@ -1,2 +1,0 @@
-mod Summing
-mod Tests

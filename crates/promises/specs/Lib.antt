@@ -1,0 +1,9 @@
+pub mod Demand
+pub mod Rounds
+pub mod RoundCount
+pub mod Ledger
+pub mod Award
+pub mod Participation
+pub mod SupplyCurve
+pub mod Forcing
+pub mod Records

@@ -1,1 +1,0 @@
-// The calls that a record asks. Specifications only: see specs/.

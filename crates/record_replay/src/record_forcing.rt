@@ -1,0 +1,49 @@
+// Who can force the price in the auction that a record leaves behind (document 02, 11). The best first move goes into a lent buffer.
+ghost use mathlib.Core.Path.{_≡_};
+ghost use mathlib.Core.Bool.{cond};
+ghost use Rattle.rules_auction.specs.Rounds.{ledger};
+ghost use Rattle.rules_replies.specs.record_calls.Calls.{callsIn};
+ghost use Rattle.record_replay.specs.record_forcing.Chosen.{Tells};
+use crate::record_auction;
+use engine_looks::forcing;
+
+// What is told: a refusal's number and 0, or 0 and the outcome.
+pub struct Told {
+    pub number: u8,
+    pub outcome: u32,
+}
+
+// A move as a byte: 1 where it withdraws.
+fn move_byte(withdraws: bool) -> u8
+    ensures { λ r. ⌜ r ≡ cond withdraws 1 0 ⌝ }
+{
+    if withdraws {
+        return 1;
+    }
+    0
+}
+
+// Makes the calls that a record asks, from a fresh auction, and tells who can force the price there.
+pub fn who_can_force(src: &[u8], first: u64, second: u64, prices: &[u64], chosen: &mut [u8]) -> Told
+    ensures { λ r. ⌜ Tells (ledger (callsIn (now (src .entry)))) first second (now (prices .entry)) (now (chosen .entry)) (now (chosen .exit)) r ⌝ }
+{
+    let auction = record_auction::auction_after(src);
+    let forced = forcing::who_can_force(auction, first, second, prices);
+    if forced.number != 0 {
+        return Told {
+            number: forced.number,
+            outcome: 0,
+        };
+    }
+    if chosen.len() == 0 {
+        return Told {
+            number: engine_refusals::BUFFER_TOO_SHORT,
+            outcome: 0,
+        };
+    }
+    chosen[0] = move_byte(forced.withdraws);
+    Told {
+        number: 0,
+        outcome: forced.outcome,
+    }
+}

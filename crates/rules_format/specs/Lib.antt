@@ -1,0 +1,14 @@
+pub mod Hex
+pub mod Lines
+pub mod Fields
+pub mod Written
+pub mod SessionLines
+pub mod HexLaws
+pub mod LineLaws
+pub mod WidthLaws
+pub mod TableLaws
+pub mod FieldLaws
+pub mod WrittenLaws
+pub mod SessionLineLaws
+pub mod Example
+pub mod SessionExample

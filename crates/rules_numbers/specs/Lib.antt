@@ -1,0 +1,11 @@
+pub mod Cases
+pub mod Least
+pub mod Lists
+pub mod OneTo
+pub mod Numbered
+pub mod ListLaws
+pub mod Sums
+pub mod Tails
+pub mod Falling
+pub mod Padded
+pub mod reordering

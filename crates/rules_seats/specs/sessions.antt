@@ -1,0 +1,12 @@
+pub mod Sessions
+pub mod SessionFigures
+pub mod SessionViews
+pub mod SessionLaws
+pub mod SessionReplyLaws
+pub mod SentLaws
+pub mod SessionViewLaws
+pub mod SessionFigureLaws
+pub mod SeatedLines
+pub mod AddedLines
+pub mod AuctioneerLaws
+pub mod SessionSample

@@ -1,5 +1,0 @@
-mod Tallying
-mod Exploring
-mod Orders
-mod Passing
-mod Finding

@@ -1,1 +1,0 @@
-// Seats in the auction hall. Specifications only: see specs/.

@@ -1,4 +1,0 @@
-pub mod Sound
-pub mod Parts
-pub mod StepLaws
-pub mod LodgedLaws

@@ -1,7 +1,0 @@
-pub mod AwardRecords
-pub mod RecordOrder
-pub mod RecordsInWords
-pub mod Stated
-pub mod StatedLaws
-pub mod Determined
-pub mod WordsDecide

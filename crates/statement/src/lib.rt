@@ -1,0 +1,1 @@
+// What is stated of every list of calls, up to C, and that the contracts say it. Specifications only: see specs/.

@@ -1,3 +1,0 @@
-pub mod ByProject
-pub mod ByProjectLaws
-pub mod Words

@@ -1,0 +1,48 @@
+//! What the inputs of the comparisons reach: features of records, calls and runs, how many show each,
+//! and what of that is too rare.
+
+mod buffers;
+mod cancellations;
+mod closings;
+mod curves;
+mod cut;
+mod features;
+mod games;
+mod hall;
+mod lodgings;
+mod moves;
+mod orders;
+mod pairs;
+mod participation;
+mod remainders;
+mod sealed;
+mod searches;
+mod settlings;
+
+pub use buffers::Buffer;
+pub(crate) use buffers::BUFFERS;
+pub use cancellations::{Cancellations, CANCELLATIONS};
+pub use closings::Closings;
+pub use curves::{Redrawn, CURVES, LONGEST_CURVE};
+pub(crate) use cut::Cut;
+pub use features::{Features, Kind};
+pub use games::{Asked, QUESTIONS};
+pub use hall::SEATS;
+pub use lodgings::{Lodgings, LODGINGS};
+pub(crate) use moves::{Moves, MOVES};
+pub(crate) use orders::Orders;
+pub use orders::PASSAGES;
+pub use pairs::PAIRS;
+pub use participation::{Participation, PARTICIPATION};
+pub use remainders::Remainders;
+pub use sealed::{Opened, SEALED};
+pub(crate) use searches::SEARCHES;
+pub(crate) use settlings::{Settlings, SETTLINGS};
+use std::collections::BTreeMap;
+
+/// Adds the counts of another map.
+pub(crate) fn add<K: Ord>(counts: &mut BTreeMap<K, u64>, others: BTreeMap<K, u64>) {
+    for (key, count) in others {
+        *counts.entry(key).or_default() += count;
+    }
+}
