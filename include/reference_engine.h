@@ -110,6 +110,108 @@ uint64_t who_can_force(const uint8_t *record, size_t record_length, uint64_t fir
                        uint8_t *move, size_t move_length);
 
 /*
+ * A live auction: the record is the state. A host appends the frame of each call to its record (the
+ * write calls below write frames) and asks; nothing is held between calls, and every answer is that
+ * of the whole record, made from a fresh auction as `replay` makes it. Settlings and malformed lines
+ * change nothing. tests/c/live_example.c runs an auction of two rounds so.
+ *
+ *   record   the record's bytes, record_length of them; only read
+ *   figures  the lent numbers, figures_length of them; they must not overlap the record
+ *
+ * Figures are written from the buffer's start, in the order given for each call; the numbers behind
+ * them stay. An excess is signed, in two's complement: (int64_t)figures[0]. A refusal leaves every
+ * number and byte of the buffers as it was; that of a buffer too short is tested last.
+ *
+ * The record may hold any bytes in any number, and a length of 0 goes with any pointer, NULL too.
+ * The calls keep no state and touch no other memory of the host, so any number of threads may make
+ * them at once, each with its own buffers.
+ */
+
+/*
+ * The state of the auction that a record leaves behind. Returns 0, with 5 figures:
+ *
+ *   phase           0 fresh, 1 ready (set up, no round yet), 2 a round is open, 3 between rounds,
+ *                   4 closed
+ *   opening price   of the open round, or else of the latest one; 0 before there is any
+ *   closing price   of the same round; 0 before there is any
+ *   excess          of the latest accepted closing; 0 before there is any
+ *   closings        the number of accepted closings
+ *
+ *   REFERENCE_ENGINE_REFUSAL(11), which is 2^64 - 11: the buffer has fewer than 5 numbers.
+ */
+uint64_t record_state(const uint8_t *record, size_t record_length, uint64_t *figures,
+                      size_t figures_length);
+
+/*
+ * Looks before closing: what closing the open round now would answer. The round stays open. Returns
+ * 0, with 3 figures:
+ *
+ *   excess      supply less demand at the round's closing price
+ *   remainder   that of demand there, as `demand_remainder` gives it
+ *   closed      1 if the auction would then be closed, else 0
+ *
+ *   REFERENCE_ENGINE_REFUSAL(2), which is 2^64 - 2, tested first: no round is open.
+ *
+ *   REFERENCE_ENGINE_REFUSAL(11), which is 2^64 - 11: the buffer has fewer than 3 numbers.
+ */
+uint64_t record_preview(const uint8_t *record, size_t record_length, uint64_t *figures,
+                        size_t figures_length);
+
+/*
+ * The supply curve: the distinct prices at which somebody has withdrawn, falling. The steps of an
+ * open round's offers are not in it before the round is closed. Returns the number of points, 0 to
+ * 256, with 3 numbers each, one point behind the other:
+ *
+ *   price
+ *   supply before the withdrawals at this price
+ *   supply after them
+ *
+ *   points   the lent numbers, points_length of them; 768 always fit
+ *
+ *   REFERENCE_ENGINE_REFUSAL(11), which is 2^64 - 11: the buffer has fewer than 3 numbers a point.
+ */
+uint64_t record_curve(const uint8_t *record, size_t record_length, uint64_t *points,
+                      size_t points_length);
+
+/*
+ * Settles the closed auction that a record leaves behind.
+ *
+ *   limit    the most admissible choices that are accepted, any number; above 65,536 it means 65,536
+ *   figures  the lent numbers, 12 of which are written
+ *   awards   the lent bytes, awards_length of them; 192 always fit. They must not overlap the record
+ *            or the figures
+ *
+ * Returns 0, with 12 figures:
+ *
+ *   closing price P
+ *   demand at P
+ *   remainder of demand at P
+ *   total of the award
+ *   choices that are admissible
+ *   covering ones among them
+ *   kept, those covering ones that the search does not set aside
+ *   second price, that for new plants
+ *   short, 1 if the second price is marked so, else 0
+ *   insufficient, 1 if participation is, else 0
+ *   price paid to existing plants
+ *   number of award records
+ *
+ * The award records stand in the lent bytes, 6 bytes each, by rising project: project, developer, and
+ * the quantity in 4 bytes, high byte first; the bytes behind them stay. There are three refusals,
+ * tested in this order:
+ *
+ *   REFERENCE_ENGINE_REFUSAL(2), which is 2^64 - 2: the auction is not closed.
+ *
+ *   REFERENCE_ENGINE_REFUSAL(10), which is 2^64 - 10: more choices than the limit, or than 65,536.
+ *
+ *   REFERENCE_ENGINE_REFUSAL(11), which is 2^64 - 11: fewer than 12 figures are lent, or too few bytes
+ *   for the award records; then neither buffer is written.
+ */
+uint64_t record_settlement(const uint8_t *record, size_t record_length, uint64_t limit,
+                           uint64_t *figures, size_t figures_length, uint8_t *awards,
+                           size_t awards_length);
+
+/*
  * The sealed auction for plants with long building times: one year's demand is given to offers in
  * turn, those of the oldest group first, of equal ages the lower price first, of equal prices
  * too the one earlier in the list. Each gets the lesser of its quantity and what is left, or
@@ -146,9 +248,9 @@ uint64_t sealed_auction(uint64_t ceiling, uint64_t demand, const uint64_t *price
                         uint64_t *awards, size_t awards_length);
 
 /*
- * Writing the record of an auction, a call at a time: each call below writes one frame, the line
- * of docs/FORMAT.md with its 0A, from the start of the lent buffer. Frames written one behind the
- * other are a record: lend the rest of the record's buffer to each call.
+ * Writing the record of an auction, a call at a time: each call from here to `write_cancellation`
+ * writes one frame, the line of docs/FORMAT.md with its 0A, from the start of the lent buffer. Frames
+ * written one behind the other are a record: lend the rest of the record's buffer to each call.
  *
  *   frame    the lent buffer, frame_length bytes; it must not overlap the lists
  *
@@ -225,6 +327,163 @@ uint64_t write_lodging(uint64_t developer, const uint64_t *prices, size_t prices
  * below 2^8. The frame has 5 bytes.
  */
 uint64_t write_cancellation(uint64_t developer, uint8_t *frame, size_t frame_length);
+
+/*
+ * Sessions: calls through the seats of an auction hall. A session is a record whose lines name the
+ * seat that asks: 2 digits for the kind of seat, 2 for its number, then the frame (docs/FORMAT.md,
+ * Sessions). The hall has these seats:
+ *
+ *   0 auctioneer, number 0: every call but offers and cancellations
+ *   1 auditor, number 0: settling
+ *   2 developer, with its number: offers and cancellations of its own
+ *
+ * All of them read. A server appends the line of each seat, as it comes, to the session and asks;
+ * nothing is held between calls. tests/c/class_example.c seats a class of three so.
+ *
+ * What a developer is sent tells it nothing of what others offer: two sessions that give developer n
+ * the same view give it the same numbers from `session_reading` and the same replies to its own lines,
+ * at every line, whatever the lines of others hold. Its view of a session is the list of its own lines,
+ * of the accepted registrations and lodgings made for it, and of the changes of the published values
+ * (both prices, excess and phase), in their order.
+ *
+ *   session  the session's bytes, session_length of them; only read
+ *   seat     the kind of seat through which the call is made
+ *   number   its number; a developer's may be any, and no developer has one outside 1 to 32
+ *
+ * A call through what is no seat (another kind; an auctioneer or an auditor with a number other than
+ * 0), or through a seat that has no right to it, is refused by 20, before every other check. The other
+ * checks, figures and refusals of a call are those of the same call over the record of what was
+ * permitted. A refusal leaves every number and byte of the buffers as it was.
+ *
+ * The session may hold any bytes in any number, a length of 0 goes with any pointer, NULL too, and a
+ * lent buffer must not overlap what the call reads. The calls keep no state and touch no other memory
+ * of the host, so any number of threads may make them at once, each with its own buffers.
+ */
+
+/*
+ * The four digits of a seat, with which a line of a session begins; its frame is to be written behind
+ * them.
+ *
+ *   kind     0 auctioneer, 1 auditor, 2 developer
+ *   number   0, or the developer's, below 2^8
+ *   bytes    the lent buffer, bytes_length bytes
+ *
+ * Returns 4, the number of bytes written; those behind them stay. There are two refusals, and either
+ * leaves every byte of the buffer as it was:
+ *
+ *   REFERENCE_ENGINE_REFUSAL(14), which is 2^64 - 14, tested first: no line names such a seat.
+ *
+ *   REFERENCE_ENGINE_REFUSAL(13), which is 2^64 - 13, tested last: the buffer has fewer than 4 bytes.
+ */
+uint64_t write_seat(uint64_t kind, uint64_t number, uint8_t *bytes, size_t bytes_length);
+
+/*
+ * Replays a session from a fresh auction: a line of a seat in, a reply a line out. A line that names no
+ * seat, or whose frame is malformed, gets FF0C. One whose seat has no right to what it asks gets its
+ * kind and 14, which is 20 in hexadecimal, whatever else would refuse it. Every other line gets the
+ * reply that `replay` gives to its frame in the record of what was permitted so far.
+ *
+ *   replies  the lent buffer, replies_length bytes
+ *
+ * Returns the number of bytes written, from the buffer's start; the bytes behind them stay. A buffer of
+ * 463 bytes for each line always fits.
+ *
+ *   REFERENCE_ENGINE_REFUSAL(11), which is 2^64 - 11: the replies do not fit; the buffer stays.
+ */
+uint64_t session_replay(const uint8_t *session, size_t session_length, uint8_t *replies,
+                        size_t replies_length);
+
+/*
+ * What a seat reads behind the last line. Returns how many numbers that is, with 4 for every seat:
+ *
+ *   opening price and closing price of the open round, or else of the latest one; 0 before there is any
+ *   excess of the latest accepted closing, signed; 0 before there is any
+ *   phase, as `record_state` gives it
+ *
+ * and behind them, for a developer:
+ *
+ *   number of its declared levels, and the levels, rising; 0 where it is not registered
+ *   1 if an offer of it stands in the open round, else 0
+ *   number of the offer's steps, and of each step its price and its level; 0 where there is no offer
+ *
+ *   reading  the lent numbers, reading_length of them; 31 always fit. Those behind the reading stay
+ *
+ *   REFERENCE_ENGINE_REFUSAL(20), which is 2^64 - 20, tested first: there is no such seat.
+ *
+ *   REFERENCE_ENGINE_REFUSAL(11), which is 2^64 - 11: the buffer has too few numbers.
+ */
+uint64_t session_reading(const uint8_t *session, size_t session_length, uint64_t seat,
+                         uint64_t number, uint64_t *reading, size_t reading_length);
+
+/*
+ * What closing the open round now would answer, for the auctioneer: returns 0 with the figures of
+ * `record_preview`.
+ *
+ *   REFERENCE_ENGINE_REFUSAL(20), which is 2^64 - 20, tested first: the seat is not the auctioneer's.
+ *
+ *   REFERENCE_ENGINE_REFUSAL(2), which is 2^64 - 2: no round is open.
+ *
+ *   REFERENCE_ENGINE_REFUSAL(11), which is 2^64 - 11: the buffer has fewer than 3 numbers.
+ */
+uint64_t session_preview(const uint8_t *session, size_t session_length, uint64_t seat,
+                         uint64_t number, uint64_t *figures, size_t figures_length);
+
+/*
+ * The supply curve, for the auctioneer: returns the number of points, with those of `record_curve`.
+ *
+ *   REFERENCE_ENGINE_REFUSAL(20), which is 2^64 - 20, tested first: the seat is not the auctioneer's.
+ *
+ *   REFERENCE_ENGINE_REFUSAL(11), which is 2^64 - 11: the buffer has fewer than 3 numbers a point.
+ */
+uint64_t session_curve(const uint8_t *session, size_t session_length, uint64_t seat,
+                       uint64_t number, uint64_t *points, size_t points_length);
+
+/*
+ * Settles the closed auction, for the auctioneer or the auditor: returns 0 with the figures and the
+ * award records of `record_settlement`.
+ *
+ *   REFERENCE_ENGINE_REFUSAL(20), which is 2^64 - 20, tested first: the seat is neither's.
+ *
+ *   REFERENCE_ENGINE_REFUSAL(2), which is 2^64 - 2: the auction is not closed.
+ *
+ *   REFERENCE_ENGINE_REFUSAL(10), which is 2^64 - 10: more choices than the limit, or than 65,536.
+ *
+ *   REFERENCE_ENGINE_REFUSAL(11), which is 2^64 - 11: either buffer is too short.
+ */
+uint64_t session_settlement(const uint8_t *session, size_t session_length, uint64_t seat,
+                            uint64_t number, uint64_t limit, uint64_t *figures,
+                            size_t figures_length, uint8_t *awards, size_t awards_length);
+
+/*
+ * Who can force the price, for the auctioneer: arguments, outcome and move are those of
+ * `who_can_force`.
+ *
+ *   REFERENCE_ENGINE_REFUSAL(20), which is 2^64 - 20, tested first: the seat is not the auctioneer's.
+ *
+ *   REFERENCE_ENGINE_REFUSAL(2), which is 2^64 - 2: the auction is not between rounds.
+ *
+ *   REFERENCE_ENGINE_REFUSAL(17), which is 2^64 - 17: the developers or the prices are not as
+ *   `who_can_force` describes them.
+ *
+ *   REFERENCE_ENGINE_REFUSAL(11), which is 2^64 - 11: the buffer has no byte.
+ */
+uint64_t session_forcing(const uint8_t *session, size_t session_length, uint64_t seat,
+                         uint64_t number, uint64_t first, uint64_t second, const uint64_t *prices,
+                         size_t prices_length, uint8_t *move, size_t move_length);
+
+/*
+ * The plain record of a session, for `replay` and all calls over a record: the frames of all lines that
+ * are neither malformed nor refused by 20, settlings and calls with another refusal among them, each
+ * with its 0A. Replayed, it gives the replies that these lines get in the session.
+ *
+ *   record   the lent buffer, record_length bytes; one as long as the session always fits
+ *
+ * Returns the number of bytes written, from the buffer's start; the bytes behind them stay.
+ *
+ *   REFERENCE_ENGINE_REFUSAL(11), which is 2^64 - 11: the record does not fit; the buffer stays.
+ */
+uint64_t session_record(const uint8_t *session, size_t session_length, uint8_t *record,
+                        size_t record_length);
 
 #ifdef __cplusplus
 }

@@ -12,7 +12,8 @@ struct list {
 };
 
 /* A call: how the right engine makes it; its numbers as the header has them, but an agent last; its
- * lists and its record; the lent buffer, of bytes or of awards; the answer; and its fault's number. */
+ * lists and its record, or session; the lent buffer, of bytes or of awards, and that of figures; the
+ * answer; and its fault's number. */
 struct call {
     uint64_t (*made)(const struct call *);
     uint64_t numbers[6];
@@ -22,6 +23,8 @@ struct call {
     uint8_t *bytes;
     uint64_t *awards;
     size_t length;
+    uint64_t *figures;
+    size_t figures_length;
     uint64_t answer;
     int by;
 };
@@ -86,8 +89,47 @@ CALL(sealed_auction,
                {ages, ages_length}},
      .awards = awards, .length = awards_length)
 
-/* Places of numbers, of demand, a registration, a game and a sealed auction, and of lists. */
+/* Those of calls over a record and over a session, which lend figures. */
+#define OVER_RECORD const uint8_t *record, size_t record_length
+#define OVER_SESSION const uint8_t *session, size_t session_length
+#define SEAT uint64_t seat, uint64_t number
+#define NUMBERS(name) uint64_t *name, size_t name##_length
+#define BYTES(name) uint8_t *name, size_t name##_length
+#define FIGURES call->figures, call->figures_length
+#define IN_RECORD .record = record, .record_length = record_length
+#define IN_SESSION .record = session, .record_length = session_length
+#define IN_FIGURES(name) .figures = name, .figures_length = name##_length
+#define IN_BYTES(name) .bytes = name, .length = name##_length
+
+CALL(record_state, (OVER_RECORD, NUMBERS(figures)), (RECORD, FIGURES), IN_RECORD, IN_FIGURES(figures))
+CALL(record_preview, (OVER_RECORD, NUMBERS(figures)), (RECORD, FIGURES), IN_RECORD,
+     IN_FIGURES(figures))
+CALL(record_curve, (OVER_RECORD, NUMBERS(points)), (RECORD, FIGURES), IN_RECORD, IN_FIGURES(points))
+CALL(record_settlement, (OVER_RECORD, uint64_t limit, NUMBERS(figures), BYTES(awards)),
+     (RECORD, N(2), FIGURES, LENT), IN_RECORD, .numbers = {0, 0, limit}, IN_FIGURES(figures),
+     IN_BYTES(awards))
+CALL(write_seat, (uint64_t kind, uint64_t number, BYTES(bytes)), (N(0), N(1), LENT),
+     .numbers = {kind, number}, IN_BYTES(bytes))
+CALL(session_replay, (OVER_SESSION, BYTES(replies)), (RECORD, LENT), IN_SESSION, IN_BYTES(replies))
+CALL(session_reading, (OVER_SESSION, SEAT, NUMBERS(reading)), (RECORD, N(0), N(1), FIGURES),
+     IN_SESSION, .numbers = {seat, number}, IN_FIGURES(reading))
+CALL(session_preview, (OVER_SESSION, SEAT, NUMBERS(figures)), (RECORD, N(0), N(1), FIGURES),
+     IN_SESSION, .numbers = {seat, number}, IN_FIGURES(figures))
+CALL(session_curve, (OVER_SESSION, SEAT, NUMBERS(points)), (RECORD, N(0), N(1), FIGURES), IN_SESSION,
+     .numbers = {seat, number}, IN_FIGURES(points))
+CALL(session_settlement, (OVER_SESSION, SEAT, uint64_t limit, NUMBERS(figures), BYTES(awards)),
+     (RECORD, N(0), N(1), N(2), FIGURES, LENT), IN_SESSION, .numbers = {seat, number, limit},
+     IN_FIGURES(figures), IN_BYTES(awards))
+CALL(session_forcing,
+     (OVER_SESSION, SEAT, uint64_t first, uint64_t second, LIST(prices), BYTES(move)),
+     (RECORD, N(0), N(1), N(2), N(3), L(0), LENT), IN_SESSION,
+     .numbers = {seat, number, first, second}, .lists = {{prices, prices_length}}, IN_BYTES(move))
+CALL(session_record, (OVER_SESSION, BYTES(record)), (RECORD, LENT), IN_SESSION, IN_BYTES(record))
+
+/* Places of numbers, of demand, a registration, a game, a sealed auction, a seat and a settlement, and of
+ * lists. */
 enum { CE = 0, PRICE_ASKED = 4, DEVELOPER = 1, STUDY = 3, AGENT = 5, RIVALS = 0, CEILING = 0 };
+enum { KIND_OF_SEAT = 0, NUMBER_OF_SEAT = 1, LIMIT = 2 };
 enum { PRICES = 0, MINIMUMS = 2 };
 
 /* How a call is wrong before it is made. */
@@ -307,6 +349,166 @@ static void award_behind(struct call *call) {
         call->awards[count] ^= 1;
 }
 
+/* How figures are wrong. */
+
+/* Places of figures of a state, a preview, a point of the curve and a settlement, and how many they are. */
+enum { PHASE = 0, ROUND_PRICES = 1, CLOSINGS = 4, STATE = 5, CLOSES = 2, PREVIEW = 3, SUPPLIES = 1 };
+enum { CLOSING_PRICE = 0, COVERING = 5, KEPT = 6, SECOND_PRICE = 7, SETTLEMENT = 12, RECORDS = 192 };
+
+static void closed_between(struct call *call) {
+    if (call->figures[PHASE] == 4)
+        call->figures[PHASE] = 3;
+}
+
+static void exchanged_figures(struct call *call) {
+    if (call->figures_length >= (size_t)call->by + 2)
+        exchange(call->figures + call->by);
+}
+
+static void refused_closings(struct call *call) {
+    call->figures[CLOSINGS] = 0;
+    for (size_t place = 0; place + 2 <= call->record_length; place++)
+        if ((place == 0 || call->record[place - 1] == '\n') && memcmp(call->record + place, "05", 2) == 0)
+            call->figures[CLOSINGS]++;
+}
+
+static void figure_behind(struct call *call) {
+    if ((size_t)call->by < call->figures_length)
+        call->figures[call->by] ^= 1;
+}
+
+static void never_closes(struct call *call) { call->figures[CLOSES] = 0; }
+
+static void without_sign(struct call *call) {
+    if ((int64_t)call->figures[0] < 0)
+        call->figures[0] = -call->figures[0];
+}
+
+static void short_first(struct call *call) {
+    if (call->figures_length < (size_t)call->by)
+        call->answer = REFERENCE_ENGINE_REFUSAL(11);
+}
+
+static void numbers_not_points(struct call *call) { call->answer *= 3; }
+
+static void limit_of_32_bits(struct call *call) { call->numbers[LIMIT] = (uint32_t)call->numbers[LIMIT]; }
+
+static void all_covering_kept(struct call *call) { call->figures[KEPT] = call->figures[COVERING]; }
+
+static void one_price(struct call *call) { call->figures[SECOND_PRICE] = call->figures[CLOSING_PRICE]; }
+
+static void figures_without_awards(struct call *call) {
+    uint8_t awards[RECORDS];
+    struct call longer = *call;
+    longer.bytes = awards;
+    longer.length = sizeof awards;
+    if (call->answer == REFERENCE_ENGINE_REFUSAL(11))
+        longer.made(&longer);
+}
+
+/* How seats are wrong. */
+
+static void without_number(struct call *call) {
+    if (call->numbers[KIND_OF_SEAT] < 2)
+        call->numbers[NUMBER_OF_SEAT] = 0;
+}
+
+static void number_of_a_byte(struct call *call) {
+    call->numbers[NUMBER_OF_SEAT] = (uint8_t)call->numbers[NUMBER_OF_SEAT];
+}
+
+static void refuse_if_shorter_than_seat(struct call *call) {
+    if (call->length < 4)
+        refuse(call);
+}
+
+/* A seat of the kind that the fault names is taken for the auctioneer. */
+static void as_auctioneer(struct call *call) {
+    if (call->numbers[KIND_OF_SEAT] == (uint64_t)call->by)
+        call->numbers[KIND_OF_SEAT] = call->numbers[NUMBER_OF_SEAT] = 0;
+}
+
+static void unknown_as_auditor(struct call *call) {
+    if (call->numbers[KIND_OF_SEAT] > 2) {
+        call->numbers[KIND_OF_SEAT] = 1;
+        call->numbers[NUMBER_OF_SEAT] = 0;
+    }
+}
+
+static void of_another(struct call *call) {
+    if (call->numbers[KIND_OF_SEAT] == 2)
+        call->numbers[NUMBER_OF_SEAT] ^= 1;
+}
+
+/* In an open round a developer reads the excess that closing it would give. */
+static void excess_ahead(struct call *call) {
+    uint64_t figures[PREVIEW];
+    struct call looks = *call;
+    looks.numbers[KIND_OF_SEAT] = looks.numbers[NUMBER_OF_SEAT] = 0;
+    looks.figures = figures;
+    looks.figures_length = PREVIEW;
+    if (call->numbers[KIND_OF_SEAT] == 2 && made_session_preview(&looks) == 0)
+        call->figures[2] = figures[0];
+}
+
+/* An offer of no steps reads as none: behind four published values and the levels with their number. */
+static void empty_offer_as_none(struct call *call) {
+    uint64_t *offer = call->figures + 5 + call->figures[4];
+    if (call->answer > 4 && offer[1] == 0)
+        offer[0] = 0;
+}
+
+/* How sessions are wrong: the call is made again over another one. */
+enum { OWN_NUMBER, NO_NUMBER };
+
+static void in_line(uint8_t *line, size_t length, int what) {
+    if (what == NO_NUMBER && length >= 4 && memcmp(line, "00", 2) == 0)
+        memcpy(line, "0000", 4);
+    int offers = length >= 8 && (memcmp(line + 4, "04", 2) == 0 || memcmp(line + 4, "09", 2) == 0);
+    if (what == OWN_NUMBER && offers && memcmp(line, "02", 2) == 0)
+        memcpy(line + 2, line + 6, 2);
+}
+
+static void other_session(struct call *call) {
+    uint8_t *session = malloc(call->record_length + 1);
+    struct call other = *call;
+    size_t start = 0;
+    memcpy(session, call->record, call->record_length);
+    for (size_t end = 0; end <= call->record_length; end++)
+        if (end == call->record_length || session[end] == '\n') {
+            in_line(session + start, end - start, call->by);
+            start = end + 1;
+        }
+    other.record = session;
+    call->answer = other.made(&other);
+    free(session);
+}
+
+/* Settlings without the right are refused by the phase. */
+static void phase_before_right(struct call *call) {
+    for (uint64_t place = 0; place + 4 < call->answer; place++)
+        if ((place == 0 || call->bytes[place - 1] == '\n') && memcmp(call->bytes + place, "0614", 4) == 0)
+            memcpy(call->bytes + place, "0602", 4);
+}
+
+static void without_settlings(struct call *call) {
+    uint64_t start = 0, kept = 0;
+    for (uint64_t end = 0; end < call->answer; end++)
+        if (call->bytes[end] == '\n') {
+            if (memcmp(call->bytes + start, "06", 2) != 0) {
+                memmove(call->bytes + kept, call->bytes + start, end + 1 - start);
+                kept += end + 1 - start;
+            }
+            start = end + 1;
+        }
+    call->answer = kept;
+}
+
+static void without_last(struct call *call) {
+    if (call->answer > 0)
+        call->answer--;
+}
+
 /* Each wrong engine: its name; the call that it makes wrong; whether before the call is made, or where
  * it is accepted or refused; how, and by what number. */
 static const struct fault {
@@ -348,6 +550,38 @@ static const struct fault {
     {"listed", made_sealed_auction, ACCEPTED, first_awards, 0}, /* two change places */
     {"beyond", made_sealed_auction, ACCEPTED, award_behind, 0}, /* the number behind the awards */
     {"ceiling", made_sealed_auction, REFUSED, refuse_above_ceiling, 19}, /* 19 tested before 18 */
+    {"phase", made_record_state, ACCEPTED, closed_between, 0}, /* a closed auction is between rounds */
+    {"prices", made_record_state, ACCEPTED, exchanged_figures, ROUND_PRICES}, /* change places */
+    {"closings", made_record_state, ACCEPTED, refused_closings, 0}, /* refused ones are counted */
+    {"sixth", made_record_state, ACCEPTED, figure_behind, STATE}, /* the number behind the figures */
+    {"open", made_record_preview, ACCEPTED, never_closes, 0}, /* the auction would never be closed */
+    {"sign", made_record_preview, ACCEPTED, without_sign, 0}, /* the excess has none */
+    {"first", made_record_preview, REFUSED, short_first, PREVIEW}, /* 11 tested before 2 */
+    {"supplies", made_record_curve, ACCEPTED, exchanged_figures, SUPPLIES}, /* of the first point */
+    {"points", made_record_curve, ACCEPTED, numbers_not_points, 0}, /* the number of numbers */
+    {"limit", made_record_settlement, BEFORE, limit_of_32_bits, 0}, /* a wide one is cut */
+    {"covering", made_record_settlement, ACCEPTED, all_covering_kept, 0}, /* all are kept */
+    {"second", made_record_settlement, ACCEPTED, one_price, 0}, /* that of new plants is P */
+    {"partly", made_record_settlement, REFUSED, figures_without_awards, 0}, /* figures without awards */
+    {"numbered", made_write_seat, BEFORE, without_number, 0}, /* an auctioneer with a number is one */
+    {"low", made_write_seat, BEFORE, number_of_a_byte, 0}, /* a developer's number is cut */
+    {"sooner", made_write_seat, REFUSED, refuse_if_shorter_than_seat, 13}, /* 13 tested before 14 */
+    {"anybody", made_session_replay, ACCEPTED, other_session, OWN_NUMBER}, /* offers for any developer */
+    {"nobody", made_session_replay, ACCEPTED, other_session, NO_NUMBER}, /* an auctioneer with a number */
+    {"right", made_session_replay, ACCEPTED, phase_before_right, 0}, /* 2 tested before 20 */
+    {"reply", made_session_replay, ACCEPTED, byte_from_end, -2}, /* the last digit */
+    {"far", made_session_replay, ACCEPTED, byte_of_long, -2}, /* of long replies in an exact buffer */
+    {"others", made_session_reading, BEFORE, of_another, 0}, /* levels and offer of another */
+    {"ahead", made_session_reading, ACCEPTED, excess_ahead, 0}, /* the excess is that of a preview */
+    {"empty", made_session_reading, ACCEPTED, empty_offer_as_none, 0}, /* an offer of no steps is none */
+    {"unknown", made_session_reading, BEFORE, unknown_as_auditor, 0}, /* seat 3 reads */
+    {"byte", made_session_reading, BEFORE, number_of_a_byte, 0}, /* a developer's number is cut */
+    {"auditor", made_session_preview, BEFORE, as_auctioneer, 1}, /* previews */
+    {"developer", made_session_curve, BEFORE, as_auctioneer, 2}, /* reads the curve */
+    {"settles", made_session_settlement, BEFORE, as_auctioneer, 2}, /* a developer does */
+    {"forces", made_session_forcing, BEFORE, as_auctioneer, 1}, /* an auditor asks who does */
+    {"unsettled", made_session_record, ACCEPTED, without_settlings, 0}, /* settlings are left out */
+    {"end", made_session_record, ACCEPTED, without_last, 0}, /* the last 0A is missing */
 };
 
 /* The row that WRONG names, if it is one of this call. */

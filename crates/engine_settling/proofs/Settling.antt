@@ -62,6 +62,12 @@ pub record Computed (a : Auction) (limit : ℕ) (r : Cleared) (t : Table) (s : S
   pub tabled : Tabled (a .projects) (a .declared) (r .lows) (r .highs) t
   pub selects : Selects t (r .demand) (min limit 65536) s
 
+-- what it gave then: the developers of the awarded levels, the mark of participation and the price paid
+pub record Given (a : Auction) (r : Cleared) (s : Selected) (ns : List ℕ) (mark : Bool) (paid : ℕ) : Type 0 where
+  pub won : ns ≡ winnersFrom (standingIn (a .projects) (a .studies) (a .days) (a .declared) (r .lows) (r .highs)) 0 1 (s .award)
+  pub judged : mark ≡ not (sufficient (judgedIn (a .settings .d) (a .agents) (a .kinds) (r .highest)) (grantsIn (s .award) ns))
+  pub to-pay : Pays mark (a .settings .ce) (r .price) paid
+
 -- what that is of the ledger
 pub record Known (l : Ledger) (limit : ℕ) (r : Cleared) (s : Selected) : Type 0 where
   pub closed : isClosed (l .phase) ≡ true
@@ -146,10 +152,7 @@ module _ (a : Auction) (limit : ℕ) (r : Cleared) (t : Table) (s : Selected) (c
         simp (k l snd h .closed, w l snd h .1, lt-leb (6 * length (records l (closingPrice l))) (length old) (omega arith)))
 
     module _
-        (room : 6 * n ≤ length old) (ns new : List ℕ) (mark : Bool) (paid : ℕ)
-        (won : ns ≡ winnersFrom (standingIn (a .projects) (a .studies) (a .days) (a .declared) (r .lows) (r .highs)) 0 1 (s .award))
-        (judged : mark ≡ not (sufficient (judgedIn (a .settings .d) (a .agents) (a .kinds) (r .highest)) (grantsIn (s .award) ns)))
-        (to-pay : Pays mark (a .settings .ce) (r .price) paid)
+        (room : 6 * n ≤ length old) (ns new : List ℕ) (mark : Bool) (paid : ℕ) (g : Given a r s ns mark paid)
         (written : new ≡ laid (flatten (recordsOf 1 (s .award) ns)) old)
       where
         abbrev given : List (List ℕ)
@@ -165,7 +168,7 @@ module _ (a : Auction) (limit : ℕ) (r : Cleared) (t : Table) (s : Selected) (c
           winners-are : ns ≡ winnersFrom l (closingPrice l) 1 (s .award)
           unfolding heldAuction
           winners-are =
-              won
+              g .won
               ∙ ap₂ (λ (x : Auction) (y : Cleared). winnersFrom (standingIn (x .projects) (x .studies) (x .days) (x .declared) (y .lows) (y .highs)) 0 1
               (s .award)) h figures
               ∙ winners-back l (closingPrice l) snd 1 (s .award)
@@ -187,7 +190,7 @@ module _ (a : Auction) (limit : ℕ) (r : Cleared) (t : Table) (s : Selected) (c
           mark-is : mark ≡ not (sufficient l (grants l (closingPrice l)))
           unfolding heldAuction
           mark-is =
-              judged
+              g .judged
               ∙ ap₂ (λ (x : Auction) (y : Cleared). not
               (sufficient (judgedIn (x .settings .d) (x .agents) (x .kinds) (y .highest)) (grantsIn (s .award) ns))) h figures
               ∙ ap not (sufficient-back l snd (grantsIn (s .award) ns) ∙ ap (sufficient l) granted)
@@ -195,7 +198,7 @@ module _ (a : Auction) (limit : ℕ) (r : Cleared) (t : Table) (s : Selected) (c
           paid-is : paid ≡ pricePaid l (closingPrice l) (grants l (closingPrice l))
           unfolding heldAuction
           paid-is =
-              to-pay .paid l (grants l (closingPrice l)) mark-is (ap (λ (x : Auction). x .settings .ce) h)
+              g .to-pay .paid l (grants l (closingPrice l)) mark-is (ap (λ (x : Auction). x .settings .ce) h)
               ∙ ap (λ (y : Cleared). pricePaid l (y .price) (grants l (closingPrice l))) figures
 
           settled-is : acceptedWith r s mark paid n ≡ settledAs (settlement l)

@@ -4,10 +4,12 @@ ghost use mathlib.Core.Path.{_≡_};
 ghost use mathlib.Core.List.{_++_};
 ghost use Prim.Native.Nat.{_+_, _*_, _≤_};
 ghost use lib.ListN.{length, take, drop, replicate};
-ghost use Rattle.rules_format.specs.Fields.{listed, fieldsAt, read};
+ghost use Rattle.rules_numbers.specs.Lists.{total};
+ghost use Rattle.rules_format.specs.Fields.{listed, fixed, repeats, fieldsAt, read};
 ghost use Rattle.frame_bytes.specs.field_table.Shapes.{Tabled};
 ghost use Rattle.frame_reading.specs.frames.Decoded.{callIn, Zero};
 ghost use Rattle.frame_reading.specs.frames.FixedFields.{ReadsFixed};
+ghost use Rattle.frame_reading.specs.frames.KindsRead.{kindIn};
 use frame_bytes::field_reading;
 use frame_bytes::field_table;
 use frame_bytes::field_table::LISTED;
@@ -115,4 +117,44 @@ pub fn decode(line: &[u8]) -> Frame
         count: n + more,
         fields: fields,
     }
+}
+
+// How many fields follow the fixed ones, which have `span` digits: so many for each one that their last two digits count.
+fn counted_in(line: &[u8], row: Row, span: usize) -> usize
+    requires { ⌜ Tabled (row .kind) row × (span ≡ total (fixed (row .kind))) × (2 + span ≤ length (now line)) ⌝ }
+    ensures { λ r. ⌜ (r ≡ repeats (row .kind) (fieldsAt (fixed (row .kind)) (drop 2 (now (line .entry))))) × (r ≤ 512) ⌝ }
+{
+    if row.each == 0 {
+        return 0;
+    }
+    row.each * field_reading::field(line, span, 2) as usize
+}
+
+// The kind of the frame in a line, 0 of a malformed line: for who asks no more of it, as no field but the count is read.
+pub fn kind_in(line: &[u8]) -> usize
+    ensures { λ r. ⌜ r ≡ kindIn (now (line .entry)) ⌝ }
+{
+    let size = line.len();
+    if LONGEST_LINE < size {
+        return 0;
+    }
+    if size < 2 {
+        return 0;
+    }
+    if !field_reading::all_hex(line) {
+        return 0;
+    }
+    let row = field_table::row_of(field_reading::field(line, 0, 2) as usize);
+    if row.kind == 0 {
+        return 0;
+    }
+    let span = field_table::shape_of(row).span;
+    if size < 2 + span {
+        return 0;
+    }
+    let more = counted_in(line, row, span);
+    if size != 2 + span + LISTED * more {
+        return 0;
+    }
+    row.kind
 }

@@ -4,7 +4,7 @@ use mathlib.Core.Bool.{Bool, true, false, not}
 use Rattle.rules_auction.specs.Ledger.{Call}
 use Rattle.rules_auction.specs.Rounds.{Answered, bareAnswer}
 use Rattle.rules_seats.specs.Seats.{Seat, mayMake, latestExcess}
-use Rattle.hall.specs.seat_rights.RightLaws.{no-right, has-right}
+use Rattle.seats.specs.RightLaws.{no-right, has-right}
 use Rattle.engine_auction.specs.Called.{Called}
 use Rattle.hall.specs.Through.{CalledThrough}
 use Rattle.hall.specs.declared.Hall.{Hall}

@@ -1,5 +1,4 @@
 pub mod Through
 pub mod ThroughLaws
-pub mod seat_rights
 pub mod seat_readings
 pub mod hall_readings

@@ -4,16 +4,15 @@
 ghost use mathlib.Core.Path.{_≡_};
 ghost use Rattle.rules_auction.specs.Ledger.{Open, By, Offer, Lodge, Cancel};
 ghost use Rattle.rules_seats.specs.Seats.{freshHall};
-ghost use Rattle.hall.specs.seat_rights.Rights.{seatIn};
+ghost use Rattle.seats.specs.Rights.{seatIn};
 ghost use Rattle.engine_auction.specs.Called.{setsUp, registers, registersFor};
 ghost use Rattle.hall.specs.Through.{heldHall, AnswersThrough, ClosesThrough, barredAnswer, answeredWith};
-use crate::seat_rights::Seat;
 use engine_auction::Answer;
 use engine_auction::Auction;
+use seats::Seat;
 
 pub mod hall_readings;
 pub mod seat_readings;
-pub mod seat_rights;
 
 pub struct Hall {
     pub auction: Auction,
@@ -75,7 +74,7 @@ impl Hall {
     pub fn set_up(self, seat: Seat, ce: u64, d: u64, m1: u64, m2: u64, a: u64) -> HallAnswer
         ensures { λ r. ⌜ AnswersThrough (seatIn seat) (setsUp ce d m1 m2 a) self r ⌝ }
     {
-        if !seat_rights::conducts(seat) {
+        if !seats::conducts(seat) {
             return self.barred();
         }
         let auction = self.auction;
@@ -94,7 +93,7 @@ impl Hall {
     ) -> HallAnswer
         ensures { λ r. ⌜ AnswersThrough (seatIn seat) (registers project developer kind study day (now (levels .entry))) self r ⌝ }
     {
-        if !seat_rights::conducts(seat) {
+        if !seats::conducts(seat) {
             return self.barred();
         }
         let auction = self.auction;
@@ -114,7 +113,7 @@ impl Hall {
     ) -> HallAnswer
         ensures { λ r. ⌜ AnswersThrough (seatIn seat) (registersFor project developer kind agent study day (now (levels .entry))) self r ⌝ }
     {
-        if !seat_rights::conducts(seat) {
+        if !seats::conducts(seat) {
             return self.barred();
         }
         let auction = self.auction;
@@ -124,7 +123,7 @@ impl Hall {
     pub fn lodge(self, seat: Seat, developer: u8, prices: &[u32], levels: &[u32]) -> HallAnswer
         ensures { λ r. ⌜ AnswersThrough (seatIn seat) (By developer (Lodge (now (prices .entry)) (now (levels .entry)))) self r ⌝ }
     {
-        if !seat_rights::conducts(seat) {
+        if !seats::conducts(seat) {
             return self.barred();
         }
         let auction = self.auction;
@@ -134,7 +133,7 @@ impl Hall {
     pub fn open(self, seat: Seat, c: u32) -> HallAnswer
         ensures { λ r. ⌜ AnswersThrough (seatIn seat) (Open c) self r ⌝ }
     {
-        if !seat_rights::conducts(seat) {
+        if !seats::conducts(seat) {
             return self.barred();
         }
         let auction = self.auction;
@@ -144,7 +143,7 @@ impl Hall {
     pub fn offer(self, seat: Seat, developer: u8, prices: &[u32], levels: &[u32]) -> HallAnswer
         ensures { λ r. ⌜ AnswersThrough (seatIn seat) (By developer (Offer (now (prices .entry)) (now (levels .entry)))) self r ⌝ }
     {
-        if !seat_rights::offers_for(seat, developer) {
+        if !seats::offers_for(seat, developer as u64) {
             return self.barred();
         }
         let auction = self.auction;
@@ -154,7 +153,7 @@ impl Hall {
     pub fn cancel(self, seat: Seat, developer: u8) -> HallAnswer
         ensures { λ r. ⌜ AnswersThrough (seatIn seat) (By developer Cancel) self r ⌝ }
     {
-        if !seat_rights::offers_for(seat, developer) {
+        if !seats::offers_for(seat, developer as u64) {
             return self.barred();
         }
         let auction = self.auction;
@@ -164,7 +163,7 @@ impl Hall {
     pub fn close(self, seat: Seat) -> HallClosing
         ensures { λ r. ⌜ ClosesThrough (seatIn seat) self r ⌝ }
     {
-        if !seat_rights::conducts(seat) {
+        if !seats::conducts(seat) {
             return HallClosing {
                 number: Hall::NO_RIGHT,
                 excess: 0,

@@ -4,13 +4,13 @@ ghost use mathlib.Core.Path.{_≡_};
 ghost use mathlib.Core.List.{[]};
 ghost use Rattle.rules_auction.specs.Ledger.{none};
 ghost use Rattle.rules_seats.specs.Seats.{At};
-ghost use Rattle.hall.specs.seat_rights.Rights.{seatIn};
+ghost use Rattle.seats.specs.Rights.{seatIn};
 ghost use Rattle.engine_held.specs.levels.Held.{heldLevels};
 ghost use Rattle.hall.specs.seat_readings.Shown.{shownOffer, StandsIn, readingWith, ReadsFrom};
-use crate::seat_rights::Seat;
 use engine_auction::Auction;
 use engine_held::history::History;
 use engine_held::levels::Levels;
+use seats::Seat;
 
 // Whether an offer stands, and its steps, zeros behind them. One of no steps is an offer too.
 pub struct StandingOffer {

@@ -17,7 +17,7 @@ use crate::output::write_word;
 use hall::Hall;
 use hall::HallAnswer;
 use hall::hall_readings;
-use hall::seat_rights::Seat;
+use seats::Seat;
 
 fn seat_of(kind: u64, number: u64) -> Seat {
     match kind {

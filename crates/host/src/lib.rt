@@ -6,20 +6,26 @@ ghost use Rattle.rules_auction.specs.Ledger.{settingsOf, Offer, Lodge, Cancel, 
 ghost use Rattle.rules_auction.specs.Rounds.{ledger};
 ghost use Rattle.rules_replies.specs.Orders.{Asks, Settle};
 ghost use Rattle.rules_replies.specs.Replies.{replies};
+ghost use Rattle.rules_seats.specs.sessions.Sessions.{sessionReplies, sessionRecord};
 ghost use Rattle.rules_replies.specs.record_calls.Calls.{callsIn};
 ghost use Rattle.record_replay.specs.Replayed.{hosted, over};
 ghost use Rattle.record_replay.specs.record_forcing.Chosen.{chosenIn};
 ghost use Rattle.frame_writing.specs.each_call.Writes.{registration, registrationFor};
 ghost use Rattle.record_replay.specs.host_numbers.HostNumbers.{hostNumber, hostRemainder};
 ghost use Rattle.rules_sealed.specs.Sealed.{bookOf, lentAwards};
-ghost use Rattle.host.specs.Forcing.{hostForcing};
+ghost use Rattle.record_figures.specs.Told.{TellsState, TellsPreview, TellsCurve, TellsSettlement, TellsReading, TellsPreviewThrough, TellsCurveThrough};
+ghost use Rattle.record_figures.specs.Told.{TellsSettlementThrough};
+ghost use Rattle.host.specs.Forcing.{hostForcing, TellsForcingThrough};
 ghost use Rattle.host.specs.Sealing.{hostSealed};
-ghost use Rattle.host.specs.Writing.{answer, HostWrites};
+ghost use Rattle.host.specs.Writing.{answer, HostWrites, HostWritesSeat};
 use engine_sealed::sealed_auction;
 use frame_writing::Written;
 use frame_writing::each_call;
+use record_figures::through_seats;
 use record_replay::host_numbers;
 use record_replay::record_forcing;
+use record_replay::session_record;
+use seats::seat_numbers;
 
 // Dem(p), or 2^64 - 1 where the settings or p are beyond their bounds.
 #[no_mangle]
@@ -59,8 +65,132 @@ pub extern "C" fn who_can_force(
     ensures { λ r. ⌜ r ≡ hostForcing (ledger (callsIn (now (src .entry)))) first second (now (prices .entry)) (length (now (chosen .entry))) ⌝ }
     ensures { λ _. ⌜ now (chosen .exit) ≡ chosenIn (ledger (callsIn (now (src .entry)))) first second (now (prices .entry)) (now (chosen .entry)) ⌝ }
 {
-    let told = record_forcing::who_can_force(src, first, second, prices, chosen);
+    let told = record_forcing::who_can_force(src, false, first, second, prices, chosen);
     host_numbers::host_number(told.number, told.outcome as u64)
+}
+
+// ---- the figures of the auction that a record leaves behind
+
+// Phase, opening and closing price, excess of the latest closing, number of closings.
+#[no_mangle]
+pub extern "C" fn record_state(src: &[u8], figures: &mut [u64]) -> u64
+    ensures { λ r. ⌜ TellsState (now (src .entry)) (now (figures .entry)) (now (figures .exit)) r ⌝ }
+{
+    record_figures::state(src, figures)
+}
+
+// What closing would answer now (document 02, 6): excess, remainder, and whether the auction would then be closed.
+#[no_mangle]
+pub extern "C" fn record_preview(src: &[u8], figures: &mut [u64]) -> u64
+    ensures { λ r. ⌜ TellsPreview (ledger (callsIn (now (src .entry)))) (now (figures .entry)) (now (figures .exit)) r ⌝ }
+{
+    record_figures::preview(src, false, figures)
+}
+
+// The supply curve (document 02, 9): the number of its points, and price, supply before and supply after of each.
+#[no_mangle]
+pub extern "C" fn record_curve(src: &[u8], points: &mut [u64]) -> u64
+    ensures { λ r. ⌜ TellsCurve (ledger (callsIn (now (src .entry)))) (now (points .entry)) (now (points .exit)) r ⌝ }
+{
+    record_figures::curve(src, false, points)
+}
+
+// The settlement, and the award records in the lent bytes.
+#[no_mangle]
+pub extern "C" fn record_settlement(
+    src: &[u8],
+    limit: u64,
+    figures: &mut [u64],
+    awards: &mut [u8],
+) -> u64
+    ensures { λ r. ⌜ TellsSettlement (ledger (callsIn (now (src .entry)))) limit (now (figures .entry)) (now (figures .exit)) (now (awards .entry))
+        (now (awards .exit)) r ⌝ }
+{
+    record_figures::settlement(src, false, limit, figures, awards)
+}
+
+// ---- a session: calls through seats (document 02, 14; docs/FORMAT.md, sessions)
+
+// The four digits that name a seat.
+#[no_mangle]
+pub extern "C" fn write_seat(kind: u64, number: u64, bytes: &mut [u8]) -> u64
+    ensures { λ r. ⌜ HostWritesSeat kind number (now (bytes .entry)) (now (bytes .exit)) r ⌝ }
+{
+    host_numbers::host_number(seat_numbers::write_seat(kind, number, bytes), 4)
+}
+
+// Replays a session: the bytes written, or 2^64 - 11 where the replies do not fit.
+#[no_mangle]
+pub extern "C" fn session_replay(src: &[u8], out: &mut [u8]) -> u64
+    ensures { λ r. ⌜ r ≡ hosted (sessionReplies (now (src .entry))) (now (out .entry)) ⌝ }
+    ensures { λ _. ⌜ now (out .exit) ≡ over (sessionReplies (now (src .entry))) (now (out .entry)) ⌝ }
+{
+    record_replay::session_replay(src, out)
+}
+
+// What a seat reads behind a session: how many numbers.
+#[no_mangle]
+pub extern "C" fn session_reading(src: &[u8], seat: u64, number: u64, reading: &mut [u64]) -> u64
+    ensures { λ r. ⌜ TellsReading (now (src .entry)) seat number (now (reading .entry)) (now (reading .exit)) r ⌝ }
+{
+    through_seats::reading(src, seat, number, reading)
+}
+
+#[no_mangle]
+pub extern "C" fn session_preview(src: &[u8], seat: u64, number: u64, figures: &mut [u64]) -> u64
+    ensures { λ r. ⌜ TellsPreviewThrough (now (src .entry)) seat number (now (figures .entry)) (now (figures .exit)) r ⌝ }
+{
+    through_seats::preview(src, seat, number, figures)
+}
+
+#[no_mangle]
+pub extern "C" fn session_curve(src: &[u8], seat: u64, number: u64, points: &mut [u64]) -> u64
+    ensures { λ r. ⌜ TellsCurveThrough (now (src .entry)) seat number (now (points .entry)) (now (points .exit)) r ⌝ }
+{
+    through_seats::curve(src, seat, number, points)
+}
+
+#[no_mangle]
+pub extern "C" fn session_settlement(
+    src: &[u8],
+    seat: u64,
+    number: u64,
+    limit: u64,
+    figures: &mut [u64],
+    awards: &mut [u8],
+) -> u64
+    ensures { λ r. ⌜ TellsSettlementThrough (now (src .entry)) seat number limit (now (figures .entry)) (now (figures .exit))
+        (now (awards .entry)) (now (awards .exit)) r ⌝ }
+{
+    through_seats::settlement(src, seat, number, limit, figures, awards)
+}
+
+#[no_mangle]
+pub extern "C" fn session_forcing(
+    src: &[u8],
+    seat: u64,
+    number: u64,
+    first: u64,
+    second: u64,
+    prices: &[u64],
+    chosen: &mut [u8],
+) -> u64
+    ensures { λ r. ⌜ TellsForcingThrough (now (src .entry)) seat number first second (now (prices .entry)) (now (chosen .entry)) (now (chosen .exit)) r ⌝ }
+{
+    if !seat_numbers::conducts_by(seat, number) {
+        return host_numbers::host_number(engine_refusals::NO_RIGHT, 0);
+    }
+    let told = record_forcing::who_can_force(src, true, first, second, prices, chosen);
+    host_numbers::host_number(told.number, told.outcome as u64)
+}
+
+// The plain record of a session: the frames of all that its seats had the right to ask.
+#[no_mangle]
+pub extern "C" fn session_record(src: &[u8], out: &mut [u8]) -> u64
+    ensures { λ r. ⌜ r ≡ hosted (sessionRecord (now (src .entry))) (now (out .entry)) ⌝ }
+    ensures { λ _. ⌜ now (out .exit) ≡ over (sessionRecord (now (src .entry))) (now (out .entry)) ⌝ }
+{
+    session_record::session_record(src, out)
 }
 
 // The sealed auction for long builds (document 02, 13): what is left, and the award of each offer from the buffer's start.

@@ -14,4 +14,6 @@ pub mod MomentsOut
 pub mod Samples
 pub mod CallsOfC
 pub mod WritersOfC
+pub mod FiguresOfC
+pub mod SessionsOfC
 pub mod Printed

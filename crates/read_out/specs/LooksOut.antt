@@ -26,8 +26,8 @@ use Rattle.hall.specs.hall_readings.Looks.{noSupplyPoint, supplyPointOf}
 use Rattle.hall.specs.declared.hall_readings.SupplyPointThrough.{SupplyPointThrough}
 use Rattle.hall.proofs.hall_readings.who_can_force.{signature}
 use Rattle.hall.proofs.hall_readings.who_can_force.Reads as forcing
-use Rattle.hall.specs.seat_rights.Rights.{seatIn}
-use Rattle.hall.specs.declared.seat_rights.Seat.{Seat}
+use Rattle.seats.specs.Rights.{seatIn}
+use Rattle.seats.specs.declared.Seat.{Seat}
 use Rattle.statement.specs.EveryList.{Made}
 use Rattle.statement.specs.HallRuns.{MadeThrough, SeatedRun}
 use Rattle.statement.specs.Previewed.{Foretells}

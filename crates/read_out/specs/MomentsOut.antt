@@ -9,9 +9,9 @@ use Rattle.rules_seats.specs.Views.{Moment, answersAt, view, moments, told, own
 use Rattle.hall.specs.declared.Hall.{Hall}
 use Rattle.hall.specs.seat_readings.Shown.{shownReading}
 use Rattle.hall.specs.declared.seat_readings.Reading.{Reading}
-use Rattle.hall.specs.seat_rights.Rights.{seatIn}
-use Rattle.hall.specs.declared.seat_rights.Seat.the-variants.{Developer}
-use Rattle.hall.specs.declared.seat_rights.Seat.{Seat}
+use Rattle.seats.specs.Rights.{seatIn}
+use Rattle.seats.specs.declared.Seat.the-variants.{Developer}
+use Rattle.seats.specs.declared.Seat.{Seat}
 use Rattle.statement.specs.HallRuns.{MadeThrough, HallRun}
 use Rattle.statement.specs.Moments.{Passes, Passed}
 use Rattle.statement.specs.EveryMoment.{ReadsAt, MomentWith}

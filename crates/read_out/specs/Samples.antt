@@ -18,7 +18,7 @@ use Rattle.rules_sealed.specs.ListOrderSample.{inFront, behindThem, SameOffers}
 use Rattle.rules_seats.specs.Views.{view, ownAnswers}
 use Rattle.rules_seats.specs.SeatSample.{one as run, other as otherRun}
 use Rattle.engine_auction.specs.Holds.{heldAuction}
-use Rattle.hall.specs.declared.seat_rights.Seat.the-variants.{Developer}
+use Rattle.seats.specs.declared.Seat.the-variants.{Developer}
 use Rattle.hall.specs.declared.seat_readings.Reading.{Reading}
 use Rattle.hall.specs.declared.Hall.{Hall}
 use Rattle.statement.specs.EqualAuctions.{EqualAuctions}

@@ -1,33 +1,40 @@
 -- A text in a lent buffer where it fits, from a run of the replies; the refusal; and what the program prints, by the tests.
-use Prim.Native.Nat.{ℕ, _≤_, _<_}
-use mathlib.Core.Path.{_≡_, refl, sym, ap, _∙_}
+use Prim.Native.Nat.{ℕ, _+_, _≤_, _<_}
+use mathlib.Core.Path.{_≡_, refl, sym, ap, ap₂, subst, _∙_}
 use mathlib.Core.Logic.{⊎-elim}
-use mathlib.Core.Bool.{true}
-use mathlib.Core.List.{List, [], _++_, append-assoc}
+use mathlib.Core.Bool.{Bool, true, false, cond}
+use mathlib.Core.List.{List, [], _∷_, _++_, map, append-assoc}
 use native.Mathlib.Nat.{zero-add}
 use native.Mathlib.Omega.{arith}
 use borrow.Author.Tests.{le-leb, lt-leb, leb-true}
 use lib.Dec.{leb}
 use lib.ListN.{length, take, drop, take-append-drop}
-use lib.Seq.{take-at, drop-append-le, length-take-le}
+use lib.Seq.{take-at, drop-append-le, length-take-le, getD-drop}
 use Rattle.rules_numbers.specs.Cases.{le-or-lt}
+use Rattle.rules_numbers.specs.Lists.{total}
 use Rattle.rules_numbers.specs.Tails.{laid}
-use Rattle.rules_format.specs.Hex.{charOf, digits}
+use Rattle.rules_format.specs.Hex.{charOf, valueOf, digits}
+use Rattle.rules_format.specs.Lines.{lines}
+use Rattle.rules_format.specs.SessionLines.{frameIn}
 use Rattle.rules_auction.specs.Ledger.{start}
 use Rattle.rules_auction.specs.Rounds.{stepAll, ledger}
-use Rattle.rules_replies.specs.Lengths.{mostIn, replies-bound}
+use Rattle.rules_replies.specs.Lengths.{mostOf, mostTo, mostIn, replies-bound}
 use Rattle.rules_replies.specs.Replies.{answerLine, replies}
+use Rattle.rules_seats.specs.sessions.Sessions.{sessionReplies}
+use Rattle.rules_seats.specs.sessions.SessionFigureLaws.{session-replies-few}
+use Rattle.rules_seats.specs.sessions.LinesReadLaws.{record-replies-read, session-replies-read}
 use Rattle.engine_auction.specs.Holds.{heldAuction}
 use Rattle.engine_auction.specs.declared.Auction.{Auction}
 use Rattle.engine_auction.specs.Parts.{withClock}
 use Rattle.reply_writing.specs.Placed.{Puts}
+use Rattle.reply_writing.specs.reply_bound.Bounds.{mostBy, mostByAll}
 use Rattle.record_lines.specs.record_start.Progress.{puts-behind, all-replied}
 use Rattle.record_lines.specs.record_start.Begins.{Begins}
 use Rattle.record_lines.specs.declared.record_start.Begun.{Begun}
 use Rattle.record_replies.specs.Runs.{Runs}
 use Rattle.record_replies.specs.declared.Ran.{Ran}
 use Rattle.record_replay.specs.host_numbers.HostNumbers.{valueAnswer, hostNumber}
-use Rattle.record_replay.specs.Replayed.{over, Replied, Fitted, hosted, printed}
+use Rattle.record_replay.specs.Replayed.{repliesOf, over, Replied, Fitted, hosted, printed}
 
 -- ---- a text where it fits
 
@@ -81,23 +88,44 @@ put-replied t o out limit r p = record {
 module _ (s : List ℕ) (limit : ℕ) (o out : List ℕ) (b : Begun) (d : Begins s limit o out b) where
   -- the first lines are all
   pub begun-all : length s ≤ b .read → Replied (replies s) limit o out (b .written)
-  unfolding replies ledger stepAll
-  begun-all h = put-replied _ _ _ _ _ (all-replied _ _ _ _ _ _ _ _ _ _ d h)
+  unfolding ledger stepAll
+  begun-all h = subst (λ (t : List ℕ). Replied t limit o out (b .written)) (record-replies-read s)
+      (put-replied _ _ _ _ _ (all-replied _ _ _ _ _ _ _ _ _ _ _ d h))
 
   -- the run over those behind them
   pub begun-run : (a : Auction) (out′ : List ℕ) (r : Ran) → a ≡ withClock (heldAuction start) (b .phase) (b .settings) (b .opening) (b .closing) →
-      Runs a s (b .read) limit (b .written) out out′ r → Replied (replies s) limit o out′ (r .written)
-  unfolding replies ledger stepAll
-  begun-run a out′ r e w =
-      put-replied _ _ _ _ _
-      (rw (d .all) (puts-behind (d .done) _ limit 0 (b .written) (r .written) o out out′ (d .puts) (w .replied (d .calls) (e ∙ d .holds))))
+      Runs a s false (b .read) limit (b .written) out out′ r → Replied (replies s) limit o out′ (r .written)
+  unfolding ledger stepAll
+  begun-run a out′ r e w = subst (λ (t : List ℕ). Replied t limit o out′ (r .written)) (record-replies-read s)
+      (put-replied _ _ _ _ _
+      (rw (d .all) (puts-behind (d .done) _ limit 0 (b .written) (r .written) o out out′ (d .puts) (w .replied (d .calls) (e ∙ d .holds)))))
+
+-- a session is run from a fresh auction
+pub session-run : (s : List ℕ) (limit : ℕ) (o out : List ℕ) (a : Auction) (r : Ran) → a ≡ heldAuction (ledger []) → Runs a s true 0 limit 0 o out r →
+    Replied (sessionReplies s) limit o out (r .written)
+unfolding ledger stepAll
+session-run s limit o out a r e w = subst (λ (t : List ℕ). Replied t limit o out (r .written)) (session-replies-read s)
+    (put-replied _ _ _ _ _ (w .replied [] e))
+
+-- the frame's second digit is the line's sixth character
+behind-seats : (ls : List (List ℕ)) → total (map (λ line. mostTo (frameIn line)) ls) ≡ total (map (mostBy 5) ls)
+unfolding mostTo mostBy total
+behind-seats [] = refl
+behind-seats (line ∷ ls) = ap₂ (λ (x y : ℕ). x + y) (ap (λ (c : ℕ). mostOf (valueOf c)) (getD-drop 4 line 1 0)) (behind-seats ls)
+
+-- no more bytes than the digits of the kinds allow
+replies-most : (seated : Bool) (s : List ℕ) → length (repliesOf seated s) ≤ mostByAll (cond seated 5 1) s
+unfolding mostByAll mostBy mostTo mostIn
+replies-most false s = replies-bound s
+replies-most true s = rw (sym (behind-seats (lines s))) (session-replies-few s)
 
 -- into a buffer that is surely long enough
-pub replied-surely : (s o out : List ℕ) (r : ℕ) → leb (mostIn s) (length o) ≡ true → Replied (replies s) (length o) o out r
-    → Fitted (replies s) o out r
-replied-surely s o out r e w =
-    let h : length (replies s) ≤ length o = omega (arith, leb-true (mostIn s) (length o) e, replies-bound s) in
-    fitted-yes (replies s) o out r h (w .fits h) (w .text h h)
+pub replied-surely : (seated : Bool) (place : ℕ) (s o out : List ℕ) (r : ℕ) → place ≡ cond seated 5 1 → leb (mostByAll place s) (length o) ≡ true →
+    Replied (repliesOf seated s) (length o) o out r → Fitted (repliesOf seated s) o out r
+replied-surely seated place s o out r ep e w =
+    let h : length (repliesOf seated s) ≤ length o =
+    omega (arith, leb-true (mostByAll place s) (length o) e, ap (λ (k : ℕ). mostByAll k s) ep, replies-most seated s) in
+    fitted-yes (repliesOf seated s) o out r h (w .fits h) (w .text h h)
 
 -- into other bytes b first, now x, with the buffer's length as the limit
 module _ (t o b x : List ℕ) (n : ℕ) (w : Replied t (length o) b x n) where

@@ -1,13 +1,18 @@
 -- A text in a lent buffer, the number that a host is given for it, and what the program prints (document 01, Frames).
 use Prim.Native.Nat.{ℕ, _≤_, _<_}
 use mathlib.Core.Path.{_≡_}
-use mathlib.Core.Bool.{cond, _&&_}
+use mathlib.Core.Bool.{Bool, cond, _&&_}
 use mathlib.Core.List.{List, []}
 use lib.Dec.{leb}
 use lib.ListN.{length}
 use Rattle.rules_numbers.specs.Tails.{laid}
 use Rattle.rules_replies.specs.Replies.{answerLine, replies}
+use Rattle.rules_seats.specs.sessions.Sessions.{sessionReplies}
 use Rattle.record_replay.specs.host_numbers.HostNumbers.{valueAnswer, hostNumber}
+
+-- the replies to a record or, where `seated` says so, to a session
+abbrev pub repliesOf : Bool → List ℕ → List ℕ
+repliesOf seated bytes = cond seated (sessionReplies bytes) (replies bytes)
 
 -- the texts t: r is their length if that is at most the limit, else above it; and they stand at the buffer's start, if they are within the limit and fit
 pub record Replied (t : List ℕ) (limit : ℕ) (o out : List ℕ) (r : ℕ) : Type 0 where

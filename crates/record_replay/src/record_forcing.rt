@@ -1,8 +1,7 @@
-// Who can force the price in the auction that a record leaves behind (document 02, 11). The best first move goes into a lent buffer.
+// Who can force the price in the auction that a record or a session leaves behind (document 02, 11). The best first move goes into a lent buffer.
 ghost use mathlib.Core.Path.{_≡_};
 ghost use mathlib.Core.Bool.{cond};
-ghost use Rattle.rules_auction.specs.Rounds.{ledger};
-ghost use Rattle.rules_replies.specs.record_calls.Calls.{callsIn};
+ghost use Rattle.record_replay.specs.record_auction.Leaves.{ledgerOf};
 ghost use Rattle.record_replay.specs.record_forcing.Chosen.{Tells};
 use crate::record_auction;
 use engine_looks::forcing;
@@ -23,11 +22,19 @@ fn move_byte(withdraws: bool) -> u8
     0
 }
 
-// Makes the calls that a record asks, from a fresh auction, and tells who can force the price there.
-pub fn who_can_force(src: &[u8], first: u64, second: u64, prices: &[u64], chosen: &mut [u8]) -> Told
-    ensures { λ r. ⌜ Tells (ledger (callsIn (now (src .entry)))) first second (now (prices .entry)) (now (chosen .entry)) (now (chosen .exit)) r ⌝ }
+// Makes the calls that a record or, where `seated` says so, a session asks, from a fresh auction, and tells who can force the price there.
+pub fn who_can_force(
+    src: &[u8],
+    seated: bool,
+    first: u64,
+    second: u64,
+    prices: &[u64],
+    chosen: &mut [u8],
+) -> Told
+    ensures { λ r. ⌜ Tells (ledgerOf seated (now (src .entry))) first second (now (prices .entry)) (now (chosen .entry)) (now (chosen .exit)) r ⌝ }
 {
-    let auction = record_auction::auction_after(src);
+    let left = record_auction::after(src, seated);
+    let auction = left.auction;
     let forced = forcing::who_can_force(auction, first, second, prices);
     if forced.number != 0 {
         return Told {

@@ -1,11 +1,12 @@
-// The replies to the lines of a record, from an auction on (document 01, Frames), in one loop. It keeps the auction as its one local: a line is read
-// and decided from the clock and what the auction holds where the call reaches, and only what changes is stored.
+// The replies to the lines of a record or of a session, from an auction on (document 01, Frames), in one loop. It keeps the auction as its one local: a line
+// is read and decided from the clock and what the auction holds where the call reaches, and only what changes is stored.
 ghost use mathlib.Core.Path.{_≡_};
 ghost use Prim.Native.Nat.{_<_};
 ghost use Rattle.record_replies.specs.Runs.{Runs};
 ghost use Rattle.reply_writing.specs.Placed.{most};
 use engine_auction::Auction;
 use engine_refusals::MALFORMED_LINE;
+use engine_refusals::NO_RIGHT;
 use engine_refusals::NOT_IN_THIS_PHASE;
 use engine_settling::Settled;
 use engine_settling::UNSETTLED;
@@ -13,31 +14,37 @@ use frame_bytes::lines;
 use frame_reading::arguments;
 use frame_reading::frames;
 use record_lines::line_calls;
+use record_lines::line_seats;
 
-// The auction behind the lines; the place behind their replies, above the limit where they have more; and its settlement with the bytes of the award
-// records, if one was kept.
+// The auction behind the lines; the place behind their replies, above the limit where they have more; the excess of the latest closing that was accepted, 0
+// before there is any, and how many were; and the settlement with the bytes of the award records, if one was kept.
 pub struct Ran {
     pub auction: Auction,
     pub written: usize,
+    pub excess: i64,
+    pub closings: usize,
     pub kept: bool,
     pub settled: Settled,
     pub awards: [u8; 192],
 }
 
-// The replies to the lines from the place `from` of the record on, written from the place `end` of `out` on: each behind the others, where all of them so
-// far end within the limit and lie within `out`.
+// The replies to the lines from the place `from` on, of a record or, where `seated` says so, of a session, written from the place `end` of `out` on: each
+// behind the others, where all of them so far end within the limit and lie within `out`.
 pub fn run(
     start: Auction,
     bytes: &[u8],
+    seated: bool,
     from: usize,
     limit: usize,
     end: usize,
     out: &mut [u8],
 ) -> Ran
     requires { ⌜ limit < most ⌝ }
-    ensures { λ r. ⌜ Runs start (now (bytes .entry)) from limit end (now (out .entry)) (now (out .exit)) r ⌝ }
+    ensures { λ r. ⌜ Runs start (now (bytes .entry)) seated from limit end (now (out .entry)) (now (out .exit)) r ⌝ }
 {
     let mut auction = start;
+    let mut excess: i64 = 0;
+    let mut closings: usize = 0;
     // a closed auction never changes again: its settlement, once found
     let mut kept = false;
     let mut settled = UNSETTLED;
@@ -46,9 +53,13 @@ pub fn run(
     let mut written: usize = end;
     while read < bytes.len() {
         let line = lines::next_line(bytes, read);
-        let frame = frames::decode(line);
+        let frame = frames::decode(line_seats::frame_part(line, seated));
         read = read + line.len() + 1;
         let kind = frame.kind;
+        if line_seats::is_barred(line, seated, frame) {
+            written = reply_writing::plain_at(out, limit, written, kind, NO_RIGHT);
+            continue;
+        }
         if line_calls::is_move(kind) {
             let i = line_calls::mover(frame);
             let settings = auction.settings;
@@ -141,6 +152,8 @@ pub fn run(
             auction.quantities = left;
             auction.histories = withdrawn;
             auction.curve = extended;
+            excess = rounded.excess;
+            closings += 1;
             let reply = reply_values::closing_reply(0, rounded.excess, rounded.remainder);
             written = reply_writing::reply_at(out, limit, written, reply);
             continue;
@@ -175,6 +188,8 @@ pub fn run(
     Ran {
         auction,
         written,
+        excess,
+        closings,
         kept,
         settled,
         awards,

@@ -6,7 +6,8 @@ use mathlib.Core.Bool.{Bool, true, false, cond, not, _&&_, false≢true, true≢
 use mathlib.Core.List.{List, [], _∷_}
 use lib.Dec.{eqb}
 use borrow.Author.Tests.{eqb-true}
-use Rattle.rules_auction.specs.Ledger.{Move, Offer, Lodge, Cancel, Call, SetUp, Register, Open, By, Close, Developer, Ledger, start, withDeveloper}
+use Rattle.rules_auction.specs.Ledger.{Agency, Declaration, Move, Offer, Lodge, Cancel, Call, SetUp, Register, Open, By, Close, Developer, Ledger, start}
+use Rattle.rules_auction.specs.Ledger.{withDeveloper}
 use Rattle.rules_auction.specs.Refusals.{inRound, moveRefusal, refusal}
 use Rattle.rules_auction.specs.Rounds.{applied, accepted, step, Answered, bareAnswer, granted, answer}
 use Rattle.laws_ledger.specs.reachable.Checks.{set-up-passed, open-passed, close-passed}
@@ -174,12 +175,16 @@ module _ (n : ℕ) (h : HallLedger) where
   for-another Auditor k m t r o = absurd (false≢true (sym (ap (λ (b : Bool). cond b false false) t) ∙ r))
   for-another (At j) k m t r o = ap (λ (i : ℕ). eqb i n) (eqb-true k j (own-move j k m r .1)) ∙ o
 
+  registers-another : (k : ℕ) (w : Agency) (x : Declaration) → isFor n (Register k w x) ≡ false → eqb k n ≡ false
+  unfolding isFor
+  registers-another k w x f = f
+
   pub by-others :
       (s : Seat) (c : Call) → mayMake s c ≡ true → ownSeat n s ≡ false → isFor n c ≡ false → movesClock c ≡ false →
       sight n (taken h c) ≡ sight n h
   unfolding isFor movesClock accepted latestExcess
   by-others s (SetUp x) r o f e = absurd (true≢false e)
-  by-others s (Register k w x) r o f e = beside k _ f
+  by-others s (Register k w x) r o f e = beside k _ (registers-another k w x f)
   by-others s (Open p) r o f e = absurd (true≢false e)
   by-others s (By k m) r o f e = beside k _ (go (forItself m) refl)
     where

@@ -6,7 +6,10 @@ pub mod SessionReplyLaws
 pub mod SentLaws
 pub mod SessionViewLaws
 pub mod SessionFigureLaws
+pub mod BeyondLaws
 pub mod SeatedLines
+pub mod LinesRead
+pub mod LinesReadLaws
 pub mod AddedLines
 pub mod AuctioneerLaws
 pub mod SessionSample

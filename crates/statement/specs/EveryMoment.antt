@@ -14,9 +14,9 @@ use Rattle.rules_seats.specs.Views.{Event, shown, view, Moment, answersAt, mome
 use Rattle.rules_seats.specs.ViewLaws.{by-view-alone}
 use Rattle.rules_seats.specs.ToldLaws.{same-answers}
 use Rattle.engine_auction.specs.Holds.{heldAuction}
-use Rattle.hall.specs.seat_rights.Rights.{seatIn}
-use Rattle.hall.specs.declared.seat_rights.Seat.{Seat}
-use Rattle.hall.specs.declared.seat_rights.Seat.the-variants.{Developer}
+use Rattle.seats.specs.Rights.{seatIn}
+use Rattle.seats.specs.declared.Seat.{Seat}
+use Rattle.seats.specs.declared.Seat.the-variants.{Developer}
 use Rattle.hall.specs.seat_readings.Shown.{shownReading}
 use Rattle.hall.specs.declared.seat_readings.Reading.{Reading}
 use Rattle.hall.specs.ThroughLaws.{held-through}

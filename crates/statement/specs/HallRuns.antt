@@ -19,8 +19,8 @@ use Rattle.engine_auction.specs.Called.{setsUp, registers, registersFor}
 use Rattle.engine_auction.specs.declared.Auction.{Auction}
 use Rattle.engine_auction.specs.declared.Answer.{Answer}
 use Rattle.engine_auction.proofs.Auction.new.Reads as new
-use Rattle.hall.specs.seat_rights.Rights.{seatIn}
-use Rattle.hall.specs.declared.seat_rights.Seat.{Seat}
+use Rattle.seats.specs.Rights.{seatIn}
+use Rattle.seats.specs.declared.Seat.{Seat}
 use Rattle.hall.specs.Through.{heldHall, CalledThrough, hallAnswerIn, hallClosingIn}
 use Rattle.hall.specs.ThroughLaws.{held-through}
 use Rattle.hall.specs.declared.Hall.{Hall}

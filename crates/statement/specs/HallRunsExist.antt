@@ -15,9 +15,9 @@ use Rattle.rules_seats.specs.Seats.{permitted, throughSeats}
 use Rattle.rules_seats.specs.SeatLaws.{hall-ledger-snoc, hall-answers-snoc, hall-is}
 use Rattle.engine_auction.specs.Holds.{heldAuction}
 use Rattle.engine_auction.specs.Called.{Called}
-use Rattle.hall.specs.seat_rights.Rights.{seatIn}
-use Rattle.hall.specs.declared.seat_rights.Seat.{Seat}
-use Rattle.hall.specs.declared.seat_rights.Seat.the-variants.{Auctioneer, Auditor, Developer}
+use Rattle.seats.specs.Rights.{seatIn}
+use Rattle.seats.specs.declared.Seat.{Seat}
+use Rattle.seats.specs.declared.Seat.the-variants.{Auctioneer, Auditor, Developer}
 use Rattle.hall.specs.Through.{heldHall, CalledThrough}
 use Rattle.hall.specs.declared.Hall.{Hall}
 use Rattle.statement.specs.Runs.{called, lent}

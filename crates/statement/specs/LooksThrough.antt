@@ -23,8 +23,8 @@ use Rattle.engine_looks.specs.rivals.Plain.{withdrawsBy}
 use Rattle.engine_looks.specs.forcing.Forces.{refusedForcing}
 use Rattle.engine_looks.specs.declared.forcing.Forced.{Forced}
 use Rattle.rules_seats.specs.Seats.{mayConduct, mayMake, Entry, permitted}
-use Rattle.hall.specs.seat_rights.Rights.{seatIn}
-use Rattle.hall.specs.declared.seat_rights.Seat.{Seat}
+use Rattle.seats.specs.Rights.{seatIn}
+use Rattle.seats.specs.declared.Seat.{Seat}
 use Rattle.engine_auction.specs.declared.Auction.{Auction}
 use Rattle.engine_looks.specs.readings.Readings.{previewIn, supplyPointIn}
 use Rattle.engine_looks.specs.declared.readings.Preview.{Preview}

@@ -13,8 +13,8 @@ use Rattle.rules_seats.specs.Changes.{isAccepted, CallRefused, CallAccepted, ou
 use Rattle.rules_seats.specs.Sights.{own-move}
 use Rattle.rules_seats.specs.Views.{Event, ownSeat, isFor, askedBy, madeFor, shown, viewFrom, view, movesClock}
 use Rattle.rules_seats.specs.ViewLaws.{for-not-clock}
-use Rattle.hall.specs.seat_rights.Rights.{seatIn}
-use Rattle.hall.specs.declared.seat_rights.Seat.{Seat}
+use Rattle.seats.specs.Rights.{seatIn}
+use Rattle.seats.specs.declared.Seat.{Seat}
 use Rattle.hall.specs.declared.Hall.{Hall}
 use Rattle.statement.specs.HallRuns.{MadeThrough, HallRun, fresh, followed}
 

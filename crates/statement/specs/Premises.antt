@@ -19,7 +19,7 @@ use Rattle.rules_sealed.specs.ListOrderSample.{inFront, behindThem, both-accept
 use Rattle.rules_seats.specs.Views.{view, ownAnswers}
 use Rattle.rules_seats.specs.SeatSample.{one as run, other as otherRun}
 use Rattle.rules_seats.specs.ViewSample.{equal-views}
-use Rattle.hall.specs.declared.seat_rights.Seat.the-variants.{Developer}
+use Rattle.seats.specs.declared.Seat.the-variants.{Developer}
 use Rattle.hall.specs.declared.seat_readings.Reading.{Reading}
 use Rattle.hall.specs.declared.Hall.{Hall}
 use Rattle.statement.specs.EqualAuctions.{EqualAuctions, equal-auctions}

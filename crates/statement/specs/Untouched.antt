@@ -24,7 +24,7 @@ use Rattle.engine_settling.proofs.settle.Reads as settle
 use Rattle.rules_seats.specs.Seats as seats
 use Rattle.rules_seats.specs.Seats.{mayMake, maySettle}
 use Rattle.rules_seats.specs.SeatLaws.{refused-excess}
-use Rattle.hall.specs.declared.seat_rights.Seat.{Seat}
+use Rattle.seats.specs.declared.Seat.{Seat}
 use Rattle.hall.specs.Through.{CalledThrough}
 use Rattle.hall.specs.declared.Hall.{Hall}
 use Rattle.hall.specs.hall_readings.Looks.{SettlesThrough}

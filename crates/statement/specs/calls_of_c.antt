@@ -4,5 +4,16 @@ pub mod Replay
 pub mod Forcing
 pub mod Sealed
 pub mod Writers
+pub mod LatestExcess
+pub mod FiguresReturned
+pub mod SettlementReturned
+pub mod RecordFigures
+pub mod SeatedReplies
+pub mod SeatRights
+pub mod SeatedFigures
+pub mod ReadingReturned
+pub mod SeatLines
+pub mod DevelopersPromised
+pub mod Sessions
 pub mod Programs
 pub mod Exported

@@ -97,7 +97,7 @@ fn put_curve(text: &mut [u8], from: usize, auction: Auction, points: usize) -> u
 fn put_reply(text: &mut [u8], at: usize, auction: Auction, line: &[u8]) -> Ran
     requires { ⌜ at ≤ length (now text) ⌝ }
 {
-    record_replies::run(auction, line, 0, LONGEST_REPLY, 0, &mut text[at..])
+    record_replies::run(auction, line, false, 0, LONGEST_REPLY, 0, &mut text[at..])
 }
 
 // Puts the trace of a record's lines, and gives the place behind what is not yet written out.

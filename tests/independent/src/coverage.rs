@@ -10,6 +10,7 @@ mod features;
 mod games;
 mod hall;
 mod lodgings;
+mod looks;
 mod moves;
 mod orders;
 mod pairs;
@@ -18,6 +19,7 @@ mod remainders;
 mod sealed;
 mod searches;
 mod settlings;
+mod views;
 
 pub use buffers::Buffer;
 pub(crate) use buffers::BUFFERS;
@@ -29,6 +31,7 @@ pub use features::{Features, Kind};
 pub use games::{Asked, QUESTIONS};
 pub use hall::SEATS;
 pub use lodgings::{Lodgings, LODGINGS};
+pub use looks::{Answered, Line, Looked, RECORD_LOOKS, SESSION_LOOKS};
 pub(crate) use moves::{Moves, MOVES};
 pub(crate) use orders::Orders;
 pub use orders::PASSAGES;
@@ -39,6 +42,7 @@ pub use sealed::{Opened, SEALED};
 pub(crate) use searches::SEARCHES;
 pub(crate) use settlings::{Settlings, SETTLINGS};
 use std::collections::BTreeMap;
+pub use views::{Viewed, VIEWS};
 
 /// Adds the counts of another map.
 pub(crate) fn add<K: Ord>(counts: &mut BTreeMap<K, u64>, others: BTreeMap<K, u64>) {

@@ -1,7 +1,7 @@
 -- Settling: each refusal in its order, then the records of the award. What the parts ensure is gathered once, in `computed`.
 use native.Mathlib.Omega.{arith}
 use borrow.Author.Needs.{needs}
-use Rattle.engine_settling.proofs.Settling.{Computed, settle-phase, settle-over, settle-no-room, settle-accepted}
+use Rattle.engine_settling.proofs.Settling.{Computed, Given, settle-phase, settle-over, settle-no-room, settle-accepted}
 use Rattle.engine_settling.proofs.settle.Statement.{statement}
 use Rattle.engine_settling.proofs.settle.Tie as tie
 
@@ -39,6 +39,24 @@ returns-3 c =
 write-awards-requires : tie.Need-write-awards-requires
 write-awards-requires c κs = search needs
 
+-- the ways back from the price paid to the calls of `select` and of `winners`
+abbrev selected : tie.After-price-paid → tie.After-select
+selected c = c .before .before .before .before .before .before .before .before .before .before .before .before .before
+
+abbrev awarded : tie.After-price-paid → tie.After-winners
+awarded c = c .before .before .before .before .before
+
+given :
+    (c : tie.After-price-paid) →
+    let x = selected c in
+    let a = cleared x .before .before .before .before .args .auction in
+    Given a (cleared x .clear .result) (x .select .result) (awarded c .winners .result) (c .before .insufficient .result) (c .price-paid .result)
+given c = record {
+  won = awarded c .winners .ensures;
+  judged = c .before .insufficient .ensures;
+  to-pay = c .price-paid .ensures;
+}
+
 returns-4 : tie.Need-returns-4
 returns-4 c =
     let q = c .before .before .before .before .before in
@@ -48,7 +66,7 @@ returns-4 c =
     rw (c .accepted .ensures)
     (settle-accepted _ _ _ _ _ (computed (n .before .before .before .before)) _ (n .before .before .if2 .left) _ (n .count-awards .ensures .0)
     (f .if3 .left) _ _ _ _
-    (w .winners .ensures) (q .before .insufficient .ensures) (q .price-paid .ensures) (c .before .before .before .write-awards .ensures))
+    (given q) (c .before .before .before .write-awards .ensures))
 
 pub settle-spec : {M : Type 1} → statement M
 settle-spec =

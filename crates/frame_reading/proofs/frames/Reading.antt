@@ -157,6 +157,20 @@ pub asked-length : (l : List ℕ) → WellFormed l → (k : ℕ) → k ≡ kindO
 unfolding askedWidths
 asked-length l w k e = rw e (omega (arith, w .exact, total-layout (kindOf l) (repeats (kindOf l) (fieldsAt (fixed (kindOf l)) (drop 2 l)))))
 
+-- past all of them, where it is of kind k and n fields follow the fixed ones
+module _ (l : List ℕ) (k n : ℕ) (e : k ≡ kindOf l) (q : n ≡ repeats k (fieldsAt (fixed k) (drop 2 l))) where
+  asked-are : askedWidths l ≡ layout k n
+  unfolding askedWidths
+  asked-are = rw (q, e)
+
+  pub passed : length l ≤ longestLine → allHex l ≡ true → known k ≡ true → length l ≡ 2 + total (fixed k) + listed * n → WellFormed l
+  passed short hex there exact = record {
+    short = short;
+    hex = hex;
+    kind-known = rw e at there;
+    exact = exact ∙ omega (arith, ap total asked-are, total-layout k n);
+  }
+
 module _ (l : List ℕ) (f : Frame) where
   -- what `decode` ensures
   abbrev pub Decodes : Type 0
@@ -168,8 +182,8 @@ module _ (l : List ℕ) (f : Frame) where
   pub accepted : (k n : ℕ) → k ≡ kindOf l → n ≡ repeats k (fieldsAt (fixed k) (drop 2 l)) → length l ≤ longestLine → allHex l ≡ true → known k ≡ true
       → length l ≡ 2 + total (fixed k) + listed * n → (f .kind ≡ 0 → ⊥) → f .kind ≡ k → take (f .count) (f .fields) ≡ fieldsAt (layout k n) (drop 2 l)
       → Decodes
-  unfolding askedWidths callOf
+  unfolding callOf
   accepted k n e q short hex there exact fz fk ff =
-      let a : askedWidths l ≡ layout k n = rw (q, e) in
-      let w : WellFormed l = record { short = short; hex = hex; kind-known = rw e at there; exact = exact ∙ omega (arith, ap total a, total-layout k n) } in
-      (call-some f fz ∙ ap some (ap₂ rawCall (fk ∙ e) (ff ∙ ap (λ (ws : List ℕ). fieldsAt ws (drop 2 l)) (sym a))) ∙ sym (reads l w), λ z. absurd (fz z))
+      let fields = ff ∙ ap (λ (ws : List ℕ). fieldsAt ws (drop 2 l)) (sym (asked-are l k n e q)) in
+      let w = passed l k n e q short hex there exact in
+      (call-some f fz ∙ ap some (ap₂ rawCall (fk ∙ e) fields) ∙ sym (reads l w), λ z. absurd (fz z))

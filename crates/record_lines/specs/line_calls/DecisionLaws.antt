@@ -77,7 +77,7 @@ none-asked f em er ec e5 e6 = go (eqb (f .kind) 0) refl
 -- ---- calls that answer with a number alone
 
 -- the number that a call answers
-answer-number : (l : Ledger) (c : Call) → answer l c .number ≡ refusal l c
+pub answer-number : (l : Ledger) (c : Call) → answer l c .number ≡ refusal l c
 answer-number l c = go (eqb (refusal l c) 0) refl
   where
     go : (b : Bool) → eqb (refusal l c) 0 ≡ b → answer l c .number ≡ refusal l c
@@ -128,19 +128,21 @@ takes-malformed a o e = rw e record {
 
 -- ---- a closing
 
+-- refused by 2 where no round is open
+pub no-round : (a : Auction) → (a .phase ≡ 2 → ⊥) → (cs : List Call) → a ≡ heldAuction (ledger cs) → refusal (ledger cs) Close ≡ 2
+unfolding refusal
+no-round a z cs h = rw (round-is a (ledger cs) h, ne-eqb (a .phase) 2 z)
+
 pub takes-no-round : (a : Auction) → (a .phase ≡ 2 → ⊥) → Takes a (Asks Close) a (answerLine 5 2 [])
-unfolding replyTo refusal answerLine
+unfolding replyTo answerLine
 takes-no-round a z = record {
   text =
-      λ cs h. ap (λ (y : Answered). answerLine 5 (y .number) (closingText y)) (sym (answer-refused (ledger cs) Close (refused cs h) ∙ ap bareAnswer (by cs h)));
+      λ cs h. ap (λ (y : Answered). answerLine 5 (y .number) (closingText y)) (sym (answer-refused (ledger cs) Close (refused cs h) ∙ ap bareAnswer (no-round a z cs h)));
   next = λ cs h. h ∙ ap heldAuction (sym (ledger-snoc cs Close ∙ step-refused (ledger cs) Close (refused cs h)));
 }
   where
-    by : (cs : List Call) → a ≡ heldAuction (ledger cs) → refusal (ledger cs) Close ≡ 2
-    by cs h = rw (round-is a (ledger cs) h, ne-eqb (a .phase) 2 z)
-
     refused : (cs : List Call) → a ≡ heldAuction (ledger cs) → refusal (ledger cs) Close ≡ 0 → ⊥
-    refused cs h e = let w = sym e ∙ by cs h in omega arith
+    refused cs h e = let w = sym e ∙ no-round a z cs h in omega arith
 
 -- ---- a settling: the auction stays
 

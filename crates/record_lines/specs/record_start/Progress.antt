@@ -1,6 +1,8 @@
--- How far a pass over the lines of a record has come: the calls asked and the replies put so far, and what a line more makes of them.
+-- How far a pass over the lines of a record, or of a session where `seated` says so, has come: the calls asked and the replies put so far, and what a
+-- line more makes of them.
 use Prim.Native.Nat.{ℕ, _+_, _≤_, _<_}
 use mathlib.Core.Path.{_≡_, refl, sym, ap, _∙_}
+use mathlib.Core.Bool.{Bool, false}
 use mathlib.Core.Logic.{⊎-elim}
 use mathlib.Core.List.{List, [], _∷_, _++_, append-assoc, append-nil}
 use native.Mathlib.Omega.{arith}
@@ -12,10 +14,9 @@ use Rattle.rules_format.specs.Lines.{lines, lineStart, lineEnd}
 use Rattle.rules_format.specs.LineLaws.{line-inside, next-line, no-line}
 use Rattle.rules_auction.specs.Ledger.{Call, Ledger}
 use Rattle.rules_auction.specs.Rounds.{ledger}
-use Rattle.rules_replies.specs.Orders.{orderIn}
-use Rattle.rules_replies.specs.Replies.{replyTo, repliesFrom}
-use Rattle.rules_replies.specs.record_calls.Calls.{askedCalls, callsOf}
-use Rattle.rules_replies.specs.record_calls.CallLaws.{after-asked}
+use Rattle.laws_ledger.specs.reachable.Steps.{ledger-append}
+use Rattle.rules_seats.specs.sessions.LinesRead.{orderAs, barredAs, replyAs, askedAs, repliesAs, callsAs}
+use Rattle.rules_seats.specs.sessions.LinesReadLaws.{reply-free, asked-free}
 use Rattle.engine_auction.specs.Holds.{heldAuction}
 use Rattle.engine_auction.specs.declared.Auction.{Auction}
 use Rattle.record_lines.specs.line_calls.Decisions.{Takes}
@@ -27,12 +28,12 @@ rest at s = lines (drop at s)
 
 -- of the lines behind `from`, those before `at` are answered: from the ledger of the calls cs they lead to the ledger of `calls`, which the auction a
 -- holds, and their replies are put at `before` of the buffer o, now out, as far as the limit allows
-pub record Progress (cs : List Call) (s : List ℕ) (from limit before : ℕ) (o out : List ℕ) (a : Auction) (at used : ℕ) : Type 0 where
+pub record Progress (seated : Bool) (cs : List Call) (s : List ℕ) (from limit before : ℕ) (o out : List ℕ) (a : Auction) (at used : ℕ) : Type 0 where
   pub calls : List Call
   pub done : List ℕ
   pub holds : a ≡ heldAuction (ledger calls)
-  pub asked : cs ++ callsOf (rest from s) ≡ calls ++ callsOf (rest at s)
-  pub all : repliesFrom (ledger cs) (rest from s) ≡ done ++ repliesFrom (ledger calls) (rest at s)
+  pub asked : cs ++ callsAs seated (rest from s) ≡ calls ++ callsAs seated (rest at s)
+  pub all : repliesAs seated (ledger cs) (rest from s) ≡ done ++ repliesAs seated (ledger calls) (rest at s)
   pub puts : Puts done limit before o out used
 
 -- ---- texts put one behind the other
@@ -62,9 +63,9 @@ puts-behind t u limit before used r o out out′ p q =
 
 -- ---- the pass
 
-pub progress-first : (cs : List Call) (s : List ℕ) (from limit before : ℕ) (o : List ℕ) (a : Auction) → a ≡ heldAuction (ledger cs) →
-    Progress cs s from limit before o o a from before
-progress-first cs s from limit before o a h = record {
+unfoldable pub progress-first : (seated : Bool) (cs : List Call) (s : List ℕ) (from limit before : ℕ) (o : List ℕ) (a : Auction) → a ≡ heldAuction (ledger cs) →
+    Progress seated cs s from limit before o o a from before
+progress-first seated cs s from limit before o a h = record {
   calls = cs;
   done = [];
   holds = h;
@@ -81,52 +82,55 @@ module _ (s l : List ℕ) (at : ℕ) (h : at < length s) (el : l ≡ part s (lin
   pub inside : at + length l ≤ length s
   inside = rw el (line-inside s at h)
 
-  pub line-replies : (cs : List Call) → repliesFrom (ledger cs) (rest at s)
-      ≡ replyTo (ledger cs) (orderIn l) ++ repliesFrom (ledger (cs ++ askedCalls (orderIn l))) (rest (at + length l + 1) s)
-  unfolding repliesFrom
-  line-replies cs = ap (repliesFrom (ledger cs)) first-line
-      ∙ ap (λ (m : Ledger). replyTo (ledger cs) (orderIn l) ++ repliesFrom m (rest (at + length l + 1) s)) (sym (after-asked cs (orderIn l)))
+  module _ (seated : Bool) where
+    pub line-replies : (cs : List Call) → repliesAs seated (ledger cs) (rest at s)
+        ≡ replyAs seated (ledger cs) l ++ repliesAs seated (ledger (cs ++ askedAs seated l)) (rest (at + length l + 1) s)
+    unfolding repliesAs
+    line-replies cs = ap (repliesAs seated (ledger cs)) first-line
+        ∙ ap (λ (m : Ledger). replyAs seated (ledger cs) l ++ repliesAs seated m (rest (at + length l + 1) s)) (sym (ledger-append cs (askedAs seated l)))
 
-  pub line-calls : callsOf (rest at s) ≡ askedCalls (orderIn l) ++ callsOf (rest (at + length l + 1) s)
-  unfolding callsOf
-  line-calls = ap callsOf first-line
+    pub line-calls : callsAs seated (rest at s) ≡ askedAs seated l ++ callsAs seated (rest (at + length l + 1) s)
+    unfolding callsAs
+    line-calls = ap (callsAs seated) first-line
 
-  -- one line more, answered by t
-  unfoldable pub progress-next : (cs : List Call) (from limit before : ℕ) (o out : List ℕ) (a : Auction) (used : ℕ)
-      (d : Progress cs s from limit before o out a at used)
-      (t out′ : List ℕ) (r : ℕ) (b : Auction) → Puts t limit used out out′ r → t ≡ replyTo (ledger (d .calls)) (orderIn l) →
-      b ≡ heldAuction (ledger (d .calls ++ askedCalls (orderIn l))) → Progress cs s from limit before o out′ b (at + length l + 1) r
-  progress-next cs from limit before o out a used d t out′ r b p text next =
-      let calls : List Call = d .calls ++ askedCalls (orderIn l) in
-      record {
-        calls = calls;
-        done = d .done ++ t;
-        holds = next;
-        asked = d .asked ∙ ap (λ (y : List Call). d .calls ++ y) line-calls ∙ sym (append-assoc (d .calls) (askedCalls (orderIn l)) _);
-        all = d .all
-            ∙ ap (λ (y : List ℕ). d .done ++ y)
-            (line-replies (d .calls) ∙ ap (λ (y : List ℕ). y ++ repliesFrom (ledger calls) (rest (at + length l + 1) s)) (sym text))
-            ∙ sym (append-assoc (d .done) t _);
-        puts = puts-behind (d .done) t limit before used r o out out′ (d .puts) p;
-      }
+    -- one line more, answered by t
+    unfoldable pub progress-next : (cs : List Call) (from limit before : ℕ) (o out : List ℕ) (a : Auction) (used : ℕ)
+        (d : Progress seated cs s from limit before o out a at used)
+        (t out′ : List ℕ) (r : ℕ) (b : Auction) → Puts t limit used out out′ r → t ≡ replyAs seated (ledger (d .calls)) l →
+        b ≡ heldAuction (ledger (d .calls ++ askedAs seated l)) → Progress seated cs s from limit before o out′ b (at + length l + 1) r
+    progress-next cs from limit before o out a used d t out′ r b p text next =
+        let calls : List Call = d .calls ++ askedAs seated l in
+        record {
+          calls = calls;
+          done = d .done ++ t;
+          holds = next;
+          asked = d .asked ∙ ap (λ (y : List Call). d .calls ++ y) line-calls ∙ sym (append-assoc (d .calls) (askedAs seated l) _);
+          all = d .all
+              ∙ ap (λ (y : List ℕ). d .done ++ y)
+              (line-replies (d .calls) ∙ ap (λ (y : List ℕ). y ++ repliesAs seated (ledger calls) (rest (at + length l + 1) s)) (sym text))
+              ∙ sym (append-assoc (d .done) t _);
+          puts = puts-behind (d .done) t limit before used r o out out′ (d .puts) p;
+        }
 
-  pub progress-taken : (cs : List Call) (from limit before : ℕ) (o out : List ℕ) (a : Auction) (used : ℕ) → Progress cs s from limit before o out a at used →
-      (t out′ : List ℕ) (r : ℕ) (b : Auction) → Puts t limit used out out′ r → Takes a (orderIn l) b t →
-      Progress cs s from limit before o out′ b (at + length l + 1) r
-  progress-taken cs from limit before o out a used d t out′ r b p w =
-      progress-next cs from limit before o out a used d t out′ r b p (w .text (d .calls) (d .holds)) (w .next (d .calls) (d .holds))
+    pub progress-taken : (cs : List Call) (from limit before : ℕ) (o out : List ℕ) (a : Auction) (used : ℕ) → Progress seated cs s from limit before o out a at used →
+        (t out′ : List ℕ) (r : ℕ) (b : Auction) → Puts t limit used out out′ r → barredAs seated l ≡ false →
+        Takes a (orderAs seated l) b t → Progress seated cs s from limit before o out′ b (at + length l + 1) r
+    progress-taken cs from limit before o out a used d t out′ r b p free w =
+        progress-next cs from limit before o out a used d t out′ r b p
+        (w .text (d .calls) (d .holds) ∙ sym (reply-free seated l (ledger (d .calls)) free))
+        (w .next (d .calls) (d .holds) ∙ ap (λ (xs : List Call). heldAuction (ledger (d .calls ++ xs))) (sym (asked-free seated l free)))
 
 -- all lines answered
-module _ (cs : List Call) (s : List ℕ) (from limit before : ℕ) (o out : List ℕ) (a : Auction) (at used : ℕ)
-    (d : Progress cs s from limit before o out a at used)
+module _ (seated : Bool) (cs : List Call) (s : List ℕ) (from limit before : ℕ) (o out : List ℕ) (a : Auction) (at used : ℕ)
+    (d : Progress seated cs s from limit before o out a at used)
     (h : length s ≤ at) where
-  pub all-asked : cs ++ callsOf (rest from s) ≡ d .calls
-  unfolding callsOf
-  all-asked = d .asked ∙ ap (λ (x : List (List ℕ)). d .calls ++ callsOf x) (no-line s at h) ∙ append-nil (d .calls)
+  pub all-asked : cs ++ callsAs seated (rest from s) ≡ d .calls
+  unfolding callsAs
+  all-asked = d .asked ∙ ap (λ (x : List (List ℕ)). d .calls ++ callsAs seated x) (no-line s at h) ∙ append-nil (d .calls)
 
-  pub all-replied : Puts (repliesFrom (ledger cs) (rest from s)) limit before o out used
-  unfolding repliesFrom
+  pub all-replied : Puts (repliesAs seated (ledger cs) (rest from s)) limit before o out used
+  unfolding repliesAs
   all-replied =
-      let e : repliesFrom (ledger cs) (rest from s) ≡ d .done =
-      d .all ∙ ap (λ (x : List (List ℕ)). d .done ++ repliesFrom (ledger (d .calls)) x) (no-line s at h) ∙ append-nil (d .done) in
+      let e : repliesAs seated (ledger cs) (rest from s) ≡ d .done =
+      d .all ∙ ap (λ (x : List (List ℕ)). d .done ++ repliesAs seated (ledger (d .calls)) x) (no-line s at h) ∙ append-nil (d .done) in
       rw e (d .puts)

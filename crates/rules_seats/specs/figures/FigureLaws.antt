@@ -1,5 +1,5 @@
 -- Laws of the figures: the state's excess in words, that it is the hall's, and how many numbers a host has to lend.
-use Prim.Native.Nat.{ℕ, suc, min, _*_, _≤_}
+use Prim.Native.Nat.{ℕ, suc, min, _+_, _*_, _≤_}
 use mathlib.Core.Path.{_≡_, refl, sym, subst, _∙_}
 use mathlib.Core.Logic.{⊎-elim}
 use mathlib.Core.Bool.{Bool, true, false, cond, _&&_, false≢true}
@@ -86,6 +86,22 @@ closings-few l (c ∷ cs) = go (closesRound l c) (closings-few (step l c) cs)
     go : (b : Bool) → closingsFrom (step l c) cs ≤ length cs → cond b (suc (closingsFrom (step l c) cs)) (closingsFrom (step l c) cs) ≤ suc (length cs)
     go true h = omega arith
     go false h = omega arith
+
+-- those of calls, and then of others from where they lead
+pub closings-append : (l : Ledger) (cs ds : List Call) → closingsFrom l (cs ++ ds) ≡ closingsFrom l cs + closingsFrom (stepAll l cs) ds
+unfolding closingsFrom stepAll
+closings-append l [] ds = omega arith
+closings-append l (c ∷ cs) ds = go (closesRound l c) (closings-append (step l c) cs ds)
+  where
+    next : List Call → ℕ
+    next xs = closingsFrom (step l c) xs
+
+    last : ℕ
+    last = closingsFrom (stepAll (step l c) cs) ds
+
+    go : (b : Bool) → next (cs ++ ds) ≡ next cs + last → cond b (suc (next (cs ++ ds))) (next (cs ++ ds)) ≡ cond b (suc (next cs)) (next cs) + last
+    go true h = omega arith
+    go false h = h
 
 -- ---- it is that of the hall's ledger
 

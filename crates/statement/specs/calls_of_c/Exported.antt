@@ -1,4 +1,4 @@
--- UP TO C: what a host that links the fourteen exported calls gets, a part of the statement (`EngineCorrect`). For every record, list,
+-- UP TO C: what a host that links the twenty-six exported calls gets, a part of the statement (`EngineCorrect`). For every record, list,
 -- number and lent buffer, what each call returns and every byte or number of its buffers, by the definitions and in the statement's words; that each
 -- of them asks nothing of its arguments; and that it meets its contract, in every model. Beside them what the programs print.
 use Rattle.statement.specs.calls_of_c.Demand.{DemandExported, demand-exported}
@@ -6,6 +6,8 @@ use Rattle.statement.specs.calls_of_c.Replay.{ReplayExported, replay-exp
 use Rattle.statement.specs.calls_of_c.Forcing.{ForcingExported, forcing-exported}
 use Rattle.statement.specs.calls_of_c.Sealed.{SealedExported, sealed-exported}
 use Rattle.statement.specs.calls_of_c.Writers.{WritersExported, writers-exported}
+use Rattle.statement.specs.calls_of_c.RecordFigures.{RecordFiguresExported, record-figures-exported}
+use Rattle.statement.specs.calls_of_c.Sessions.{SessionsExported, sessions-exported}
 use Rattle.statement.specs.calls_of_c.Programs.{ProgramsStated, programs-stated}
 
 pub record ExportedStated (M : Type 1) : Type 2 where
@@ -19,6 +21,10 @@ pub record ExportedStated (M : Type 1) : Type 2 where
   pub sealed : SealedExported M
   -- frames written, a call for each kind (document 02, 2)
   pub writers : WritersExported M
+  -- state, preview of a closing, supply curve and settlement of the auction that a record leaves behind (document 02, 6 and 9; demand 3)
+  pub record-figures : RecordFiguresExported M
+  -- a session: calls through seats, what each seat is told, and the promise to developers (document 02, 14)
+  pub sessions : SessionsExported M
   -- what the programs print, from the functions below their `main`s
   pub programs : ProgramsStated M
 
@@ -29,5 +35,7 @@ exported-stated = record {
   forcing = forcing-exported;
   sealed = sealed-exported;
   writers = writers-exported;
+  record-figures = record-figures-exported;
+  sessions = sessions-exported;
   programs = programs-stated;
 }

@@ -100,7 +100,7 @@ forced-first l m n ps old new r e f z g =
       f ∙ chosen l m n ps old a,
     )
 
-forcing-returned :
+pub forcing-returned :
     (l : Ledger) (m n : ℕ) (ps old new : List ℕ) (r : ℕ) → r ≡ hostForcing l m n ps (length old) → new ≡ chosenIn l m n ps old →
     ForcingReturned l m n ps old new r
 forcing-returned l m n ps old new r e f = record {
@@ -122,7 +122,7 @@ module _ (l : Ledger) (m n : ℕ) (ps old new new′ : List ℕ) (r r′ : ℕ) 
       (p .0 ∙ sym (q .0), a .2 ∙ ap (λ (c : GameMove). laid (moveByte c ∷ []) old) (p .1 ∙ sym (q .1)) ∙ sym (b .2)))
       (le-or-lt (length old) 0)
 
-  forcing-determined : (r ≡ r′) × (new ≡ new′)
+  pub forcing-determined : (r ≡ r′) × (new ≡ new′)
   forcing-determined = go (eqb (forcingRefusal l m n ps) 0) refl
     where
       go : (t : Bool) → eqb (forcingRefusal l m n ps) 0 ≡ t → (r ≡ r′) × (new ≡ new′)

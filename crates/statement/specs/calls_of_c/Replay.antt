@@ -6,11 +6,10 @@ use mathlib.Core.Path.{_≡_, refl, sym, ap, ap₂, _∙_, subst}
 use mathlib.Core.Logic.{⊎-elim}
 use mathlib.Core.Bool.{Bool, true, false, cond}
 use mathlib.Core.List.{List, [], _∷_, _++_, map, flatten}
-use native.Mathlib.Omega.{arith}
 use lib.Dec.{eqb}
 use lib.ListN.{length, take, replicate}
 use lib.Seq.{take-at}
-use borrow.Author.Tests.{le-leb, lt-leb, eqb-true, eqb-false}
+use borrow.Author.Tests.{eqb-true, eqb-false}
 use contract.Lifetimes.{Lfts}
 use denote.Ref.{now}
 use denote.Triple.Clauses.{AtExit}
@@ -18,29 +17,26 @@ use borrow.Fn.World.{ArgsD}
 use borrow.Fn.Kinds.{endedOf}
 use Rattle.rules_numbers.specs.Cases.{le-or-lt}
 use Rattle.rules_numbers.specs.ListLaws.{Each, flat-length}
-use Rattle.rules_numbers.specs.Tails.{laid, length-laid, behind-laid}
+use Rattle.rules_numbers.specs.Tails.{laid}
 use Rattle.rules_format.specs.Fields.{textAt}
 use Rattle.rules_format.specs.Lines.{lines}
 use Rattle.rules_auction.specs.Ledger.{Call, Ledger}
 use Rattle.rules_auction.specs.Rounds.{stepAll, ledger, Answered, answer}
 use Rattle.rules_auction.specs.Settling.{Settlement, settlement, settlingRefusal}
-use Rattle.laws_ledger.specs.reachable.Reachable.{sound}
 use Rattle.rules_replies.specs.Orders.{Order, Malformed, Asks, Settle, orderIn}
 use Rattle.rules_replies.specs.Replies.{callKind, fieldsText, settlingHead, settlingTail, recordDigits, closingText, settlingText}
 use Rattle.rules_replies.specs.Replies.{answerLine, awardRoom, replyTo, repliesFrom, replies}
-use Rattle.rules_replies.specs.Lengths.{flat-digits, six, records-room}
+use Rattle.rules_replies.specs.Lengths.{flat-digits, six}
 use Rattle.rules_replies.specs.record_calls.Calls.{askedCalls}
 use Rattle.rules_replies.specs.record_calls.CallLaws.{after-asked}
-use Rattle.engine_auction.specs.Holds.{heldAuction}
-use Rattle.engine_settling.specs.Settles.{Settles, refusedWith, settledAs}
+use Rattle.engine_settling.specs.Settles.{refusedWith, settledAs}
 use Rattle.engine_settling.specs.declared.Settled.{Settled}
 use Rattle.reply_values.specs.ShowsLaws.{refused-line}
 use Rattle.record_replay.specs.Replayed.{hosted, over}
 use Rattle.statement.specs.settling.Stated.{Stated}
-use Rattle.statement.specs.settling.StatedLaws.{stated}
+use Rattle.statement.specs.settling.StatedLaws.{stated-taken, stated-refused}
 use Rattle.statement.specs.settling.Determined.{determined as stated-only}
-use Rattle.statement.specs.settling.ReadBack.{auction-determines}
-use Rattle.statement.specs.calls_of_c.HostValues.{accepted-value, refused-value}
+use Rattle.statement.specs.calls_of_c.HostValues.{fits-number, short-number, fits-buffer, short-buffer}
 use Rattle.host.proofs.replay.{signature}
 use Rattle.host.proofs.replay.Kinds as kinds
 use Rattle.host.proofs.replay.Reads as replaying
@@ -135,35 +131,8 @@ module _ (cs : List Call) (limit : ℕ) (old : List ℕ) (room : length old ≡ 
   abbrev m : Settlement
   m = settlement l
 
-  same : (ds : List Call) → heldAuction l ≡ heldAuction (ledger ds) → l ≡ ledger ds
-  same ds h = auction-determines l (ledger ds) (sound cs) (sound ds) h
-
-  number-of : (ds : List Call) → heldAuction l ≡ heldAuction (ledger ds) → n ≡ settlingRefusal (ledger ds) limit (length old)
-  number-of ds h = ap₂ (λ (k : Ledger) (u : ℕ). settlingRefusal k limit u) (same ds h) (sym room)
-
-  abbrev filled : List ℕ
-  filled = laid (flatten (m .records)) old
-
-  taken : n ≡ 0 → Settles (heldAuction l) limit old filled (settledAs m)
-  taken z =
-      let k : length (flatten (m .records)) ≡ 6 * length (m .records) = flat-length 6 (m .records) (six l) in
-      let f : 6 * length (m .records) ≤ awardRoom = records-room l limit z in
-      record {
-        same = λ h. absurd (h refl);
-        behind = (length-laid (flatten (m .records)) old (omega arith), behind-laid (flatten (m .records)) old (6 * length (m .records)) (omega arith));
-        number = λ ds h. sym z ∙ number-of ds h;
-        answer = λ ds h e. ap (λ (k : Ledger). settledAs (settlement k)) (same ds h);
-        buffer = λ ds h e. ap (λ (k : Ledger). laid (flatten (settlement k .records)) old) (same ds h);
-      }
-
-  refused : (n ≡ 0 → ⊥) → Settles (heldAuction l) limit old old (refusedWith n)
-  refused z = record {
-    same = λ h. (refl, refl);
-    behind = (refl, refl);
-    number = number-of;
-    answer = λ ds h e. absurd (z e);
-    buffer = λ ds h e. absurd (z e);
-  }
+  number-is : settlingRefusal l limit (length old) ≡ n
+  number-is = ap (settlingRefusal l limit) room
 
   found : Found cs limit old
   unfolding replyTo
@@ -173,9 +142,9 @@ module _ (cs : List Call) (limit : ℕ) (old : List ℕ) (room : length old ≡ 
       go true e =
           let z : n ≡ 0 = eqb-true n 0 e in
           record {
-            new = filled;
+            new = laid (flatten (m .records)) old;
             settled = settledAs m;
-            as-stated = stated cs (heldAuction l) limit old filled (settledAs m) refl (taken z);
+            as-stated = stated-taken cs limit old (number-is ∙ z);
             text = ap₂ (λ (k : ℕ) (t : List ℕ). answerLine 6 k t) z (shown m old (six l));
           }
       go false e =
@@ -183,7 +152,7 @@ module _ (cs : List Call) (limit : ℕ) (old : List ℕ) (room : length old ≡ 
           record {
             new = old;
             settled = refusedWith n;
-            as-stated = stated cs (heldAuction l) limit old old (refusedWith n) refl (refused z);
+            as-stated = stated-refused cs limit old n number-is z;
             text = sym (refused-line 6 n (settlingText m) z) ∙ refused-line 6 n (awardText (refusedWith n) old) z;
           }
 
@@ -205,7 +174,7 @@ settling-replied cs limit = record {
 
 -- ---- all lines
 
-line-replied : (cs : List Call) (o : Order) → LineReplied cs o (replyTo (ledger cs) o)
+pub line-replied : (cs : List Call) (o : Order) → LineReplied cs o (replyTo (ledger cs) o)
 unfolding LineReplied replyTo
 line-replied cs Malformed = refl
 line-replied cs (Asks c) = refl
@@ -233,7 +202,7 @@ settling-only cs limit t w =
     w .text old (w .new old e) (w .settled old e) e (w .as-stated old e)
     ∙ ap₂ (λ (x : Settled) (b : List ℕ). settledText x b) (d .0) (d .1) ∙ sym (f .text)
 
-line-only : (cs : List Call) (o : Order) (t : List ℕ) → LineReplied cs o t → t ≡ replyTo (ledger cs) o
+pub line-only : (cs : List Call) (o : Order) (t : List ℕ) → LineReplied cs o t → t ≡ replyTo (ledger cs) o
 unfolding LineReplied replyTo
 line-only cs Malformed t w = w
 line-only cs (Asks c) t w = w
@@ -246,23 +215,6 @@ replied-only (line-first {cs} {rest} line t text w ws) =
     ap₂ _++_ (line-only cs (orderIn line) t w) (replied-only ws ∙ ap (λ (k : Ledger). repliesFrom k rest) (after-asked cs (orderIn line)))
 
 -- ---- the buffer
-
-module _ (t o : List ℕ) where
-  fits-number : length t ≤ length o → hosted t o ≡ length t
-  unfolding hosted
-  fits-number h = rw (le-leb (length t) (length o) h) (accepted-value 0 (length t) refl)
-
-  short-number : length o < length t → hosted t o ≡ 2 ^ 64 - 11
-  unfolding hosted
-  short-number h = rw (lt-leb (length t) (length o) h) (refused-value 11 (length t) (λ e. omega arith))
-
-  fits-buffer : length t ≤ length o → over t o ≡ laid t o
-  unfolding over
-  fits-buffer h = rw (le-leb (length t) (length o) h)
-
-  short-buffer : length o < length t → over t o ≡ o
-  unfolding over
-  short-buffer h = rw (lt-leb (length t) (length o) h)
 
 replayed : (bytes old new : List ℕ) (r : ℕ) → r ≡ hosted (replies bytes) old → new ≡ over (replies bytes) old → Replayed bytes old new r
 replayed bytes old new r e f = record {

@@ -28,7 +28,7 @@ use Rattle.laws_ledger.specs.awards.Winners.{winner-open, winner-preferred, awa
 use Rattle.engine_auction.specs.Holds.{heldAuction}
 use Rattle.engine_auction.specs.declared.Auction.{Auction}
 use Rattle.rules_numbers.specs.Tails.{laid}
-use Rattle.engine_settling.specs.Settles.{Settles, settledAs}
+use Rattle.engine_settling.specs.Settles.{Settles, refusedWith, settledAs}
 use Rattle.engine_settling.specs.declared.Settled.{Settled}
 use Rattle.statement.specs.settling.AwardRecords.{awardedLevel, firstByte, quantityOf}
 use Rattle.statement.specs.settling.RecordOrder.{records-rise}
@@ -109,20 +109,20 @@ module _ (l : Ledger) (s : Sound l) (c : isClosed (l .phase) ≡ true) (old new 
 
 -- the numbers, by the two tests
 module _ (l : Ledger) (limit : ℕ) (old : List ℕ) (n : ℕ) (e : n ≡ settlingRefusal l limit (length old)) where
-  open-number : isClosed (l .phase) ≡ false → n ≡ 2
+  pub open-number : isClosed (l .phase) ≡ false → n ≡ 2
   unfolding settlingRefusal
   open-number c = e ∙ simp c
 
   module _ (c : isClosed (l .phase) ≡ true) where
-    outnumbered : (Within l limit → ⊥) → n ≡ 10
+    pub outnumbered : (Within l limit → ⊥) → n ≡ 10
     unfolding settlingRefusal
     outnumbered w = e ∙ simp (c, never-true (leb (length (admissible l (closingPrice l))) (min limit 65536)) (λ t. w (leb-true _ _ t)))
 
-    too-short : Within l limit → (Fit l old → ⊥) → n ≡ 11
+    pub too-short : Within l limit → (Fit l old → ⊥) → n ≡ 11
     unfolding settlingRefusal
     too-short w f = e ∙ simp (c, le-leb _ _ w, never-true (leb (6 * length (records l (closingPrice l))) (length old)) (λ t. f (leb-true _ _ t)))
 
-    fitting : Within l limit → Fit l old → n ≡ 0
+    pub fitting : Within l limit → Fit l old → n ≡ 0
     unfolding settlingRefusal
     fitting w f = e ∙ simp (c, le-leb _ _ w, le-leb _ _ f)
 
@@ -137,16 +137,31 @@ module _ (l : Ledger) (limit : ℕ) (old : List ℕ) (n : ℕ) (e : n ≡ settli
         within true g = fits (leb-true _ _ g) (leb (6 * length (records l (closingPrice l))) (length old)) refl
         within false g = absurd (let k : n ≡ 10 = outnumbered (λ w. clash (le-leb _ _ w) g) in omega arith)
 
+-- by the ledger's own number, and what the answer and the buffer are behind a refusal and behind an acceptance
+pub stated-as :
+    (cs : List Call) (limit : ℕ) (old new : List ℕ) (r : Settled) → let m = settlement (ledger cs) in
+    r .number ≡ settlingRefusal (ledger cs) limit (length old) → ((r .number ≡ 0 → ⊥) → (r ≡ refusedWith (r .number)) × (new ≡ old)) →
+    (r .number ≡ 0 → (r ≡ settledAs m) × (new ≡ laid (flatten (m .records)) old)) → Stated (ledger cs) limit old new r
+unfolding settlement settlementAt
+stated-as cs limit old new r n refused taken = record {
+  not-closed = open-number (ledger cs) limit old (r .number) n;
+  exactly = λ c. (only-then (ledger cs) limit old (r .number) n c, (λ w. fitting (ledger cs) limit old (r .number) n c (w .0) (w .1)));
+  by-10 = outnumbered (ledger cs) limit old (r .number) n;
+  by-11 = too-short (ledger cs) limit old (r .number) n;
+  refused = refused;
+  accepted = λ c z. at-closing (ledger cs) (sound cs) c old new r (taken z .0) (taken z .1);
+}
+
 pub stated : (cs : List Call) (a : Auction) (limit : ℕ) (old new : List ℕ) (r : Settled) → a ≡ heldAuction (ledger cs) → Settles a limit old new r →
     Stated (ledger cs) limit old new r
-unfolding settlement settlementAt
-stated cs a limit old new r h s =
-    let n = s .number cs h in
-    record {
-      not-closed = open-number (ledger cs) limit old (r .number) n;
-      exactly = λ c. (only-then (ledger cs) limit old (r .number) n c, (λ w. fitting (ledger cs) limit old (r .number) n c (w .0) (w .1)));
-      by-10 = outnumbered (ledger cs) limit old (r .number) n;
-      by-11 = too-short (ledger cs) limit old (r .number) n;
-      refused = s .same;
-      accepted = λ c z. at-closing (ledger cs) (sound cs) c old new r (s .answer cs h z) (s .buffer cs h z);
-    }
+stated cs a limit old new r h s = stated-as cs limit old new r (s .number cs h) (s .same) (λ z. (s .answer cs h z, s .buffer cs h z))
+
+-- so there is an answer for every list of calls, limit and buffer: the ledger's settlement with its records in the buffer, or a refusal
+module _ (cs : List Call) (limit : ℕ) (old : List ℕ) where
+  pub stated-taken :
+      let m = settlement (ledger cs) in
+      settlingRefusal (ledger cs) limit (length old) ≡ 0 → Stated (ledger cs) limit old (laid (flatten (m .records)) old) (settledAs m)
+  stated-taken e = stated-as cs limit old _ (settledAs (settlement (ledger cs))) (sym e) (λ z. absurd (z refl)) (λ z. (refl, refl))
+
+  pub stated-refused : (n : ℕ) → settlingRefusal (ledger cs) limit (length old) ≡ n → (n ≡ 0 → ⊥) → Stated (ledger cs) limit old old (refusedWith n)
+  stated-refused n e z = stated-as cs limit old old (refusedWith n) (sym e) (λ y. (refl, refl)) (λ y. absurd (z y))

@@ -8,13 +8,17 @@
 mod engine;
 
 use independent::generators::games::stated;
+use independent::generators::looks::Look;
 use independent::generators::records::{
     easy_book, hard_book, largest_book, long_record, timed, LARGEST_BOOKS,
 };
 use independent::generators::sample;
+use independent::generators::sessions::through_seats;
+use independent::model::figures::record_preview;
 use independent::model::forcing::who_can_force;
 use independent::model::replay::{lines, replay, replay_into};
 use independent::model::sealed::{sealed_auction, Offer, Sealed};
+use independent::model::sessions::{replies, session_replay};
 use std::env;
 use std::hint::black_box;
 use std::process::ExitCode;
@@ -36,13 +40,17 @@ enum Timed {
     Lines(fn() -> Vec<u8>),
     /// A replay of a record that ends with a long settling.
     Replay(fn() -> Vec<u8>),
+    /// A preview behind a record in whose round it is made, for each line of it.
+    Preview(fn() -> Vec<u8>),
+    /// A replay of a record's calls through seats, for each line.
+    Session(fn() -> Vec<u8>),
     /// A question who can force the price in a game of 10 prices.
     Game,
     /// A sealed auction of 16 offers that stand in the list from the last turn to the first.
     SealedAuction,
 }
 
-use Timed::{Game, Lines, Replay, SealedAuction};
+use Timed::{Game, Lines, Preview, Replay, SealedAuction, Session};
 
 /// The most of every ratio that has no other bound.
 const HALF: [f64; 2] = [0.5, 0.5];
@@ -51,6 +59,8 @@ const HALF: [f64; 2] = [0.5, 0.5];
 const ROWS: &[Row] = &[
     row("sample record", Lines(|| sample::RECORD.into()), 200, HALF),
     row("64 KiB of small calls", Lines(|| long_record(0, 64 << 10)), 1, [0.35, 0.35]),
+    row("preview behind 64 KiB of small calls", Preview(|| long_record(0, 64 << 10)), 1, HALF),
+    row("64 KiB of small calls through seats", Session(|| long_record(0, 64 << 10)), 1, HALF),
     row("malformed lines", Lines(timed::malformed), 5, HALF),
     row("refused set-ups", Lines(timed::refused_set_ups), 5, HALF),
     row("refused registrations", Lines(timed::refused_registrations), 5, HALF),
@@ -131,6 +141,8 @@ impl Row {
                 self.time_replay(&record, ("line", lines(&record).len()))
             }
             Replay(record) => self.time_replay(&record(), CALL),
+            Preview(record) => self.time_preview(&timed::in_a_round(&record())),
+            Session(record) => self.time_session(&through_seats(&record())),
             Game => self.time_game(),
             SealedAuction => self.time_sealed(),
         }
@@ -141,6 +153,26 @@ impl Row {
             replay_into(black_box(record), lent)
         }];
         self.time_calls(calls, replay(record).len(), parts)
+    }
+
+    fn time_preview(&self, record: &[u8]) -> Vec<String> {
+        let calls: [Call<u64>; 2] = [
+            &|lent| engine::look(black_box(record), &Look::Preview, lent, &mut []),
+            &|lent| record_preview(black_box(record), lent),
+        ];
+        self.time_calls(calls, 3, ("line", lines(record).len()))
+    }
+
+    fn time_session(&self, session: &[u8]) -> Vec<String> {
+        let calls: [Call; 2] = [
+            &|lent| engine::look_through(black_box(session), [0, 0], &Look::Replies, &mut [], lent),
+            &|lent| session_replay(black_box(session), lent),
+        ];
+        self.time_calls(
+            calls,
+            replies(session).len(),
+            ("line", lines(session).len()),
+        )
     }
 
     fn time_game(&self) -> Vec<String> {

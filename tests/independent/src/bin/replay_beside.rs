@@ -29,7 +29,7 @@ use std::collections::BTreeSet;
 use std::process::ExitCode;
 
 fn main() -> ExitCode {
-    // Each group is reported when it is done, also behind one that differs.
+    // Each group is reported when it is done, where all inputs are compared also behind one that differs.
     let stated = STATED.map(|group| group().report());
     let fixed = fixed::groups().map(|(name, records)| Group::of(name, &records, compare).report());
     let sizes = if few() { &[][..] } else { &SIZES };

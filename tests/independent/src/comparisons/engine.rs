@@ -2,6 +2,7 @@
 //! Only the programs under `bin/` take this module in; the library links no engine.
 #![allow(dead_code, reason = "a program makes the calls that it tests")]
 
+use independent::generators::looks::Look;
 use independent::model::replay::Fields;
 use independent::model::sealed::Sealed;
 
@@ -93,6 +94,93 @@ mod host {
             ages_length: usize,
             awards: *mut u64,
             awards_length: usize,
+        ) -> u64;
+        pub fn record_state(
+            record: *const u8,
+            record_length: usize,
+            figures: *mut u64,
+            figures_length: usize,
+        ) -> u64;
+        pub fn record_preview(
+            record: *const u8,
+            record_length: usize,
+            figures: *mut u64,
+            figures_length: usize,
+        ) -> u64;
+        pub fn record_curve(
+            record: *const u8,
+            record_length: usize,
+            points: *mut u64,
+            points_length: usize,
+        ) -> u64;
+        pub fn record_settlement(
+            record: *const u8,
+            record_length: usize,
+            limit: u64,
+            figures: *mut u64,
+            figures_length: usize,
+            awards: *mut u8,
+            awards_length: usize,
+        ) -> u64;
+        pub fn write_seat(kind: u64, number: u64, bytes: *mut u8, bytes_length: usize) -> u64;
+        pub fn session_replay(
+            session: *const u8,
+            session_length: usize,
+            replies: *mut u8,
+            replies_length: usize,
+        ) -> u64;
+        pub fn session_reading(
+            session: *const u8,
+            session_length: usize,
+            seat: u64,
+            number: u64,
+            reading: *mut u64,
+            reading_length: usize,
+        ) -> u64;
+        pub fn session_preview(
+            session: *const u8,
+            session_length: usize,
+            seat: u64,
+            number: u64,
+            figures: *mut u64,
+            figures_length: usize,
+        ) -> u64;
+        pub fn session_curve(
+            session: *const u8,
+            session_length: usize,
+            seat: u64,
+            number: u64,
+            points: *mut u64,
+            points_length: usize,
+        ) -> u64;
+        pub fn session_settlement(
+            session: *const u8,
+            session_length: usize,
+            seat: u64,
+            number: u64,
+            limit: u64,
+            figures: *mut u64,
+            figures_length: usize,
+            awards: *mut u8,
+            awards_length: usize,
+        ) -> u64;
+        pub fn session_forcing(
+            session: *const u8,
+            session_length: usize,
+            seat: u64,
+            number: u64,
+            first: u64,
+            second: u64,
+            prices: *const u64,
+            prices_length: usize,
+            first_move: *mut u8,
+            first_move_length: usize,
+        ) -> u64;
+        pub fn session_record(
+            session: *const u8,
+            session_length: usize,
+            record: *mut u8,
+            record_length: usize,
         ) -> u64;
     }
 }
@@ -228,5 +316,76 @@ pub fn sealed_auction(auction: &Sealed, awards: &mut [u64]) -> u64 {
             awards.as_mut_ptr(),
             awards.len(),
         )
+    }
+}
+
+/// The call over a record that looks at this: 0 or the number of points, with the figures from the start
+/// of `numbers` and award records from the start of `bytes`, or 2^64 less the number of a refusal.
+pub fn look(record: &[u8], look: &Look, numbers: &mut [u64], bytes: &mut [u8]) -> u64 {
+    let (record, length) = (record.as_ptr(), record.len());
+    let (figures, count) = (numbers.as_mut_ptr(), numbers.len());
+    // SAFETY: the calls read the record and write the buffers; exclusive borrows keep them apart.
+    unsafe {
+        match look {
+            Look::State => host::record_state(record, length, figures, count),
+            Look::Preview => host::record_preview(record, length, figures, count),
+            Look::Curve => host::record_curve(record, length, figures, count),
+            Look::Settlement { limit } => host::record_settlement(
+                record,
+                length,
+                *limit,
+                figures,
+                count,
+                bytes.as_mut_ptr(),
+                bytes.len(),
+            ),
+            _ => panic!("no call over a record: {look:?}"),
+        }
+    }
+}
+
+/// The call over a session that looks at this through a seat, or the one that writes the seat, with what
+/// it writes from the start of `numbers` and of `bytes`.
+pub fn look_through(
+    session: &[u8],
+    [seat, number]: [u64; 2],
+    look: &Look,
+    numbers: &mut [u64],
+    bytes: &mut [u8],
+) -> u64 {
+    let (session, length) = (session.as_ptr(), session.len());
+    let (figures, count) = (numbers.as_mut_ptr(), numbers.len());
+    let (lent, room) = (bytes.as_mut_ptr(), bytes.len());
+    // SAFETY: the calls read the session and the prices and write the buffers; exclusive borrows keep
+    // them apart.
+    unsafe {
+        match look {
+            Look::Reading => host::session_reading(session, length, seat, number, figures, count),
+            Look::Preview => host::session_preview(session, length, seat, number, figures, count),
+            Look::Curve => host::session_curve(session, length, seat, number, figures, count),
+            Look::Settlement { limit } => host::session_settlement(
+                session, length, seat, number, *limit, figures, count, lent, room,
+            ),
+            Look::Forcing {
+                first,
+                second,
+                prices,
+            } => host::session_forcing(
+                session,
+                length,
+                seat,
+                number,
+                *first,
+                *second,
+                prices.as_ptr(),
+                prices.len(),
+                lent,
+                room,
+            ),
+            Look::Replies => host::session_replay(session, length, lent, room),
+            Look::PlainRecord => host::session_record(session, length, lent, room),
+            Look::Digits => host::write_seat(seat, number, lent, room),
+            Look::State => panic!("no call over a session"),
+        }
     }
 }

@@ -38,6 +38,14 @@ pub fn inputs(many: u64) -> u64 {
     }
 }
 
+/// Whether a group agrees. Where few inputs are enough, the first that does not ends the program: the fault is reported.
+pub fn agreeing(agrees: bool) -> bool {
+    if few() && !agrees {
+        std::process::exit(1);
+    }
+    agrees
+}
+
 /// The exit status of a program whose groups agree or not.
 pub fn verdict<'a>(agree: impl IntoIterator<Item = &'a bool>) -> ExitCode {
     if agree.into_iter().all(|&agrees| agrees) {
@@ -252,7 +260,7 @@ impl Group {
         }
         self.searches.print("searches by record");
         self.curves.print("curves by closing");
-        self.difference.is_none()
+        agreeing(self.difference.is_none())
     }
 }
 

@@ -17,8 +17,9 @@ impl Held for u8 {
 }
 
 impl Held for u64 {
+    /// No two are alike.
     fn untouched(place: usize) -> u64 {
-        u64::from_ne_bytes(std::array::from_fn(|byte| u8::untouched(8 * place + byte)))
+        (place as u64 + 1).wrapping_mul(0x9E37_79B9_7F4A_7C15)
     }
 }
 

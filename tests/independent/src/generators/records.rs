@@ -8,7 +8,7 @@ mod books;
 mod cancellations;
 mod counted;
 mod crowded;
-mod damage;
+pub(crate) mod damage;
 pub mod edges;
 pub mod fixed;
 mod late;

@@ -503,3 +503,103 @@ pub const MARKED_CASES: [([u64; 5], u64, u64); 10] = [
     ([20_000, 1_000, 900, 1_200, 19_949], 1_002, 19_600),
     ([20_000, 1_000, 900, 1_200, 10_000], 1_200, 0),
 ];
+
+/// Figures of the sample record behind so many of its lines.
+pub struct Figures {
+    pub look: &'static str,
+    pub behind: usize,
+    /// What the call returns.
+    pub number: u64,
+    pub figures: &'static [u64],
+    pub awards: &'static [u8],
+}
+
+const fn figures(
+    look: &'static str,
+    behind: usize,
+    number: u64,
+    figures: &'static [u64],
+) -> Figures {
+    Figures {
+        look,
+        behind,
+        number,
+        figures,
+        awards: &[],
+    }
+}
+
+const REFUSED_BY_2: u64 = 0u64.wrapping_sub(2);
+
+/// In the open round, -55 less what has been offered; behind it, the curve's one price, at which 250 of
+/// 1,170 withdraw; and the settlement that docs/FORMAT.md reads field by field, of which two choices are
+/// kept.
+pub const FIGURES: &[Figures] = &[
+    figures("state", 0, 0, &[0, 0, 0, 0, 0]),
+    figures("state", 1, 0, &[1, 0, 0, 0, 0]),
+    figures("state", 6, 0, &[2, 40_000, 25_000, 0, 0]),
+    figures(
+        "state",
+        10,
+        0,
+        &[4, 40_000, 25_000, 0u64.wrapping_sub(55), 1],
+    ),
+    figures("preview", 5, REFUSED_BY_2, &[]),
+    // Without an offer all new plants withdraw.
+    figures("preview", 6, 0, &[0u64.wrapping_sub(155), 0, 1]),
+    figures("preview", 9, 0, &[0u64.wrapping_sub(55), 0, 1]),
+    figures("preview", 10, REFUSED_BY_2, &[]),
+    figures("curve", 9, 0, &[]),
+    figures("curve", 10, 1, &[26_000, 1_170, 920]),
+    figures("settlement", 9, REFUSED_BY_2, &[]),
+    Figures {
+        look: "settlement",
+        behind: 10,
+        number: 0,
+        figures: &[26_000, 970, 0, 1_020, 4, 3, 2, 26_000, 0, 0, 26_000, 2],
+        awards: &[1, 1, 0, 0, 3, 52, 2, 3, 0, 0, 0, 200],
+    },
+];
+
+/// The session of docs/FORMAT.md, its replies and its plain record.
+pub const SESSION: &str = "\
+00000100004E2000000003E8000000038400000004B000009C40
+00000201010100000000000000000100000334
+020202020202000001900000000A0200000064000000C8
+000002020202000001900000000A0200000064000000C8
+000003000061A8
+00000402010000659000000064
+02020402010000659000000064
+02030902
+02020600000064
+000105
+010005
+000005
+01000600000064
+";
+
+pub const SESSION_REPLIES: &str = "\
+0100
+0200
+0214
+0200
+0300
+0414
+0400
+0914
+0614
+FF0C
+0514
+0500FFFFFFFFFFFFFFC900000000
+06000000659000000003CA00000003FC0000000200000001020101000003340202000000C80000000000006590000000006590
+";
+
+pub const SESSION_RECORD: &str = "\
+0100004E2000000003E8000000038400000004B000009C40
+0201010100000000000000000100000334
+02020202000001900000000A0200000064000000C8
+03000061A8
+0402010000659000000064
+05
+0600000064
+";

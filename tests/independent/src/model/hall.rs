@@ -133,6 +133,8 @@ pub struct Hall {
     prices: (u64, u64),
     /// Of the latest closing.
     excess: i64,
+    /// How many closings were accepted.
+    closings: u64,
 }
 
 impl Hall {
@@ -193,16 +195,29 @@ impl Hall {
     }
 
     fn make_framed(&mut self, call: &replay::Call) -> Result<Vec<i128>, u8> {
+        Ok(match self.ask(call)? {
+            Accepted::Closed(closing) => vec![closing.excess.into(), closing.remainder.into()],
+            _ => Vec::new(),
+        })
+    }
+
+    /// Makes a call of a record, whoever asks it.
+    pub fn ask(&mut self, call: &replay::Call) -> Result<Accepted, u8> {
         let opening_price = self.auction.opening_price();
         let accepted = replay::make(&mut self.auction, call)?;
         if let replay::Call::Open { c } = call {
             self.prices = (opening_price, (*c).into());
         }
-        if let Accepted::Closed(closing) = accepted {
+        if let Accepted::Closed(closing) = &accepted {
             self.excess = closing.excess;
-            return Ok(vec![closing.excess.into(), closing.remainder.into()]);
+            self.closings += 1;
         }
-        Ok(Vec::new())
+        Ok(accepted)
+    }
+
+    /// How many closings were accepted.
+    pub fn closings(&self) -> u64 {
+        self.closings
     }
 
     pub fn published(&self) -> Published {

@@ -1,7 +1,7 @@
 -- Settling: barred, with the buffer as it was, or the auction's.
 use mathlib.Core.Path.{refl}
 use borrow.Author.Needs.{needs}
-use Rattle.hall.specs.seat_rights.RightLaws.{no-right, has-right}
+use Rattle.seats.specs.RightLaws.{no-right, has-right}
 use Rattle.hall.proofs.hall_readings.settle.Statement.{statement}
 use Rattle.hall.proofs.hall_readings.settle.Tie as tie
 

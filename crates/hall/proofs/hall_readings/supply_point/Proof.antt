@@ -1,7 +1,7 @@
 -- A point of the supply curve: barred, or the auction's.
 use mathlib.Core.Path.{refl}
 use borrow.Author.Needs.{needs}
-use Rattle.hall.specs.seat_rights.RightLaws.{no-right, has-right}
+use Rattle.seats.specs.RightLaws.{no-right, has-right}
 use Rattle.hall.proofs.hall_readings.supply_point.Statement.{statement}
 use Rattle.hall.proofs.hall_readings.supply_point.Tie as tie
 

@@ -1,6 +1,6 @@
 -- The question who can force the price: barred, or the auction's.
 use borrow.Author.Needs.{needs}
-use Rattle.hall.specs.seat_rights.RightLaws.{no-right, has-right}
+use Rattle.seats.specs.RightLaws.{no-right, has-right}
 use Rattle.hall.proofs.hall_readings.who_can_force.Statement.{statement}
 use Rattle.hall.proofs.hall_readings.who_can_force.Tie as tie
 

@@ -7,19 +7,19 @@ use Rattle.reply_writing.proofs.reply_bound.enough.Statement.{statement
 use Rattle.reply_writing.proofs.reply_bound.enough.Tie as tie
 
 abbrev Inv-loop : tie.InvT-loop
-Inv-loop bytes limit start₀ sum₀ start sum = Bounded bytes limit start sum
+Inv-loop bytes place limit start₀ sum₀ start sum = Bounded place bytes limit start sum
 
 abbrev μ-loop : tie.MeasureT-loop
-μ-loop bytes limit start₀ sum₀ start sum = length bytes - start
+μ-loop bytes place limit start₀ sum₀ start sum = length bytes - start
 
 -- the line is inside the record
 inside : (c : tie.After-most Inv-loop μ-loop) → c .before .before .before .loop .start + length (c .before .next-line .result .now) ≤ length
     (c .before .before .before .before .before .args .bytes .now)
 inside c =
-    bounded-inside _ _ _ _ _ _ (c .before .before .before .loop .inv) (c .before .before .loop-test .taken) (c .before .next-line .ensures) (c .most .ensures)
+    bounded-inside _ _ _ _ _ _ _ (c .before .before .before .loop .inv) (c .before .before .loop-test .taken) (c .before .next-line .ensures) (c .most .ensures)
 
 loop-holds : tie.Need-loop-holds Inv-loop μ-loop
-loop-holds c = bounded-first _ _
+loop-holds c = bounded-first _ _ _
 
 next-line-requires : tie.Need-next-line-requires Inv-loop μ-loop
 next-line-requires c κs = tt
@@ -32,7 +32,7 @@ sub-if1 c = omega (arith, c .before .before .before .loop .inv .within)
 
 returns : tie.Need-returns Inv-loop μ-loop
 returns c =
-    bounded-over _ _ _ _ _ _ (c .before .before .before .before .loop .inv) (c .before .before .before .loop-test .taken)
+    bounded-over _ _ _ _ _ _ _ (c .before .before .before .before .loop .inv) (c .before .before .before .loop-test .taken)
     (c .before .before .next-line .ensures) (c .before .most .ensures) (c .if1 .taken)
 
 add-sum : tie.Need-add-sum Inv-loop μ-loop
@@ -49,11 +49,11 @@ loop-less c = omega (arith, inside (c .before), c .before .before .before .loop-
 
 loop-again : tie.Need-loop-again Inv-loop μ-loop
 loop-again c =
-    bounded-again _ _ _ _ _ _ (c .before .before .before .before .loop .inv) (c .before .before .before .loop-test .taken)
+    bounded-again _ _ _ _ _ _ _ (c .before .before .before .before .loop .inv) (c .before .before .before .loop-test .taken)
     (c .before .before .next-line .ensures) (c .before .most .ensures) (c .if1 .left)
 
 returns-2 : tie.Need-returns-2 Inv-loop μ-loop
-returns-2 c = bounded-end _ _ _ _ (c .before .loop .inv) (c .loop-test .left)
+returns-2 c = bounded-end _ _ _ _ _ (c .before .loop .inv) (c .loop-test .left)
 
 pub enough-spec : {M : Type 1} → statement M
 enough-spec =

@@ -1,7 +1,7 @@
 //! Calls with lent buffers, or other things, compared under one name: what they show, and the first
 //! difference.
 
-use super::inputs;
+use super::{agreeing, inputs};
 use crate::coverage::{add, Features, Kind};
 use crate::parts::in_parts;
 use std::collections::BTreeMap;
@@ -105,7 +105,7 @@ impl<T> Compared<T> {
         for ((title, ..), shown) in std::iter::zip(self.kinds, &self.shown) {
             shown.print(title);
         }
-        self.difference.is_none()
+        agreeing(self.difference.is_none())
     }
 
     /// Whether each feature is shown by so many calls.

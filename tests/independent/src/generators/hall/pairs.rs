@@ -34,11 +34,18 @@ pub struct Seen {
 
 /// The pair of a seed, if its edits give one.
 pub fn pair(seed: u64) -> Option<Pair> {
+    let (developer, [first, second], other_views) = runs(seed);
+    (first != second).then(|| Pair::new(developer, [&first, &second], other_views))
+}
+
+/// A developer, two runs with one view for it, which may be the same, and how many edits gave another
+/// view.
+pub fn runs(seed: u64) -> (u8, [Run; 2], u64) {
     let mut random = Random::new(seed);
     let random = &mut random;
     let (developer, first) = calls(random, seed);
     let (second, other_views) = other(random, developer, &first);
-    (first != second).then(|| Pair::new(developer, [&first, &second], other_views))
+    (developer, [first, second], other_views)
 }
 
 /// Another run with the same view, and how many edits gave another view.

@@ -4,8 +4,8 @@
 
 use super::agents::with_agent;
 use crate::generators::sample;
-use crate::model::auction::{EXISTING, NEW, NUMBERS};
-use crate::model::replay::{lines, read_call, replay, write_call, Call};
+use crate::model::auction::{Phase, EXISTING, NEW, NUMBERS};
+use crate::model::replay::{auction_after, lines, read_call, replay, write_call, Call};
 
 /// How many lines stand behind those that a record needs.
 const MANY: usize = 400;
@@ -27,6 +27,17 @@ const STAYING: u8 = 1;
 /// Two new plants of one project.
 const OFFERING: u8 = 2;
 const RIVAL: u8 = 3;
+
+/// The record up to its last line behind which a round is open.
+pub fn in_a_round(record: &[u8]) -> Vec<u8> {
+    let frames = lines(record);
+    let is_open = |count: &usize| {
+        let auction = auction_after(&frames[..*count].join(&b'\n'));
+        matches!(auction.phase(), Phase::Round(_))
+    };
+    let count = (0..=frames.len()).rev().find(is_open);
+    frames[..count.expect("a round")].join(&b'\n')
+}
 
 /// Blank, of no kind, with a digit that is none at either end, too short, too long.
 pub fn malformed() -> Vec<u8> {

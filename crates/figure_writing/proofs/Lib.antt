@@ -1,0 +1,2 @@
+mod Figuring
+mod Settling

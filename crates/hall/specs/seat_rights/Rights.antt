@@ -1,9 +1,0 @@
--- The seat that each case of the enum is.
-use Rattle.rules_seats.specs.Seats as seats
-use Rattle.hall.specs.declared.seat_rights.Seat.{Seat}
-use Rattle.hall.specs.declared.seat_rights.Seat.the-variants.{Auctioneer, Auditor, Developer}
-
-abbrev pub seatIn : Seat → seats.Seat
-seatIn Auctioneer = seats.Auctioneer
-seatIn Auditor = seats.Auditor
-seatIn (Developer n) = seats.At n

@@ -1,0 +1,3 @@
+pub mod closing_preview
+pub mod Told
+pub mod ToldLaws

@@ -1,0 +1,2 @@
+pub mod KeptFrames
+pub mod KeptFrameLaws

@@ -1,0 +1,2 @@
+pub mod ByteSeats
+pub mod ByteSeatLaws
