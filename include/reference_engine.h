@@ -17,6 +17,8 @@
 extern "C" {
 #endif
 
+#define REFERENCE_ENGINE_VERSION "0.39.0" /* the one place of the engine's version: 0, the landing, and 0 */
+
 /* What a call returns for refusal n: 2^64 - n. docs/RULES.md has the table of refusal numbers. */
 #define REFERENCE_ENGINE_REFUSAL(n) (UINT64_C(0) - (n))
 

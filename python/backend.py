@@ -14,15 +14,7 @@ from pathlib import Path
 
 _ROOT = Path(__file__).resolve().parent
 _PACKAGE = _ROOT / "reference_engine"
-_NATIVE = ("libreference_engine.so", "trace")
-
-
-def _version() -> str:
-    text = (_PACKAGE / "__init__.py").read_text(encoding="utf-8")
-    found = re.search(r'^__version__ = "([0-9.]+)"$', text, re.MULTILINE)
-    if not found:
-        raise RuntimeError("reference_engine/__init__.py has no __version__")
-    return found[1]
+_NATIVE = ("libreference_engine.so", "trace", "version")
 
 
 def _files() -> list[Path]:
@@ -30,16 +22,36 @@ def _files() -> list[Path]:
     for path in native:
         if not path.is_file():
             raise RuntimeError(f"{path} is missing: run python/build in the checkout first")
-    return sorted(_PACKAGE.glob("*.py")) + native
+    return [*sorted(_PACKAGE.glob("*.py")), _PACKAGE / "py.typed", *native]
+
+
+def _version() -> str:
+    return (_PACKAGE / "native" / "version").read_text(encoding="ascii").strip()
+
+
+def _project() -> str:
+    return (_ROOT / "pyproject.toml").read_text(encoding="utf-8")
+
+
+def _stated() -> dict[str, str]:
+    """What pyproject.toml says in lines of a name and a text; Python 3.10 does not read TOML."""
+    return dict(re.findall(r'^([a-z-]+) = "(.*)"$', _project(), re.MULTILINE))
 
 
 def _metadata() -> str:
-    text = (_ROOT / "pyproject.toml").read_text(encoding="utf-8")
-    stated = dict(re.findall(r'^([a-z-]+) = "(.*)"$', text, re.MULTILINE))
+    stated = _stated()
+    classifiers = re.findall(r'^    "(.*)",$', _project(), re.MULTILINE)
     return (
         f"Metadata-Version: 2.1\nName: {stated['name']}\nVersion: {_version()}\n"
         f"Summary: {stated['description']}\nRequires-Python: {stated['requires-python']}\n"
+        + "".join(f"Classifier: {each}\n" for each in classifiers)
+        + "Description-Content-Type: text/markdown\n\n"
+        + (_ROOT / stated["readme"]).read_text(encoding="utf-8")
     )
+
+
+def _scripts() -> str:
+    return f"[console_scripts]\nreference-engine = {_stated()['reference-engine']}\n"
 
 
 def _record(name: str, content: bytes) -> str:
@@ -53,6 +65,7 @@ def build_wheel(
     metadata_directory: str | None = None,
 ) -> str:
     """Writes the wheel into the folder and gives its name. Raises RuntimeError if not built."""
+    files = _files()
     # The shared object is for this platform, and for any Python: ctypes loads it.
     tag = "py3-none-" + re.sub(r"[-.]", "_", sysconfig.get_platform())
     stem = f"reference_engine-{_version()}"
@@ -60,10 +73,10 @@ def build_wheel(
     made = f"Wheel-Version: 1.0\nGenerator: backend\nRoot-Is-Purelib: false\nTag: {tag}\n"
     entries = [
         (path.relative_to(_ROOT).as_posix(), path.stat().st_mode, path.read_bytes())
-        for path in _files()
+        for path in files
     ]
-    entries.append((f"{about}/METADATA", 0o100644, _metadata().encode()))
-    entries.append((f"{about}/WHEEL", 0o100644, made.encode()))
+    texts = {"METADATA": _metadata(), "WHEEL": made, "entry_points.txt": _scripts()}
+    entries += [(f"{about}/{name}", 0o100644, text.encode()) for name, text in texts.items()]
     record = "".join(_record(name, content) for name, _, content in entries)
     entries.append((f"{about}/RECORD", 0o100644, f"{record}{about}/RECORD,,\n".encode()))
     with zipfile.ZipFile(Path(wheel_directory, f"{stem}-{tag}.whl"), "w") as wheel:

@@ -2,26 +2,28 @@
 
 from .calls import Step
 from .compare import Difference, differences
+from .library import VERSION as __version__
 from .library import (
+    Engine,
     Forced,
     NotBuilt,
     SealedAwards,
     SealedOffer,
     demand,
     demand_remainder,
+    engine,
     sealed_auction,
 )
 from .record import Line, Record, replay, who_can_force
 from .refusals import MEANINGS, Refusal, Refused
 from .replies import Award, Closed, Reply, Settlement
 
-__version__ = "0.1.0"
-
 __all__ = [
     "MEANINGS",
     "Award",
     "Closed",
     "Difference",
+    "Engine",
     "Forced",
     "Line",
     "NotBuilt",
@@ -33,9 +35,11 @@ __all__ = [
     "SealedOffer",
     "Settlement",
     "Step",
+    "__version__",
     "demand",
     "demand_remainder",
     "differences",
+    "engine",
     "replay",
     "sealed_auction",
     "who_can_force",

@@ -7,6 +7,8 @@ from dataclasses import dataclass, field
 
 from . import library
 from .calls import Opening, Registration, SetUp
+from .library import Engine
+from .mending import mended
 from .record import Line, Record, as_record
 from .replies import Closed, Settlement
 
@@ -56,10 +58,16 @@ class Auction:
     """An auction as its record tells it. `traced` is False where the record is too long for it.
 
     `curve` is the supply curve behind the latest closing, by falling price, and the trace's.
+    `faults` says in words what is wrong with the record's bytes and can be mended, and `mended` is
+    the record without that.
     """
 
     lines: list[Line]
     traced: bool
+    engine: Engine
+    record_sha256: str
+    mended: bytes
+    faults: list[str]
     settings: SetUp | None = None
     registrations: list[Line] = field(default_factory=list)
     lodgings: list[Line] = field(default_factory=list)
@@ -76,9 +84,32 @@ class Auction:
         return None
 
     @property
+    def source(self) -> dict[str, str]:
+        """What the auction's figures are traced to, by name."""
+        return {**self.engine.source, "record SHA-256": self.record_sha256}
+
+    @property
     def settling_failed(self) -> bool:
-        """Whether settling was asked for, and every one was refused."""
-        return not self.settled and any(line.reply.kind == 0x06 for line in self.lines)
+        """Whether settling was asked for, if only by a malformed line, and none was made."""
+        return not self.settled and any(map(_asks_settling, self.lines))
+
+    @property
+    def trouble(self) -> str:
+        """Why no line was accepted, or no settling made that was asked for; else empty."""
+        if not self.lines:
+            return "the record has no line"
+        if len(self.refused) < len(self.lines) and not self.settling_failed:
+            return ""
+        what = "not settled" if len(self.refused) < len(self.lines) else "no line was accepted"
+        first = self.refused[0]
+        settlings = [line for line in self.refused if line.reply.kind == 0x06]
+        said = [f"line {first.number} was {first.reply.refusal}"]
+        if settlings and settlings[-1].reply != first.reply:
+            last = settlings[-1]
+            said.append(f"settling on line {last.number} was {last.reply.refusal}")
+        if self.mended.split(b"\n")[first.number - 1 : first.number] != [first.text]:
+            said = []  # what is wrong with the line is among the faults
+        return f"{what}: {'; '.join([*said, *self.faults])}"
 
     def demand_at(self, price: int) -> int:
         """Dem(price) with the auction's settings, by the library. Raises Refused(1), ValueError."""
@@ -127,13 +158,18 @@ def read_auction(record: Record | bytes) -> Auction:
     lines, content = record.lines(), bytes(record)
     traced = library.has_trace(content)
     traces = _traces(library.traced(content)) if traced else [_Traced() for _ in lines]
-    auction = Auction(lines, traced)
+    auction = Auction(lines, traced, library.engine(), library.sha256(content), *mended(content))
     latest: list[str] = []
     for line, trace in zip(lines, traces, strict=True):
         _add(auction, line, trace)
         latest = trace.curve if isinstance(line.reply, Closed) else latest
     auction.curve = _curve(latest)
     return auction
+
+
+def _asks_settling(line: Line) -> bool:
+    """Whether a line is a settling, or begins like one and is malformed."""
+    return line.reply.kind == 0x06 or line.text.replace(b"\0", b"").startswith(b"06")
 
 
 def _add(auction: Auction, line: Line, trace: _Traced) -> None:

@@ -135,10 +135,10 @@ def call_in(line: bytes, kind: int) -> Call:
     steps = tuple(Step(*pair) for pair in zip(words[::2], words[1::2]))
     if kind == 0x01:
         return SetUp(*fields)
-    if kind == 0x02:
-        return Registration(*fields[:3], None, *fields[3:5], tuple(words))
-    if kind == 0x08:
-        return Registration(*fields[:6], tuple(words))
+    if kind in (0x02, 0x08):
+        project, developer, plant, *agent, study, day, _ = fields
+        named = agent[0] if agent else None
+        return Registration(project, developer, plant, named, study, day, tuple(words))
     if kind == 0x03:
         return Opening(*fields)
     if kind == 0x04:

@@ -1,4 +1,7 @@
-"""What the commands share: the files they read and keep, and the exit status for one auction."""
+"""What the commands share: files that they read, write and keep; the exit status for one auction.
+
+In place of a file, - is standard input or standard output.
+"""
 
 from __future__ import annotations
 
@@ -9,14 +12,21 @@ from pathlib import Path
 from shutil import SameFileError
 from typing import TypeAlias
 
-from .auction import Auction
+from .auction import Auction, read_auction
+from .mending import mends
+from .record import Record
 
 Commands: TypeAlias = "argparse._SubParsersAction[argparse.ArgumentParser]"
 
-_EPILOG = """\
-Exit status: 0, also where lines are refused; 1 where settling was asked for and each one was
-refused; 2 for bad usage.
+#: The exit status of a command that shows one auction.
+STATUS = """\
+Exit status: 0, also where lines are refused; 1 where no line was accepted, or settling was asked
+for and none was made; 2 for bad usage.
 """
+
+
+class BadInput(Exception):
+    """What is read is not what the command reads; the error says in words why."""
 
 
 def parser_of(
@@ -25,31 +35,96 @@ def parser_of(
     name: str,
     summary: str,
     description: str,
+    read_what: str = "record",
 ) -> argparse.ArgumentParser:
-    """Adds a command that shows one auction, and gives its parser, which takes a record."""
+    """Adds a command that reads one file, and gives its parser."""
     parser = commands.add_parser(
         name,
         help=summary,
         description=description,
-        epilog=_EPILOG,
         formatter_class=argparse.RawDescriptionHelpFormatter,
     )
-    parser.add_argument("record", metavar="RECORD", type=Path, help="the file of the record")
+    metavar, words = read_what.upper(), f"the file of the {read_what}; - is standard input"
+    parser.add_argument(read_what, metavar=metavar, help=words)
     parser.set_defaults(run=run)
     return parser
 
 
-def keep(read: Iterable[Path], output: Path) -> None:
-    """Raises SameFileError, an OSError, where the output would replace a file that is read."""
-    for path in read:
-        if output.exists() and output.samefile(path):
-            raise SameFileError(f"the output would replace {path}")
+def add_output(
+    parser: argparse.ArgumentParser, metavar: str, what: str, default: str | None = None
+) -> None:
+    """Adds the option of the file that is written; it has to be given if it has no default."""
+    parser.add_argument(
+        "-o",
+        "--output",
+        metavar=metavar,
+        required=default is None,
+        default=default,
+        help=f"{what}; - is standard output" + (", and the default" if default else ""),
+    )
 
 
-def status_of(auction: Auction) -> int:
-    """1, with a line on stderr, where settling was asked for and each one was refused; else 0."""
-    if not auction.settling_failed:
-        return 0
-    last = [line for line in auction.refused if line.reply.kind == 0x06][-1]
-    print(f"not settled: line {last.number} was {last.reply.refusal}", file=sys.stderr)
-    return 1
+# ---- files
+
+
+def read(path: str) -> bytes:
+    """The bytes of a file. Raises OSError."""
+    return sys.stdin.buffer.read() if path == "-" else Path(path).read_bytes()
+
+
+def write(path: str, content: bytes) -> None:
+    """Writes a file. Raises OSError."""
+    if path != "-":
+        Path(path).write_bytes(content)
+    elif hasattr(sys.stdout, "buffer"):
+        sys.stdout.flush()
+        sys.stdout.buffer.write(content)
+        sys.stdout.buffer.flush()
+    else:  # a notebook's, or another that takes text alone
+        sys.stdout.write(content.decode("utf-8"))
+
+
+def write_new(path: str, content: bytes) -> None:
+    """Writes a file that is not there yet: a record is not written over. Raises OSError."""
+    if path == "-":
+        write(path, content)
+        return
+    try:
+        with open(path, "xb") as file:
+            file.write(content)
+    except FileExistsError:
+        raise FileExistsError(f"{path} is there already, and is not written over") from None
+
+
+def in_words(error: Exception) -> str:
+    """An error in a line; that of a file with the file's name and no number."""
+    if isinstance(error, OSError) and error.filename is not None:
+        return f"{error.filename}: {error.strerror}"
+    return " ".join(str(error).split())
+
+
+def keep(files: Iterable[str], *outputs: str | None) -> None:
+    """Raises SameFileError, an OSError, where an output would replace a file that is read."""
+    paths = [Path(path) for path in files if path != "-"]
+    for output in outputs:
+        if output in (None, "-") or not Path(str(output)).exists():
+            continue
+        for path in paths:
+            if path.exists() and path.samefile(str(output)):
+                raise SameFileError(f"the output would replace {path}")
+
+
+# ---- one auction
+
+
+def auction_of(chosen: argparse.Namespace) -> Auction:
+    """The auction of the record that was chosen."""
+    return read_auction(Record(read(chosen.record)))
+
+
+def status_of(auction: Auction, record: str) -> int:
+    """The exit status, with a line on stderr where something is wrong with the record."""
+    said = auction.trouble or "; ".join(auction.faults)
+    if said:
+        print(said, *([mends(record)] if auction.faults else []), sep="; ", file=sys.stderr)
+    return 1 if auction.trouble else 0

@@ -4,21 +4,30 @@ from __future__ import annotations
 
 import argparse
 import csv
+import io
+import os
+import signal
 import sys
+from collections import defaultdict
 from collections.abc import Iterator, Sequence
-from contextlib import nullcontext
+from concurrent.futures import ProcessPoolExecutor
+from concurrent.futures.process import BrokenProcessPool
 from dataclasses import dataclass, fields
 from itertools import zip_longest
 from pathlib import Path
-from typing import Any, ContextManager, TextIO, Union
+from typing import Any, Union
 
 from .calls import NAMES
-from .command import Commands, keep
-from .record import Line, Record
+from .command import BadInput, Commands, in_words, keep, read, write
+from .library import engine
+from .markup import Markup, element, joined
+from .mending import mended, mends
+from .record import Line, Record, as_record
 from .refusals import Refusal
 from .replies import Award, Reply, reply_in
 
 _SHOWN = 120  # characters of a line that are shown in words; the csv file has all of them
+_LISTED = 100  # differences of a pair in the junit file; the csv file has all of them
 _COLUMNS = ("record", "replies", "line", "call", "field", "value", "reference")
 
 Value = Union[int, str, None]
@@ -94,16 +103,19 @@ def _cut(text: Value) -> str:
     return shown if len(shown) <= _SHOWN else f"{shown[:_SHOWN]}... ({len(shown)} characters)"
 
 
-def differences(record: Record, replies: str) -> list[Difference]:
+def differences(record: Record | bytes, replies: str) -> list[Difference]:
     """All differences of the replies, one a line, from the reference's to the record, by line.
 
-    The last line may lack its 0A. Raises TypeError where the replies are no text.
+    The last line may lack its 0A. Raises TypeError where the record or the replies are none.
     """
     if not isinstance(replies, str):
         raise TypeError(f"replies are text, not {type(replies).__name__}")
+    return _between(as_record(record).lines(), _lines(replies))
+
+
+def _between(lines: list[Line], texts: list[str]) -> list[Difference]:
     found: list[Difference] = []
-    pairs = zip_longest(record.lines(), _lines(replies))
-    for number, (line, text) in enumerate(pairs, 1):
+    for number, (line, text) in enumerate(zip_longest(lines, texts), 1):
         if line is not None and text == line.reply_text:
             continue
         call = NAMES[line.reply.kind] if line else ""
@@ -197,6 +209,99 @@ def _award(award: Award | None) -> str:
     return ", ".join(f"{name} {value}" for name, value, _ in _fields(award, award))
 
 
+# ---- pairs of files
+
+
+@dataclass(frozen=True)
+class Compared:
+    """A pair of files with its differences and what is said of it, or why it was not compared."""
+
+    record: str
+    replies: str
+    found: tuple[Difference, ...] = ()
+    said: str = ""
+    error: str = ""
+
+
+def _compared(pair: tuple[str, str]) -> Compared:
+    """The differences of a pair of files, with the first and their number in words."""
+    record, path = pair
+    try:
+        content = read(record)
+        # Latin-1 has a character for each byte, so that any file can be read and shown.
+        replies = read(path).decode("latin-1")
+    except OSError as error:
+        return Compared(record, path, error=f"{record}, {path}: not compared: {in_words(error)}")
+    lines, texts = Record(content).lines(), _lines(replies)
+    found = _between(lines, texts)
+    number = _count(max(len(lines), len(texts)), "line")
+    said = f"{path}: no difference, {number}"
+    if found:
+        wrong = len({each.line for each in found})
+        said = f"{path}: {_count(len(found), 'difference')} in {wrong} of {number}"
+        said = f"{found[0].words()}\n{said}"
+    if replies and not replies.endswith("\n"):
+        said += "; the last reply has no 0A behind it"
+    faults = mended(content)[1]
+    if faults and all(line.reply.kind == 0xFF for line in lines):
+        said = f"{record}: {'; '.join(faults)}; {mends(record)}\n{said}"
+    return Compared(record, path, tuple(found), said)
+
+
+def _in_folders(records: str, replies: str) -> tuple[list[tuple[str, str]], list[Compared]]:
+    """Files of two folders in pairs, of one name, if only but for the ending; and the rest."""
+    named, answered = _files(records), _files(replies)
+    if not named:
+        raise BadInput(f"{records} has no file")
+    stems: dict[Path, list[Path]] = defaultdict(list)
+    for name in answered:
+        stems[name.with_suffix("")].append(name)
+    pairs: list[tuple[str, str]] = []
+    rest: list[Compared] = []
+    for name, record in named.items():
+        alike = [name] if name in answered else stems[name.with_suffix("")]
+        if len(alike) == 1:
+            pairs.append((record, answered[alike[0]]))
+        else:
+            why = "several files of its name" if alike else "no file of its name"
+            rest.append(Compared(record, replies, error=f"{record}: {why} in {replies}"))
+    taken = {path for _, path in pairs}
+    for path in answered.values():
+        if path not in taken:
+            why = f"{path}: no record of its name in {records}"
+            rest.append(Compared(records, path, error=why))
+    return pairs, rest
+
+
+def _files(folder: str) -> dict[Path, str]:
+    """The files below a folder by their names there, hidden ones left out."""
+    if not os.path.isdir(folder):
+        raise NotADirectoryError(f"{folder} is no folder")
+    names = (path.relative_to(folder) for path in Path(folder).rglob("*") if path.is_file())
+    seen = sorted(name for name in names if not any(part.startswith(".") for part in name.parts))
+    return {name: str(Path(folder, name)) for name in seen}
+
+
+def _each(pairs: Sequence[tuple[str, str]], jobs: int) -> Iterator[Compared]:
+    """The pairs compared, in their order, by so many processes; this one has standard input."""
+    if jobs == 1 or any("-" in pair for pair in pairs):
+        yield from map(_compared, pairs)
+        return
+    with ProcessPoolExecutor(jobs, initializer=_uninterrupted) as pool:
+        try:
+            yield from pool.map(_compared, pairs, chunksize=-(-len(pairs) // (8 * jobs)))
+        except BrokenProcessPool:
+            raise BadInput("a process that compared was ended from outside") from None
+        except BaseException:  # Ctrl-C among them
+            pool.shutdown(wait=False, cancel_futures=True)
+            raise
+
+
+def _uninterrupted() -> None:
+    """Ctrl-C ends the process that waits for this one."""
+    signal.signal(signal.SIGINT, signal.SIG_IGN)
+
+
 # ---- the command
 
 
@@ -207,21 +312,44 @@ def add_to(commands: Commands) -> None:
         help="measure another program's replies against the reference",
         description="Measures the replies of another program against the reference's replies to"
         " the same record: the first difference and the number of differences. Exit status 0 where"
-        " nothing differs, 1 where anything does, 2 for bad usage or a file that cannot be read.",
+        " nothing differs, 1 where anything does, 2 for bad usage or where a pair could not be"
+        " compared; the others are compared then too.",
     )
-    parser.add_argument(
+    pairs = parser.add_mutually_exclusive_group(required=True)
+    pairs.add_argument(
         "files",
-        nargs="+",
+        nargs="*",
+        default=[],
         action=_Pairs,
         metavar="RECORD REPLIES",
-        help="a record, and the replies to it (docs/FORMAT.md); any number of pairs",
+        help="a record, and the replies to it (docs/FORMAT.md); any number of pairs; one file may"
+        " be -, standard input",
+    )
+    pairs.add_argument(
+        "--dir",
+        nargs=2,
+        metavar=("RECORDS", "REPLIES"),
+        help="folders instead of files: each record with the replies of its name, whatever the"
+        " ending of both",
     )
     parser.add_argument(
-        "--csv",
-        metavar="FILE",
-        help="write all differences to a csv file; - is standard output, and the words then go to"
-        " standard error",
+        "--jobs",
+        type=_jobs,
+        metavar="N",
+        help="processes that compare; default: with --dir one for each processor, else 1",
     )
+    parser.add_argument(
+        "--quiet", action="store_true", help="say nothing of pairs without a difference"
+    )
+    for name, what in (
+        ("csv", "write all differences to a csv file"),
+        ("junit", "write each pair as a test case to an XML file in JUnit's form"),
+    ):
+        parser.add_argument(
+            f"--{name}",
+            metavar="FILE",
+            help=f"{what}; - is standard output, and the words then go to standard error",
+        )
     parser.set_defaults(run=run)
 
 
@@ -233,68 +361,67 @@ class _Pairs(argparse.Action):
     ) -> None:
         if len(files) % 2:
             raise argparse.ArgumentError(self, f"{files[-1]} is a record without replies")
+        if files.count("-") > 1:
+            raise argparse.ArgumentError(self, "- can be one of the files only")
         setattr(chosen, self.dest, list(zip(files[::2], files[1::2])))
 
 
-def run(chosen: argparse.Namespace) -> int:
-    """Runs the command and gives its exit status: 1 where anything differs.
+def _jobs(text: str) -> int:
+    if not text.isdecimal() or int(text) < 1:
+        raise argparse.ArgumentTypeError(f"{text} is no number of processes")
+    return int(text)
 
-    Raises OSError where a file cannot be read or written. The csv file is written when all are
-    read, so that an older one stays where one of them cannot be.
-    """
-    if chosen.csv not in (None, "-"):
-        keep((Path(path) for pair in chosen.files for path in pair), Path(chosen.csv))
-    words = sys.stderr if chosen.csv == "-" else sys.stdout
-    progress = _Progress(len(chosen.files))
-    counts: list[int] = []
-    rows: list[Row] = [_COLUMNS]
-    for record, replies in chosen.files:
-        progress.show(len(counts))
+
+def run(chosen: argparse.Namespace) -> int:
+    """Runs the command and gives its exit status."""
+    pairs, compared = _in_folders(*chosen.dir) if chosen.dir else (chosen.files, [])
+    written = [path for path in (chosen.csv, chosen.junit) if path is not None]
+    keep((path for pair in pairs for path in pair), *written)
+    if len(set(written)) < len(written):
+        raise BadInput(f"--csv and --junit are one file, {written[0]}")
+    words = sys.stderr if "-" in written else sys.stdout
+    for swapped in engine().swapped_in:
+        print(f"swapped in: {swapped}", file=words)
+    for each in compared:
+        print(each.error, file=sys.stderr)
+    cores = len(os.sched_getaffinity(0)) if chosen.dir else 1
+    results = _each(pairs, max(min(chosen.jobs or cores, len(pairs)), 1))
+    progress = _Progress(len(pairs))
+    for done in range(len(pairs)):
+        progress.show(done)
         try:
-            found, said = _compared(record, replies)
+            each = next(results)
         finally:
             progress.clear()
-        if chosen.csv is not None:
-            rows += [_row(record, replies, each) for each in found]
-        print(said, file=words, flush=True)
-        counts.append(len(found))
+        compared.append(each)
+        if each.error:
+            print(each.error, file=sys.stderr, flush=True)
+        elif each.found or not chosen.quiet:
+            print(each.said, file=words, flush=True)
     if chosen.csv is not None:
-        with _opened(chosen.csv) as table:
-            csv.writer(table, lineterminator="\n").writerows(rows)
-    if len(counts) > 1:
-        print(_sum(counts), file=words, flush=True)
-    return 1 if any(counts) else 0
+        write(chosen.csv, _csv(compared))
+    if chosen.junit is not None:
+        write(chosen.junit, _junit(compared))
+    if len(compared) > 1:
+        print(_sum(compared), file=words, flush=True)
+    if any(each.error for each in compared):
+        return 2
+    return 1 if any(each.found for each in compared) else 0
 
 
-def _opened(path: str) -> ContextManager[TextIO]:
-    if path == "-":
-        return nullcontext(sys.stdout)
-    return open(path, "w", encoding="utf-8", errors="backslashreplace", newline="")
+def _csv(compared: Sequence[Compared]) -> bytes:
+    """All differences, a row each."""
+    text = io.StringIO()
+    writer = csv.writer(text, lineterminator="\n")
+    writer.writerow(_COLUMNS)
+    for pair in compared:
+        writer.writerows(_row(pair, found) for found in pair.found)
+    return text.getvalue().encode("utf-8", "backslashreplace")
 
 
-def _compared(record_path: str, replies_path: str) -> tuple[list[Difference], str]:
-    """The differences of a pair of files, with the first and their number in words."""
-    record = Record.read(record_path)
-    # Latin-1 has a character for each byte, so that any file can be read and shown.
-    replies = Path(replies_path).read_bytes().decode("latin-1")
-    found = differences(record, replies)
-    lines = max(len(_lines(text)) for text in (replies, bytes(record).decode("latin-1")))
-    ending = "" if not replies or replies.endswith("\n") else "; the last reply has no 0A behind it"
-    if not found:
-        return found, f"{replies_path}: no difference, {_count(lines, 'line')}{ending}"
-    wrong = len({each.line for each in found})
-    number = _count(len(found), "difference")
-    summary = f"{replies_path}: {number} in {wrong} of {_count(lines, 'line')}{ending}"
-    return found, f"{found[0].words()}\n{summary}"
-
-
-def _count(number: int, name: str) -> str:
-    return f"{number} {name}" if number == 1 else f"{number} {name}s"
-
-
-def _row(record: str, replies: str, found: Difference) -> Row:
+def _row(pair: Compared, found: Difference) -> Row:
     value, reference = (_cell(each) for each in (found.value, found.reference))
-    return record, replies, found.line, found.call, found.field, value, reference
+    return pair.record, pair.replies, found.line, found.call, found.field, value, reference
 
 
 def _cell(value: Value) -> str | int:
@@ -304,12 +431,47 @@ def _cell(value: Value) -> str | int:
     return int(value) if isinstance(value, bool) else value
 
 
-def _sum(counts: Sequence[int]) -> str:
-    pairs = _count(len(counts), "pair")
-    if not any(counts):
-        return f"all: no difference, {pairs}"
+def _junit(compared: Sequence[Compared]) -> bytes:
+    """Each pair as a test case: differences fail it, and what is not compared is an error."""
+    about = engine().source.items()
+    properties = (element("property", name=name, value=value) for name, value in about)
+    suite = element(
+        "testsuite",
+        element("properties", *properties),
+        *(joined("\n", _case(pair)) for pair in compared),
+        name="reference_engine compare",
+        tests=len(compared),
+        failures=sum(1 for pair in compared if pair.found),
+        errors=sum(1 for pair in compared if pair.error),
+    )
+    return f'<?xml version="1.0" encoding="UTF-8"?>\n{suite}\n'.encode("utf-8")
+
+
+def _case(pair: Compared) -> Markup:
+    content: list[Markup] = []
+    if pair.error:
+        content.append(element("error", message=pair.error))
+    if pair.found:
+        listed = [each.words() for each in pair.found[:_LISTED]]
+        more = len(pair.found) - len(listed)
+        listed += [f"and {_count(more, 'difference')} more"] if more else []
+        content.append(element("failure", "\n".join(listed), message=listed[0]))
+    return element("testcase", *content, classname=pair.record, name=pair.replies)
+
+
+def _count(number: int, name: str) -> str:
+    return f"{number} {name}" if number == 1 else f"{number} {name}s"
+
+
+def _sum(compared: Sequence[Compared]) -> str:
+    pairs = _count(len(compared), "pair")
+    counts = [len(pair.found) for pair in compared]
     wrong = sum(1 for count in counts if count)
-    return f"all: {_count(sum(counts), 'difference')} in {wrong} of {pairs}"
+    said = f"all: {_count(sum(counts), 'difference')} in {wrong} of {pairs}"
+    if not wrong:
+        said = f"all: no difference, {pairs}"
+    failed = sum(1 for pair in compared if pair.error)
+    return f"{said}; {failed} not compared" if failed else said
 
 
 class _Progress:

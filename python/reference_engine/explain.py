@@ -6,7 +6,7 @@ import argparse
 import sys
 from collections.abc import Iterator
 
-from .auction import Auction, Round, Settled, read_auction
+from .auction import Auction, Round, Settled
 from .calls import (
     KINDS,
     NAMES,
@@ -21,8 +21,8 @@ from .calls import (
     Settling,
     Step,
 )
-from .command import Commands, parser_of, status_of
-from .record import Line, Record
+from .command import STATUS, Commands, auction_of, parser_of, status_of
+from .record import Line
 from .replies import Closed
 
 _UNITS = (
@@ -37,6 +37,7 @@ the reference answers. The figures and awards of a settling stand below its line
 Bytes that are not printable are shown escaped, as in '05\\r'; a long malformed line is cut, and its
 length said. A record without lines gives "no line". For a record of more than 65,536 bytes, the
 most that trace reads, it is not said whether a closing closes the auction.
+
 """
 
 
@@ -130,6 +131,8 @@ def settlement_in_words(settled: Settled) -> list[str]:
 
 def explained(auction: Auction) -> Iterator[str]:
     """The auction's lines in words; `no line` where it has none."""
+    for swapped in auction.engine.swapped_in:
+        yield f"Swapped in: {swapped}"
     if not auction.lines:
         yield "no line"
         return
@@ -155,11 +158,11 @@ def explained(auction: Auction) -> Iterator[str]:
 def add_to(commands: Commands) -> None:
     """Adds the command to the command line."""
     summary = "each line of a record in words, with its reply"
-    parser_of(run, commands, "explain", summary, _DESCRIPTION)
+    parser_of(run, commands, "explain", summary, _DESCRIPTION + STATUS)
 
 
 def run(chosen: argparse.Namespace) -> int:
     """Runs the command and gives its exit status."""
-    auction = read_auction(Record.read(chosen.record))
+    auction = auction_of(chosen)
     sys.stdout.write("".join(f"{text}\n" for text in explained(auction)))
-    return status_of(auction)
+    return status_of(auction, chosen.record)

@@ -1,20 +1,32 @@
-"""The proved library, called through ctypes. Each argument is tested before, and nothing is cut."""
+"""The proved library, called through ctypes. Each argument is tested before, and nothing is cut.
+
+Any number of threads may make calls at once. The stack of each should have 128 KiB or more for
+them (include/reference_engine.h); Python's own threads have more, unless `threading.stack_size`
+makes it less.
+"""
 
 from __future__ import annotations
 
 import ctypes
+import hashlib
+import operator
 import os
 import subprocess
 from collections.abc import Iterable, Mapping, Sequence, Set
 from dataclasses import dataclass
 from functools import cache
 from pathlib import Path
+from typing import SupportsIndex, TypeVar
 
 from .refusals import Refused
+
+_Item = TypeVar("_Item")
 
 _NATIVE = Path(__file__).parent / "native"
 _REFUSALS = 2**64 - 256  # from here on a result is 2^64 less a refusal's number
 _TRACED = 65_536  # bytes of the longest record that `trace` reads
+# Environment variables that swap another library or another `trace` in
+_LIBRARY, _TRACE = "REFERENCE_ENGINE_LIBRARY", "REFERENCE_ENGINE_TRACE"
 
 # Parameters in include/reference_engine.h: a number; bytes, or numbers, with their length.
 _NUMBER = (ctypes.c_uint64,)
@@ -39,7 +51,7 @@ _PARAMETERS = {
 
 
 class NotBuilt(Exception):
-    """The shared object or the program `trace` is missing."""
+    """The shared object or the program `trace` is missing, or lacks a call."""
 
 
 def _built(variable: str, name: str) -> Path:
@@ -49,31 +61,88 @@ def _built(variable: str, name: str) -> Path:
     return path
 
 
+def _version() -> str:
+    """The version of the engine that python/build has made."""
+    path = _NATIVE / "version"
+    return path.read_text(encoding="ascii").strip() if path.is_file() else "not built"
+
+
+VERSION = _version()
+
+
+@cache
+def _library_path() -> Path:
+    return _built(_LIBRARY, "libreference_engine.so")
+
+
 @cache
 def _library() -> ctypes.CDLL:
-    library = ctypes.CDLL(str(_built("REFERENCE_ENGINE_LIBRARY", "libreference_engine.so")))
+    library = ctypes.CDLL(str(_library_path()))
     for name, parameters in _PARAMETERS.items():
+        if not hasattr(library, name):
+            raise NotBuilt(f"{_library_path()} has no {name}: it is not the engine's, or older")
         function = getattr(library, name)
         function.restype = ctypes.c_uint64
         function.argtypes = parameters
     return library
 
 
-def whole(name: str, value: int, below: int = 2**64) -> int:
-    """The value, if it is a whole number from 0 and below the bound.
+@dataclass(frozen=True)
+class Engine:
+    """The engine that is called: its version, the SHA-256 of its library, and what is swapped in.
+
+    `swapped_in` has the library and the program `trace` that an environment variable names, as
+    REFERENCE_ENGINE_LIBRARY=PATH; of such a library the version is not known.
+    """
+
+    version: str
+    library_sha256: str
+    swapped_in: tuple[str, ...]
+
+    @property
+    def source(self) -> dict[str, str]:
+        """What a figure of this engine is traced to, by name."""
+        swapped = {"swapped in": ", ".join(self.swapped_in)} if self.swapped_in else {}
+        return {"engine version": self.version, "library SHA-256": self.library_sha256, **swapped}
+
+
+def sha256(content: bytes) -> str:
+    """The SHA-256 of bytes, in hexadecimal digits."""
+    return hashlib.sha256(content).hexdigest()
+
+
+@cache
+def _digest(path: Path) -> str:
+    return sha256(path.read_bytes())
+
+
+def engine() -> Engine:
+    """The engine that is called. Raises NotBuilt."""
+    path, program = _library_path(), os.environ.get(_TRACE)
+    swapped = [f"{_LIBRARY}={path}"] if path.parent != _NATIVE else []
+    version = "not known" if swapped else VERSION
+    return Engine(version, _digest(path), (*swapped, *([f"{_TRACE}={program}"] if program else [])))
+
+
+def whole(name: str, value: SupportsIndex, below: int = 2**64) -> int:
+    """The value, if it is a whole number from 0 and below the bound; NumPy's are such too.
 
     Raises TypeError for another type, ValueError for a number that does not fit.
     """
-    if isinstance(value, bool) or not isinstance(value, int):
-        raise TypeError(f"{name} must be a whole number, not {type(value).__name__}")
-    if not 0 <= value < below:
+    try:
+        if isinstance(value, bool) or getattr(value, "dtype", None) == bool:  # NumPy's bools
+            raise TypeError
+        number = operator.index(value)
+    except TypeError:
+        raise TypeError(f"{name} must be a whole number, not {type(value).__name__}") from None
+    if not 0 <= number < below:
         # Python does not print numbers of thousands of digits.
-        said = value if value.bit_length() <= 256 else f"a number of {value.bit_length()} bits"
+        said = number if number.bit_length() <= 256 else f"a number of {number.bit_length()} bits"
         raise ValueError(f"{name} is {said}, and must be from 0 to {below - 1}")
-    return value
+    return number
 
 
-def listed(name: str, values: Iterable[object]) -> list[object]:
+def listed(name: str, values: Iterable[_Item]) -> list[_Item]:
     """The values as a list. Raises TypeError for text, bytes and what has no order or no items."""
     if isinstance(values, (str, bytes, bytearray, memoryview, Mapping, Set)) or not isinstance(
         values, Iterable
@@ -82,7 +151,7 @@ def listed(name: str, values: Iterable[object]) -> list[object]:
     return list(values)
 
 
-def wholes(name: str, values: Iterable[int], below: int = 2**64) -> list[int]:
+def wholes(name: str, values: Iterable[SupportsIndex], below: int = 2**64) -> list[int]:
     """The values as a list, each tested as `whole` does."""
     numbers = enumerate(listed(name, values))
     return [whole(f"{name}[{place}]", value, below) for place, value in numbers]
@@ -101,17 +170,23 @@ def _call(name: str, *arguments: object) -> int:
     return result
 
 
-def demand(ce: int, d: int, m1: int, m2: int, p: int) -> int:
+def demand(
+    ce: SupportsIndex, d: SupportsIndex, m1: SupportsIndex, m2: SupportsIndex, p: SupportsIndex
+) -> int:
     """Dem(p), in kWh per day. Raises Refused(1) beyond the bounds."""
     return _call("demand", *_at_price(ce, d, m1, m2, p))
 
 
-def demand_remainder(ce: int, d: int, m1: int, m2: int, p: int) -> int:
+def demand_remainder(
+    ce: SupportsIndex, d: SupportsIndex, m1: SupportsIndex, m2: SupportsIndex, p: SupportsIndex
+) -> int:
     """What rounding adds to exact demand at p, in CE-ths of a kWh per day. Raises Refused(1)."""
     return _call("demand_remainder", *_at_price(ce, d, m1, m2, p))
 
 
-def _at_price(ce: int, d: int, m1: int, m2: int, p: int) -> list[int]:
+def _at_price(
+    ce: SupportsIndex, d: SupportsIndex, m1: SupportsIndex, m2: SupportsIndex, p: SupportsIndex
+) -> list[int]:
     values = {"ce": ce, "d": d, "m1": m1, "m2": m2, "p": p}
     return [whole(name, value) for name, value in values.items()]
 
@@ -133,7 +208,9 @@ class Forced:
     withdraws: bool
 
 
-def forced(record: bytes, first: int, second: int, prices: Iterable[int]) -> Forced:
+def forced(
+    record: bytes, first: SupportsIndex, second: SupportsIndex, prices: Iterable[SupportsIndex]
+) -> Forced:
     """What `who_can_force` says of the auction that a record's bytes leave behind."""
     move = ctypes.create_string_buffer(1)
     outcome = _call(
@@ -153,10 +230,10 @@ def forced(record: bytes, first: int, second: int, prices: Iterable[int]) -> For
 class SealedOffer:
     """An offer of the sealed auction; the age of its group is in years."""
 
-    price: int
-    quantity: int
-    minimum: int
-    age: int
+    price: SupportsIndex
+    quantity: SupportsIndex
+    minimum: SupportsIndex
+    age: SupportsIndex
 
 
 @dataclass(frozen=True)
@@ -167,7 +244,9 @@ class SealedAwards:
     left: int
 
 
-def sealed_auction(ceiling: int, demand: int, offers: Iterable[SealedOffer]) -> SealedAwards:
+def sealed_auction(
+    ceiling: SupportsIndex, demand: SupportsIndex, offers: Iterable[SealedOffer]
+) -> SealedAwards:
     """The sealed auction for long builds. Raises Refused(18), (19)."""
     book = listed("offers", offers)
     for place, offer in enumerate(book):
@@ -218,6 +297,6 @@ def traced(record: bytes) -> str:
     """
     if not has_trace(record):
         raise ValueError(f"a record of {len(record)} bytes has no trace")
-    program = _built("REFERENCE_ENGINE_TRACE", "trace")
+    program = _built(_TRACE, "trace")
     done = subprocess.run([str(program)], input=record, stdout=subprocess.PIPE, check=True)
     return done.stdout.decode("ascii")

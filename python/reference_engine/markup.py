@@ -38,11 +38,18 @@ def element(name: str, /, *content: str, **attributes: str | int | float) -> Mar
     return Markup(f"<{start}>{joined(*content)}</{name}>")
 
 
+def pointed(number: int, decimals: int, separated: bool = True) -> str:
+    """A number with so many of its digits behind the point, and commas between thousands."""
+    whole, rest = divmod(abs(number), 10**decimals)
+    behind = f".{rest:0{decimals}}" if decimals else ""
+    return f"{'-' if number < 0 else ''}{whole:{',' if separated else ''}}{behind}"
+
+
 def quantity(number: int) -> str:
     """A whole number with thousands separators."""
-    return f"{number:,}"
+    return pointed(number, 0)
 
 
 def price(thousandths: int) -> str:
     """A price in US$ per MWh: 26000 thousandths are 26.000."""
-    return f"{thousandths // 1000:,}.{thousandths % 1000:03}"
+    return pointed(thousandths, 3)

@@ -5,6 +5,7 @@ from __future__ import annotations
 from collections.abc import Iterable
 from dataclasses import dataclass
 from pathlib import Path
+from typing import SupportsIndex, TypeAlias, Union
 
 from . import library
 from .calls import Call, Step, call_in
@@ -12,6 +13,9 @@ from .library import Forced, listed, whole, wholes
 from .replies import Reply, reply_in
 
 _BYTE, _WORD, _LONG = 2**8, 2**32, 2**40
+
+#: Steps of an offer or of a lodged list: a price, and the level that it falls to.
+Steps: TypeAlias = Iterable[Union[Step, Iterable[SupportsIndex]]]
 
 
 @dataclass(frozen=True)
@@ -42,6 +46,12 @@ class Record:
         """Writes the record to a file."""
         Path(path).write_bytes(self._content)
 
+    def copy(self) -> Record:
+        """A record of the same bytes; what is added to one is not added to the other."""
+        return Record(self._content)
+
+    __copy__ = copy
+
     def __bytes__(self) -> bytes:
         return bytes(self._content)
 
@@ -56,7 +66,14 @@ class Record:
 
     # ---- calls added
 
-    def set_up(self, ce: int, d: int, m1: int, m2: int, a: int) -> Record:
+    def set_up(
+        self,
+        ce: SupportsIndex,
+        d: SupportsIndex,
+        m1: SupportsIndex,
+        m2: SupportsIndex,
+        a: SupportsIndex,
+    ) -> Record:
         """Set-up: entrant's cost, target demand, lower and upper margin, opening price."""
         return self._add(
             "write_set_up",
@@ -69,13 +86,13 @@ class Record:
 
     def register(
         self,
-        project: int,
-        developer: int,
-        kind: int,
-        levels: Iterable[int],
-        study: int = 0,
-        day: int = 0,
-        agent: int | None = None,
+        project: SupportsIndex,
+        developer: SupportsIndex,
+        kind: SupportsIndex,
+        levels: Iterable[SupportsIndex],
+        study: SupportsIndex = 0,
+        day: SupportsIndex = 0,
+        agent: SupportsIndex | None = None,
     ) -> Record:
         """A registration; kind 1 is an existing plant, 2 a new one. An agent makes it frame 08."""
         numbers = [
@@ -93,19 +110,19 @@ class Record:
             wholes("levels", levels, _WORD),
         )
 
-    def open(self, c: int) -> Record:
+    def open(self, c: SupportsIndex) -> Record:
         """The opening of a round down to C."""
         return self._add("write_opening", whole("c", c, _WORD))
 
-    def offer(self, developer: int, steps: Iterable[Step | tuple[int, int]] = ()) -> Record:
+    def offer(self, developer: SupportsIndex, steps: Steps = ()) -> Record:
         """A developer's offer: steps of a price and the level that it falls to."""
         return self._add("write_offer", whole("developer", developer, _BYTE), *_columns(steps))
 
-    def lodge(self, developer: int, steps: Iterable[Step | tuple[int, int]] = ()) -> Record:
+    def lodge(self, developer: SupportsIndex, steps: Steps = ()) -> Record:
         """The withdrawal list of an existing plant, before the first round."""
         return self._add("write_lodging", whole("developer", developer, _BYTE), *_columns(steps))
 
-    def cancel(self, developer: int) -> Record:
+    def cancel(self, developer: SupportsIndex) -> Record:
         """A developer takes back its offer of the open round."""
         return self._add("write_cancellation", whole("developer", developer, _BYTE))
 
@@ -113,7 +130,7 @@ class Record:
         """The closing of the round."""
         return self._add("write_closing")
 
-    def settle(self, limit: int = 65_536) -> Record:
+    def settle(self, limit: SupportsIndex = 65_536) -> Record:
         """Settling, with its limit on admissible choices."""
         return self._add("write_settling", whole("limit", limit, _WORD))
 
@@ -147,16 +164,24 @@ class Record:
         return library.replies_to(bytes(self)).decode("ascii").splitlines()
 
 
-def _columns(steps: Iterable[Step | tuple[int, int]]) -> tuple[list[int], list[int]]:
+def _columns(steps: Steps) -> tuple[list[int], list[int]]:
     """The steps' prices and their levels."""
-    prices, levels = [], []
+    prices: list[SupportsIndex] = []
+    levels: list[SupportsIndex] = []
     for place, step in enumerate(listed("steps", steps)):
-        pair = (step.price, step.level) if isinstance(step, Step) else step
-        if not isinstance(pair, (tuple, list)) or len(pair) != 2:
-            raise TypeError(f"steps[{place}] must be a Step or a pair of a price and a level")
-        prices.append(pair[0])
-        levels.append(pair[1])
+        price, level = (step.price, step.level) if isinstance(step, Step) else _pair(place, step)
+        prices.append(price)
+        levels.append(level)
     return wholes("prices", prices, _WORD), wholes("levels", levels, _WORD)
+
+
+def _pair(place: int, step: Iterable[SupportsIndex]) -> tuple[SupportsIndex, SupportsIndex]:
+    try:
+        price, level = listed("step", step)
+    except (TypeError, ValueError):
+        wrong = f"steps[{place}] must be a Step or a pair of a price and a level"
+        raise TypeError(wrong) from None
+    return price, level
 
 
 def as_record(record: Record | bytes | bytearray | memoryview) -> Record:
@@ -169,6 +194,11 @@ def replay(record: Record | bytes) -> list[Reply]:
     return as_record(record).replies()
 
 
-def who_can_force(record: Record | bytes, first: int, second: int, prices: Iterable[int]) -> Forced:
+def who_can_force(
+    record: Record | bytes,
+    first: SupportsIndex,
+    second: SupportsIndex,
+    prices: Iterable[SupportsIndex],
+) -> Forced:
     """Who can force the price in the auction that a record leaves. Raises Refused(2), (17)."""
     return library.forced(bytes(as_record(record)), first, second, prices)

@@ -93,7 +93,7 @@ def _reply(fields: _Fields) -> Reply:
         excess -= 2**64 if excess >= 2**63 else 0
         return Closed(kind, number, excess, fields.number(8))
     if number == 0 and kind == 0x06:
-        figures = [fields.number(digits) for digits in (8, 10, 10, 8, 8)]
+        price, demand, total, choices, covering = map(fields.number, (8, 10, 10, 8, 8))
         awards = tuple(
             Award(fields.number(2), fields.number(2), fields.number(8))
             for _ in range(fields.number(2))
@@ -101,7 +101,11 @@ def _reply(fields: _Fields) -> Reply:
         return Settlement(
             kind,
             number,
-            *figures,
+            price,
+            demand,
+            total,
+            choices,
+            covering,
             awards,
             fields.number(8),
             fields.number(8),

@@ -3,16 +3,17 @@
 from __future__ import annotations
 
 import argparse
-import sys
-from collections.abc import Iterable, Sequence
+from collections.abc import Callable, Iterable, Sequence
 from pathlib import Path
 
 from . import figures
-from .auction import Auction, Round, Settled, read_auction
+from .auction import Auction, Round, Settled
 from .calls import KINDS, NAMES, Cancellation, Lodging, Malformed, Offer, Registration, Step
-from .command import Commands, keep, parser_of, status_of
+from .command import STATUS, Commands, add_output, auction_of, keep, parser_of, status_of, write
+from .figures import BROAD, NARROW, Layout
 from .markup import Markup, element, escaped, joined, price, quantity
-from .record import Line, Record
+from .record import Line
+from .show import answer
 
 _STEPS = "steps: US$ per MWh, kWh per day"
 _SHOWN = 200  # characters of a line; a frame has at most 160
@@ -20,6 +21,7 @@ _SHOWN = 200  # characters of a line; a frame has at most 160
 _DESCRIPTION = """\
 Writes an auction as one self-contained HTML page: settings, registrations, rounds, supply curve,
 settlement, refused lines.
+
 """
 
 _STYLE = """
@@ -28,6 +30,14 @@ body { font: 16px/1.45 sans-serif; color: #000; background: #fff; max-width: 56r
 h1 { font-size: 1.5rem; line-height: 1.2; }
 h2 { font-size: 1.2rem; margin-top: 2.2rem; border-bottom: 1px solid #000; }
 h3 { font-size: 1rem; margin-bottom: 0.3rem; }
+.answer { display: flex; flex-wrap: wrap; gap: 0.8rem 2rem; margin: 1rem 0; padding: 0.8rem 1rem;
+  border: 2px solid #000; }
+.answer dt { font-size: 0.9rem; }
+.answer dd { margin: 0; font-size: 1.3rem; font-weight: bold; line-height: 1.2; }
+.answer span { font-size: 0.9rem; font-weight: normal; }
+.trouble { border-left: 0.4rem solid #000; padding-left: 0.6rem; }
+nav ul { display: flex; flex-wrap: wrap; gap: 0.2rem 1.2rem; padding: 0; list-style: none; }
+a { color: #00c; }
 .wide { overflow-x: auto; }
 table { border-collapse: collapse; margin: 0.5rem 0; overflow-wrap: normal; }
 th, td { padding: 0.2rem 0.7rem; border-bottom: 1px solid #bbb; text-align: left;
@@ -40,13 +50,23 @@ thead .number { white-space: normal; }
 .mark { position: absolute; }
 code { font-size: 0.85rem; white-space: pre-wrap; overflow-wrap: anywhere; }
 td code { display: block; min-width: 8rem; }
-figure { margin: 1rem 0; overflow-x: auto; }
-svg { display: block; width: 100%; min-width: 30rem; height: auto; }
+figure { margin: 1rem 0; }
+svg { display: block; width: 100%; height: auto; }
+.narrow { display: none; }
 figcaption { font-size: 0.9rem; }
 .note { font-size: 0.9rem; }
-@media (max-width: 40rem) { body { padding: 0.5rem; } th, td { padding: 0.2rem 0.35rem; } }
+@media screen and (max-width: 40rem) { body { padding: 0.5rem; font-size: 15px; }
+  .broad { display: none; } .narrow { display: block; }
+  table { font-size: 0.9rem; } th, td { padding: 0.2rem 0.25rem; } thead th { font-size: 0.8rem; }
+  td .together { white-space: normal; } td code { min-width: 6rem; }
+  .answer { display: block; } .answer dd { margin-bottom: 0.5rem; }
+  .cards thead { display: none; } .cards, .cards tbody, .cards tr { display: block; }
+  .cards tr { padding: 0.3rem 0; border-bottom: 2px solid #000; }
+  .cards td { display: block; border: 0; padding: 0.05rem 0.3rem; text-align: right; }
+  .cards td::before { content: attr(data-name); float: left; margin-right: 1rem; }
+  .cards td:empty { display: none; } .cards .mark { position: static; } }
 @media print { body { font-size: 10pt; max-width: none; padding: 0; }
-  .wide, figure { overflow-x: visible; } svg { min-width: 0; }
+  .wide { overflow-x: visible; } nav { display: none; }
   figure, tr { break-inside: avoid; } h2, h3 { break-after: avoid; } }
 """
 
@@ -54,39 +74,17 @@ figcaption { font-size: 0.9rem; }
 def add_to(commands: Commands) -> None:
     """Adds the command to the command line."""
     summary = "an auction as one HTML page with figures"
-    parser = parser_of(run, commands, "report", summary, _DESCRIPTION)
-    parser.add_argument(
-        "-o",
-        "--output",
-        required=True,
-        metavar="PAGE",
-        help="the page's file; - for standard output",
-    )
+    parser = parser_of(run, commands, "report", summary, _DESCRIPTION + STATUS)
+    add_output(parser, "PAGE", "the page's file")
 
 
 def run(chosen: argparse.Namespace) -> int:
-    """Writes the page and gives the exit status: 1 where every settling was refused, else 0."""
-    record: Path = chosen.record
-    if chosen.output != "-":
-        keep([record], Path(chosen.output))
-    auction = read_auction(Record.read(record))
-    written = page(auction, record.name).encode("utf-8")
-    if chosen.output == "-":
-        sys.stdout.buffer.write(written)
-        sys.stdout.buffer.flush()
-    else:
-        Path(chosen.output).write_bytes(written)
-    return status_of(auction)
-
-
-def _reasons(auction: Auction) -> list[str]:
-    """Why settling failed, each refusal once, with the first line that got it."""
-    first: dict[int, str] = {}
-    for line in auction.refused:
-        if line.reply.kind == 0x06:
-            words = f"line {line.number}: settling {line.reply.refusal}"
-            first.setdefault(line.reply.number, words)
-    return list(first.values())
+    """Runs the command and gives its exit status."""
+    keep([chosen.record], chosen.output)
+    auction = auction_of(chosen)
+    name = "standard input" if chosen.record == "-" else Path(chosen.record).name
+    write(chosen.output, page(auction, name).encode("utf-8"))
+    return status_of(auction, chosen.record)
 
 
 def page(auction: Auction, name: str) -> str:
@@ -99,16 +97,22 @@ def page(auction: Auction, name: str) -> str:
         element("title", title),
         element("style", Markup(_STYLE)),
     )
+    sections = {
+        "Settings": _settings,
+        "Registrations": _registrations,
+        "Rounds": _rounds,
+        "Withdrawals and supply curve": _curve,
+        "Settlement": _settlements,
+        "Refused and malformed lines": _refused,
+        "Source": _source,
+    }
     body = element(
         "body",
         element("h1", title),
+        _answer(auction),
         _summary(auction),
-        *_section("Settings", _settings(auction)),
-        *_section("Registrations", _registrations(auction)),
-        *_section("Rounds", _rounds(auction)),
-        *_section("Withdrawals and supply curve", _curve(auction)),
-        *_section("Settlement", _settlements(auction)),
-        *_section("Refused and malformed lines", _refused(auction)),
+        _contents(sections),
+        *(part for name in sections for part in _section(name, sections[name](auction))),
     )
     root = element("html", head, "\n", body, xmlns="http://www.w3.org/1999/xhtml", lang="en")
     return f"<!DOCTYPE html>\n{root}\n"
@@ -118,7 +122,16 @@ def page(auction: Auction, name: str) -> str:
 
 
 def _section(heading: str, parts: Iterable[Markup]) -> list[Markup]:
-    return [Markup("\n"), element("h2", heading), *parts]
+    return [Markup("\n"), element("h2", heading, id=_anchor(heading)), *parts]
+
+
+def _anchor(heading: str) -> str:
+    return heading.lower().replace(" ", "-")
+
+
+def _contents(headings: Iterable[str]) -> Markup:
+    links = (element("a", heading, href=f"#{_anchor(heading)}") for heading in headings)
+    return element("nav", element("ul", *(element("li", link) for link in links)))
 
 
 def _said(*words: str) -> Markup:
@@ -129,21 +142,40 @@ def _note(*words: str) -> Markup:
     return element("p", *words, class_="note")
 
 
-def _cell(name: str, content: str, column: str) -> Markup:
+def _cell(name: str, content: str, column: str, **attributes: str) -> Markup:
     """A cell; numbers stand in the columns whose heading starts with #."""
     if column.startswith("#"):
-        return element(name, content, class_="number")
-    return element(name, content)
+        attributes["class_"] = "number"
+    return element(name, content, **attributes)
 
 
 def _table(columns: Sequence[str], rows: Iterable[Sequence[str]]) -> Markup:
-    """A table. A column whose heading starts with # is one of numbers, on the right."""
-    heads = (_cell("th", column.lstrip("#"), column) for column in columns)
+    """A table. A column whose heading starts with # is one of numbers, on the right.
+
+    Where it has more columns than a phone is wide, a row is a card there, with names in it.
+    """
+    names = [column.lstrip("#") for column in columns]
+    heads = (_cell("th", *pair) for pair in zip(names, columns))
+    cards = len(columns) > 5
     body = (
-        joined("\n", element("tr", *(_cell("td", *pair) for pair in zip(row, columns))))
+        joined(
+            "\n",
+            element(
+                "tr",
+                *(
+                    _cell("td", content, column, **({"data_name": name} if cards else {}))
+                    for content, column, name in zip(row, columns, names)
+                ),
+            ),
+        )
         for row in rows
     )
-    table = element("table", element("thead", element("tr", *heads)), element("tbody", *body))
+    table = element(
+        "table",
+        element("thead", element("tr", *heads)),
+        element("tbody", *body),
+        **({"class_": "cards"} if cards else {}),
+    )
     return element("div", table, class_="wide")
 
 
@@ -164,8 +196,11 @@ def _named(rows: Iterable[tuple[str, str, str]]) -> Markup:
     return element("div", element("table", element("tbody", *body)), class_="wide")
 
 
-def _drawn(picture: Markup, caption: str) -> Markup:
-    return element("figure", picture, element("figcaption", caption))
+def _drawn(auction: Auction, draw: Callable[[Auction, Layout], Markup], caption: str) -> Markup:
+    """A figure, drawn for a page and for a phone."""
+    broad = element("div", draw(auction, BROAD), class_="broad")
+    narrow = element("div", draw(auction, NARROW), class_="narrow")
+    return element("figure", broad, narrow, element("figcaption", caption))
 
 
 def _together(parts: Iterable[str]) -> Markup:
@@ -209,6 +244,15 @@ def shown(line: bytes) -> Markup:
 # ---- sections
 
 
+def _answer(auction: Auction) -> Markup:
+    """What came out, in a box."""
+    items = (
+        element("div", element("dt", name), element("dd", figure, " ", element("span", unit)))
+        for name, figure, unit in answer(auction)
+    )
+    return element("dl", *items, class_="answer")
+
+
 def _summary(auction: Auction) -> Markup:
     malformed = sum(isinstance(line.call, Malformed) for line in auction.refused)
     counts = (
@@ -221,7 +265,10 @@ def _summary(auction: Auction) -> Markup:
         "Prices are in US$ per MWh, with a point before the thousandths; quantities in whole kWh "
         "per day, with commas between thousands."
     )
-    return joined(_said(counts), _note(units))
+    said = auction.trouble or "; ".join(auction.faults)
+    trouble = [element("p", f"{said[0].upper()}{said[1:]}.", class_="trouble")] if said else []
+    swapped = (_said("Swapped in: ", element("code", each)) for each in auction.engine.swapped_in)
+    return joined(*trouble, *swapped, _said(counts), _note(units))
 
 
 def _settings(auction: Auction) -> list[Markup]:
@@ -326,8 +373,8 @@ def _rounds(auction: Auction) -> list[Markup]:
     if not auction.traced:
         parts.append(_note(_untraced("whether a round closes the auction")))
     if sum(now.closed is not None for now in auction.rounds) > 1:
-        picture = figures.supply_by_round(auction)
-        parts.append(_drawn(picture, "Supply, demand and excess by round."))
+        caption = "Supply, demand and excess by round; the excess in kWh per day."
+        parts.append(_drawn(auction, figures.supply_by_round, caption))
     return [*parts, *_moves(auction)]
 
 
@@ -336,31 +383,36 @@ def _untraced(what: str) -> str:
 
 
 def _moves(auction: Auction) -> list[Markup]:
-    """The accepted offers and cancellations of each round that has any."""
+    """The accepted offers and cancellations of each round that has any; empty offers in a line."""
     moved = [now for now in auction.rounds if now.moves]
     parts: list[Markup] = []
     for now in moved:
         prices = f"from {price(now.opening)} down to C {price(now.c)}"
         parts.append(element("h3", f"Round {quantity(now.number)}, {prices}"))
-        rows = ([quantity(line.number), *_move(line)] for line in now.moves)
-        parts.append(_table(["#line", "#developer", "call", _STEPS], rows))
+        empty, rows = [], []
+        for line in now.moves:
+            assert isinstance(line.call, (Offer, Cancellation))
+            if isinstance(line.call, Offer) and not line.call.steps:
+                empty.append(f"{line.call.developer} ({quantity(line.number)})")
+            else:
+                steps = _steps(line.call.steps) if isinstance(line.call, Offer) else ""
+                developer, call = str(line.call.developer), NAMES[line.reply.kind]
+                rows.append([quantity(line.number), developer, call, steps])
+        if rows:
+            parts.append(_table(["#line", "#developer", "call", _STEPS], rows))
+        if empty:
+            words = "Offers without steps, by developer (line): "
+            parts.append(element("p", words, _together(empty), class_="empty"))
     if len(moved) < len(auction.rounds):
         where = "in the other rounds" if moved else "in any round"
         parts.append(_said(f"No offer was accepted {where}."))
     return parts
 
 
-def _move(line: Line) -> list[str]:
-    call = line.call
-    assert isinstance(call, (Offer, Cancellation))
-    steps = _steps(call.steps) if isinstance(call, Offer) else ""
-    return [str(call.developer), NAMES[line.reply.kind], steps]
-
-
 def _curve(auction: Auction) -> list[Markup]:
     parts: list[Markup] = []
     if auction.settings is not None:
-        parts.append(_drawn(figures.demand_and_supply(auction), _caption(auction)))
+        parts.append(_drawn(auction, figures.demand_and_supply, _caption(auction)))
     if not auction.traced:
         return [*parts, _said(_untraced("the supply curve"))]
     if not any(now.closed for now in auction.rounds):
@@ -388,10 +440,8 @@ def _caption(auction: Auction) -> str:
 def _settlements(auction: Auction) -> list[Markup]:
     """Each settlement once, with the lines that got it."""
     if not auction.settled:
-        if not auction.settling_failed:
-            return [_said("No settling was asked for.")]
-        reasons = (_said(reason) for reason in _reasons(auction))
-        return [_said("Every settling was refused."), *reasons]
+        failed = auction.settling_failed
+        return [_said("No settling was made." if failed else "No settling was asked for.")]
     alike: dict[str, list[Settled]] = {}
     for settled in auction.settled:
         alike.setdefault(settled.line.reply_text, []).append(settled)
@@ -450,6 +500,10 @@ def _awards(auction: Auction, settled: Settled) -> list[Markup]:
     )
     columns = ["#project", "#developer", "#agent", "kind", "#quantity, kWh per day"]
     return [element("h3", "Award"), _table(columns, rows), *_agent_note(calls)]
+
+
+def _source(auction: Auction) -> list[Markup]:
+    return [_said(f"{name}: ", element("code", value)) for name, value in auction.source.items()]
 
 
 def _refused(auction: Auction) -> list[Markup]:

@@ -30,6 +30,22 @@ _MALFORMED = (
 )
 
 
+class Index:
+    """A whole number of another type, as NumPy has them."""
+
+    def __init__(self, number: int) -> None:
+        self.number = number
+
+    def __index__(self) -> int:
+        return self.number
+
+
+class Flag(Index):
+    """A mark of another type, as NumPy's bools."""
+
+    dtype = bool
+
+
 def processor_seconds() -> float:
     """Processor time that this process and the programs that it ran took.
 

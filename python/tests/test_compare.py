@@ -9,13 +9,14 @@ import random
 import re
 import tempfile
 import unittest
+import xml.etree.ElementTree as ET
 from collections.abc import Iterator
 from dataclasses import dataclass, replace
 from pathlib import Path
 from unittest import mock
 
 from records import ROOT, long_record, processor_seconds, random_record, sample
-from reference_engine import Award, Closed, Record, Reply, Settlement, differences
+from reference_engine import Award, Closed, Record, Reply, Settlement, differences, engine
 from reference_engine.__main__ import main
 from reference_engine.record import Line
 
@@ -309,9 +310,11 @@ class Words(unittest.TestCase):
         self.assertEqual(len(differences(Record(), "\n")), 1)
         self.assertEqual(differences(sample(), joined(self.texts).rstrip("\n")), [])
 
-    def test_bytes_are_no_text(self) -> None:
-        with self.assertRaises(TypeError):
-            differences(sample(), b"0100\n")  # type: ignore[arg-type]
+    def test_wrong_types(self) -> None:
+        for record, replies in ((sample(), b"0100\n"), (sample(), None), (5, ""), ("05\n", "")):
+            with self.assertRaises(TypeError):
+                differences(record, replies)  # type: ignore[arg-type]
+        self.assertEqual(len(differences(bytes(sample()), "")), 11)
 
 
 class _Terminal(io.StringIO):
@@ -389,7 +392,9 @@ class Command(unittest.TestCase):
         self.assertIn("1 difference in 1 of 11 lines\n", output)
         damaged = self.file("damaged", b"\xff\xfe\r\n\x00")
         status, output, _ = self.run_main(damaged, self.file("replies", "FF0C\nFF0C\n"))
-        self.assertEqual((status, output.split(": ")[1]), (0, "no difference, 2 lines\n"))
+        note = f'{damaged}: every line ends with 0D 0A; "fix {damaged} -o NEW" mends it\n'
+        self.assertTrue(output.startswith(note), output)
+        self.assertEqual((status, output.split(": ")[-1]), (0, "no difference, 2 lines\n"))
 
     def test_bad_usage(self) -> None:
         for files in ((), (SAMPLE,), (SAMPLE, SAMPLE_REPLIES, SAMPLE)):
@@ -440,13 +445,17 @@ class Command(unittest.TestCase):
         self.assertIn(f"the output would replace {self.wrong}\n", error)
         self.assertEqual(Path(self.wrong).read_bytes(), before)
 
-    def test_csv_stays_where_a_file_cannot_be_read(self) -> None:
+    def test_goes_on_where_a_file_cannot_be_read(self) -> None:
         path = self.folder / "differences.csv"
         for record in (self.folder, self.folder / "nothing"):
-            path.write_text("older\n")
-            pairs = (SAMPLE, self.wrong, record, SAMPLE_REPLIES)
-            self.assertEqual(self.run_main(*pairs, "--csv", path)[0], 2)
-            self.assertEqual(path.read_text(), "older\n")
+            pairs = (record, SAMPLE_REPLIES, SAMPLE, self.wrong)
+            status, output, error = self.run_main(*pairs, "--csv", path)
+            self.assertEqual((status, error.count("\n")), (2, 1))
+            self.assertIn(f"{record}, {SAMPLE_REPLIES}: not compared: ", error)
+            last = output.splitlines()[-1]
+            self.assertEqual(last, "all: 3 differences in 1 of 2 pairs; 1 not compared")
+            self.assertEqual([row["line"] for row in self.read_back(path.read_text())], ["10", "11", "11"])
+            path.unlink()
 
     def test_csv_to_standard_output(self) -> None:
         status, output, error = self.run_main(SAMPLE, self.wrong, "--csv", "-")
@@ -486,6 +495,116 @@ class Command(unittest.TestCase):
         said = ["line 10 (close): excess is -54, the reference has -55"]
         said += [f"{self.wrong}: 3 differences in 2 of 11 lines"]
         self.assertEqual(seen, [*said * 3, "all: 9 differences in 3 of 3 pairs", ""])
+
+    # ---- whole folders
+
+    def folders(self) -> tuple[Path, Path]:
+        """Records with replies of the same name, of another ending, wrong ones, and none."""
+        records, replies = self.folder / "records", self.folder / "replies"
+        for folder in (records, replies):
+            (folder / "deep").mkdir(parents=True)
+            (folder / ".hidden").write_text("no record")
+        for name in ("same", "one.rec", "deep/two.rec", "wrong.rec", "run.1", "run.2", "alone"):
+            sample().write(records / name)
+        for name in ("same", "one.out", "deep/two.out", "run.1", "run.2", "left.out"):
+            (replies / name).write_text(self.right)
+        (replies / "wrong.out").write_bytes(Path(self.wrong).read_bytes())
+        return records, replies
+
+    def test_folders(self) -> None:
+        records, replies = self.folders()
+        status, output, error = self.run_main("--dir", records, replies, "--jobs", 1)
+        self.assertEqual(status, 2)
+        self.assertEqual(
+            error.splitlines(),
+            [
+                f"{records / 'alone'}: no file of its name in {replies}",
+                f"{replies / 'left.out'}: no record of its name in {records}",
+            ],
+        )
+        lines = output.splitlines()
+        self.assertEqual(lines[-1], "all: 3 differences in 1 of 8 pairs; 2 not compared")
+        names = ["deep/two.out", "one.out", "run.1", "run.2", "same"]
+        said = [f"{replies / name}: no difference, 11 lines" for name in names]
+        self.assertEqual([line for line in lines if "no difference" in line], said)
+        (records / "alone").unlink()
+        (replies / "left.out").unlink()
+        self.assertEqual(self.run_main("--dir", records, replies, "--jobs", 1)[::2], (1, ""))
+        (records / "wrong.rec").unlink()
+        (replies / "wrong.out").unlink()
+        status, output, _ = self.run_main("--dir", records, replies, "--jobs", 1, "--quiet")
+        self.assertEqual((status, output), (0, "all: no difference, 5 pairs\n"))
+
+    def test_several_processes_say_the_same(self) -> None:
+        folders = self.folders()
+        one, two = (self.run_main("--dir", *folders, "--jobs", jobs, "--csv", "-") for jobs in (1, 2))
+        self.assertEqual(one, two)
+        self.assertEqual(len(self.read_back(one[1])), 3)
+
+    def test_several_files_of_a_name(self) -> None:
+        records, replies = self.folders()
+        (replies / "one.txt").write_text(self.right)
+        error = self.run_main("--dir", records, replies, "--jobs", 1)[2]
+        self.assertIn(f"{records / 'one.rec'}: several files of its name in {replies}\n", error)
+        self.assertIn(f"{replies / 'one.txt'}: no record of its name in {records}\n", error)
+
+    def test_quiet(self) -> None:
+        status, output, error = self.run_main("--quiet", SAMPLE, SAMPLE_REPLIES, SAMPLE, self.wrong)
+        said = "line 10 (close): excess is -54, the reference has -55\n"
+        said += f"{self.wrong}: 3 differences in 2 of 11 lines\n"
+        self.assertEqual((status, error), (1, ""))
+        self.assertEqual(output, f"{said}all: 3 differences in 1 of 2 pairs\n")
+
+    def test_bad_folders(self) -> None:
+        nothing = self.folder / "nothing"
+        nothing.mkdir()
+        for folders, said in (
+            ((nothing, nothing), f"{nothing} has no file\n"),
+            ((self.wrong, nothing), f"{self.wrong} is no folder\n"),
+            ((nothing, self.folder / "no"), f"{self.folder / 'no'} is no folder\n"),
+        ):
+            status, output, error = self.run_main("--dir", *folders)
+            self.assertEqual((status, output), (2, ""))
+            self.assertIn(said, error)
+        for wrong in (("--dir", nothing), ("--dir", nothing, nothing, SAMPLE, SAMPLE_REPLIES)):
+            self.assertIn("usage:", self.run_main(*wrong)[2])
+        for jobs in ("0", "-1", "two", "1.5"):
+            error = self.run_main(SAMPLE, SAMPLE_REPLIES, "--jobs", jobs)[2]
+            self.assertIn("usage:", error)
+
+    def test_junit(self) -> None:
+        path = self.folder / "tests.xml"
+        nothing = self.folder / "nothing"
+        pairs = (SAMPLE, SAMPLE_REPLIES, SAMPLE, self.wrong, nothing, SAMPLE_REPLIES, SAMPLE, nothing)
+        self.assertEqual(self.run_main(*pairs, "--junit", path)[0], 2)
+        suite = ET.parse(path).getroot()
+        counts = {name: suite.attrib[name] for name in ("tests", "failures", "errors")}
+        self.assertEqual(counts, {"tests": "4", "failures": "1", "errors": "2"})
+        right, wrong, unread, _ = suite.findall("testcase")
+        self.assertEqual((right.attrib["classname"], len(right)), (str(SAMPLE), 0))
+        (failure,) = wrong
+        found = [each.words() for each in differences(sample(), Path(self.wrong).read_text())]
+        self.assertEqual((failure.tag, failure.attrib["message"]), ("failure", found[0]))
+        self.assertEqual(failure.text.splitlines(), found)
+        self.assertEqual(unread[0].tag, "error")
+        self.assertIn(str(nothing), unread[0].attrib["message"])
+        known = {each.attrib["name"]: each.attrib["value"] for each in suite.iter("property")}
+        self.assertEqual(known["engine version"], engine().version)
+        self.assertEqual(known["library SHA-256"], engine().library_sha256)
+
+    def test_junit_of_many_and_odd_differences(self) -> None:
+        replies = self.file("odd", b"\x00\xff<&]]>\n" * 300)
+        status, output, _ = self.run_main(SAMPLE, replies, "--junit", "-")
+        (failure,) = ET.fromstring(output.encode()).iter("failure")
+        lines = failure.text.splitlines()
+        self.assertEqual((status, len(lines), lines[-1]), (1, 101, "and 200 differences more"))
+
+    def test_outputs_are_two_files(self) -> None:
+        one = self.folder / "one"
+        for path in ("-", one):
+            status, output, error = self.run_main(SAMPLE, self.wrong, "--csv", path, "--junit", path)
+            self.assertEqual((status, output), (2, ""))
+            self.assertIn(f"--csv and --junit are one file, {path}\n", error)
 
     def test_a_long_record_takes_a_second_or_two(self) -> None:
         record = self.folder / "long"

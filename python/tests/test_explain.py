@@ -21,7 +21,7 @@ from records import (
     untraced,
     with_agents,
 )
-from reference_engine import MEANINGS, Record, explain
+from reference_engine import MEANINGS, Record, command
 from reference_engine.__main__ import main
 from reference_engine.auction import Auction, read_auction
 from reference_engine.calls import NAMES
@@ -156,7 +156,9 @@ class ExplainTest(unittest.TestCase):
         ):
             with self.subTest(line=line):
                 words = f"1 malformed line {shown} -> refused by 12: malformed line"
-                self.assertEqual(self.run_on(line + b"\n"), (0, f"{UNITS}\n{words}\n", ""))
+                status, text, err = self.run_on(line + b"\n")
+                self.assertEqual((status, text), (1, f"{UNITS}\n{words}\n"))
+                self.assertTrue(err.startswith("no line was accepted: "), err)
 
     def test_output_is_printable(self) -> None:
         content = bytes(random.Random(1).randrange(256) for _ in range(5_000))
@@ -166,7 +168,7 @@ class ExplainTest(unittest.TestCase):
         self.assertEqual(len(text.splitlines()) - 1, len(read_auction(content).lines))
 
     def test_empty_record(self) -> None:
-        self.assertEqual(self.run_on(b""), (0, "no line\n", ""))
+        self.assertEqual(self.run_on(b""), (1, "no line\n", "the record has no line\n"))
 
     def test_record_that_trace_does_not_read(self) -> None:
         status, text, err = self.run_on(untraced())
@@ -215,12 +217,12 @@ class ExplainTest(unittest.TestCase):
         for _ in range(80):
             record = random_record(choice)
             auction = read_auction(record)
-            with mock.patch.object(explain, "read_auction", return_value=auction) as read:
+            with mock.patch.object(command, "read_auction", return_value=auction) as read:
                 status, text, _ = self.run_on(record)
             read.assert_called_once_with(record)
             self.check_lines(auction, text)
             self.check_figures(auction, text)
-            self.assertEqual(status, 1 if auction.settling_failed else 0)
+            self.assertEqual(status, 1 if auction.trouble else 0)
             settled += len(auction.settled)
             failed += status
         self.assertGreater(settled, 20)
@@ -234,7 +236,7 @@ class ExplainTest(unittest.TestCase):
         self.assertEqual(status, 1)
         self.assertIn("11 settling: at most 0 choices -> refused by 10: choices above the", text)
         self.assertEqual(err, "not settled: line 11 was refused by 10: choices above the limit\n")
-        self.assertIn("line 12 was", self.run_on(unsettled.settle(1))[2])
+        self.assertIn("settled: line 11 was", self.run_on(unsettled.settle(1))[2])
         self.assertEqual(self.run_on(unsettled.settle())[0], 0)
 
     def test_bad_usage_is_2(self) -> None:

@@ -2,15 +2,18 @@
 
 from __future__ import annotations
 
+import importlib
+import importlib.util
 import os
 import subprocess
 import sys
+import threading
 import unittest
 from concurrent.futures import ThreadPoolExecutor
 from pathlib import Path
 from unittest import mock
 
-from records import ROOT, ready, rules_table
+from records import ROOT, Flag, Index, ready, rules_table
 from reference_engine import (
     MEANINGS,
     Forced,
@@ -41,7 +44,7 @@ MARKED = (
     (19_949, 1_002, 19_600),
     (10_000, 1_200, 0),
 )
-WRONG_TYPES = (1.0, "1", True, None, b"1", [1], complex(1))
+WRONG_TYPES = (1.0, "1", True, None, b"1", [1], complex(1), Flag(1))
 OUT_OF_WIDTH = (-1, 2**64, 2**64 + 20_000, 10**30)
 
 
@@ -106,6 +109,19 @@ class Demand(Untouched):
                         said = self.assertRaisesBefore(error, call, *arguments)
                         self.assertTrue(said.startswith(f"{name} "), said)
 
+    def test_whole_numbers_of_other_types(self) -> None:
+        self.assertEqual(demand(*map(Index, (*SETTINGS, 29_999))), 951)
+        self.assertEqual(demand_remainder(*map(Index, (*SETTINGS, 29_999))), 19_900)
+
+    @unittest.skipUnless(importlib.util.find_spec("numpy"), "NumPy is not installed")
+    def test_numpy(self) -> None:
+        numpy = importlib.import_module("numpy")
+        self.assertEqual(demand(*numpy.array([*SETTINGS, 29_999])), 951)
+        steps = numpy.array([[26_000, 100]], dtype=numpy.uint32)
+        self.assertEqual(Record().offer(numpy.int8(2), steps), Record().offer(2, [(26_000, 100)]))
+        for wrong in (numpy.float64(1), numpy.bool_(True), numpy.array([1])):
+            self.assertRaisesBefore(TypeError, demand, *SETTINGS, wrong)
+
     def test_a_number_too_long_to_print(self) -> None:
         said = self.assertRaisesBefore(ValueError, demand, 10**5_000, 1_000, 900, 1_200, 20_000)
         self.assertTrue(said.startswith("ce is a number of 16610 bits, and must be"), said)
@@ -115,6 +131,18 @@ class Demand(Untouched):
         with ThreadPoolExecutor(8) as threads:
             found = list(threads.map(lambda price: demand(*SETTINGS, price), prices))
         self.assertEqual(found, [quantity for _, quantity, _ in MARKED] * 200)
+
+
+    def test_thread_with_a_small_stack(self) -> None:
+        """What python/README.md says of a thread's stack, with as much for Python itself."""
+        content = (ROOT / "crates/replay/stdin").read_bytes()
+        before = threading.stack_size(2 * 128 * 1_024)
+        try:
+            with ThreadPoolExecutor(1) as thread:
+                replies = thread.submit(library.replies_to, content).result()
+        finally:
+            threading.stack_size(before)
+        self.assertEqual(replies, (ROOT / "crates/replay/stdout").read_bytes())
 
 
 class Sealed(Untouched):
@@ -159,6 +187,12 @@ class Sealed(Untouched):
             self.assertTrue(said.startswith("offers"), said)
 
 
+    def test_whole_numbers_of_other_types(self) -> None:
+        offers = [SealedOffer(*map(Index, vars(offer).values())) for offer in self.offers]
+        expected = SealedAwards((0, 500, 300, 250, 60), 20)
+        self.assertEqual(sealed_auction(Index(30_000), Index(1_130), offers), expected)
+
+
 class Forcing(Untouched):
     """Games of tests/c/force_host.c, worked out by hand there."""
 
@@ -179,6 +213,7 @@ class Forcing(Untouched):
     def test_games(self) -> None:
         games = (
             (2, 3, self.three, Forced(16_000, True)),
+            (Index(2), Index(3), map(Index, self.three), Forced(16_000, True)),
             (3, 2, self.three, Forced(18_000, True)),
             (3, 4, self.three, Forced(18_000, True)),
             (4, 3, self.three, Forced(14_000, False)),
@@ -189,8 +224,9 @@ class Forcing(Untouched):
         )
         for first, second, prices, expected in games:
             with self.subTest(first=first, second=second, prices=prices):
-                self.assertEqual(who_can_force(self.between(), first, second, prices), expected)
-                forced = who_can_force(bytes(self.between()), first, second, list(prices))
+                listed = list(prices)
+                self.assertEqual(who_can_force(self.between(), first, second, listed), expected)
+                forced = who_can_force(bytes(self.between()), first, second, iter(listed))
                 self.assertEqual(forced, expected)
 
     def test_refusals(self) -> None:

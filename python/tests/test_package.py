@@ -5,10 +5,13 @@ from __future__ import annotations
 import base64
 import hashlib
 import os
+import re
+import shutil
 import subprocess
 import sys
 import tempfile
 import unittest
+import venv
 import zipfile
 from pathlib import Path
 from unittest import mock
@@ -18,6 +21,41 @@ from records import ROOT
 sys.path.insert(0, str(ROOT / "python"))
 import backend  # noqa: E402  beside the package, not in it
 import reference_engine  # noqa: E402
+
+
+# A user's program with one wrong type.
+PROGRAM = """\
+from reference_engine import Award, Record, Settlement, Step, demand, engine
+
+record = Record().set_up(20_000, 1_000, 900, 1_200, 40_000).offer(2, [(1, 2), Step(1, 2)])
+for reply in record.copy().replies():
+    if isinstance(reply, Settlement):
+        awards: tuple[Award, ...] = reply.awards
+version: str = engine().version
+found: str = demand(1, 2, 3, 4, 5)
+"""
+
+
+class Version(unittest.TestCase):
+    """The header has it, and all else says the same."""
+
+    def test_everywhere_the_headers(self) -> None:
+        header = (ROOT / "include/reference_engine.h").read_text(encoding="utf-8")
+        (version,) = re.findall(r'^#define REFERENCE_ENGINE_VERSION "(.*)"', header, re.MULTILINE)
+        self.assertEqual(reference_engine.__version__, version)
+        self.assertEqual(reference_engine.engine().version, version)
+        cited = (ROOT / "CITATION.cff").read_text(encoding="utf-8")
+        self.assertIn(f"\nversion: {version}\n", cited)
+        self.assertNotIn("license", cited)
+
+    def test_changelog(self) -> None:
+        """A line for each note, the newest first, and the version is the newest landing's."""
+        changes = (ROOT / "CHANGELOG.md").read_text(encoding="utf-8")
+        lines = re.findall(r"^- \[(\d+)\]\((docs/landings/\S+\.md)\): .+\.$", changes, re.MULTILINE)
+        notes = sorted(path.name for path in (ROOT / "docs/landings").glob("[0-9]*.md"))
+        self.assertEqual([Path(note).name for _, note in lines], notes[::-1])
+        self.assertEqual([int(number) for number, _ in lines], [int(each[:2]) for each in notes[::-1]])
+        self.assertEqual(reference_engine.__version__, f"0.{lines[0][0]}.0")
 
 
 class Wheel(unittest.TestCase):
@@ -36,6 +74,9 @@ class Wheel(unittest.TestCase):
         self.assertIn("\nName: reference-engine\n", metadata)
         self.assertIn(f"\nVersion: {reference_engine.__version__}\n", metadata)
         self.assertIn("\nRequires-Python: >=3.10\n", metadata)
+        self.assertTrue(metadata.endswith((ROOT / "python/README.md").read_text(encoding="utf-8")))
+        self.assertIn("\nClassifier: Typing :: Typed\n", metadata)
+        self.assertNotIn("\nLicense", metadata)
         self.assertIn("-".join(self.name.removesuffix(".whl").split("-")[2:]), made)
 
     def test_every_file_is_recorded(self) -> None:
@@ -52,7 +93,37 @@ class Wheel(unittest.TestCase):
             trace = wheel.getinfo("reference_engine/native/trace").external_attr >> 16
             self.assertTrue(trace & 0o100)
         sources = {f"reference_engine/{path.name}" for path in backend._PACKAGE.glob("*.py")}
-        self.assertLess(sources, set(recorded))
+        self.assertLess({*sources, "reference_engine/py.typed"}, set(recorded))
+
+    def test_console_command(self) -> None:
+        with zipfile.ZipFile(self.folder / self.name) as wheel:
+            scripts = wheel.read(f"{self.about}/entry_points.txt").decode()
+        self.assertEqual(
+            scripts, "[console_scripts]\nreference-engine = reference_engine.__main__:main\n"
+        )
+
+    @unittest.skipUnless(shutil.which("mypy"), "mypy is not installed")
+    def test_types_are_found(self) -> None:
+        """mypy --strict of a user's program, with the package installed where it is untouched."""
+        environment = self.folder / "environment"
+        venv.create(environment, symlinks=True)
+        (site,) = environment.glob("lib/python*/site-packages")
+        with zipfile.ZipFile(self.folder / self.name) as wheel:
+            wheel.extractall(site)
+        program = self.folder / "program.py"
+        program.write_text(PROGRAM, encoding="utf-8")
+        where = f"--python-executable={environment / 'bin/python3'}"
+        done = subprocess.run(
+            ["mypy", "--strict", where, "--cache-dir=/dev/null", program.name],
+            cwd=self.folder,
+            capture_output=True,
+            text=True,
+        )
+        if "Traceback" in done.stderr:
+            self.skipTest("this mypy does not run with this Python")
+        said = re.findall(r"^program.py:(\d+): .*: (.*)$", done.stdout, re.MULTILINE)
+        wrong = PROGRAM.splitlines().index("found: str = demand(1, 2, 3, 4, 5)") + 1
+        self.assertEqual([int(line) for line, _ in said], [wrong], done.stdout + done.stderr)
 
     def test_unpacked(self) -> None:
         script = (

@@ -13,6 +13,8 @@ import unittest
 from pathlib import Path
 
 from records import ROOT
+from reference_engine.book import _FIELDS
+from test_main import COMMANDS
 
 BLOCK = re.compile(r"^```(sh|python|text|c)\n(.*?)^```$", re.MULTILINE | re.DOTALL)
 
@@ -85,15 +87,28 @@ class PythonReadme(Shown):
         self.read("python/README.md")
 
     def test_blocks(self) -> None:
-        self.assertPrinted(4)
+        self.assertPrinted(5)
         sample = self.folder / "sample.record"
         self.assertEqual(sample.read_bytes(), (ROOT / "crates/replay/stdin").read_bytes())
         self.assertIn("</svg>", (self.folder / "report.html").read_text(encoding="utf-8"))
+        for name in ("book.record", "fixed.record"):
+            self.assertEqual((self.folder / name).read_bytes(), sample.read_bytes())
+
+    def test_fields_of_books(self) -> None:
+        """The table has every call with its fields, and brackets what may be left out."""
+        rows = re.findall(r"^\| (`[a-z_`, ]+`) \|(.*)\|$", self.page, re.MULTILINE)
+        shown = {}
+        for names, fields in rows:
+            needed, _, other = fields.partition("[")
+            listed = [re.findall(r"`([a-z0-9]+)`", part) for part in (needed, other)]
+            for name in re.findall(r"`([a-z_]+)`", names):
+                shown[name] = {**dict.fromkeys(listed[0], True), **dict.fromkeys(listed[1], False)}
+        self.assertEqual(shown, _FIELDS)
 
     def test_every_command_is_shown(self) -> None:
         commands = "".join(content for language, content in self.blocks if language == "sh")
         shown = re.findall(r"-m reference_engine (\w+)", commands)
-        self.assertEqual(sorted(shown), ["compare", "explain", "report", "table"])
+        self.assertEqual(set(shown), set(COMMANDS))
 
     def test_difference_in_words(self) -> None:
         """The sentence that the page quotes, of a program that has -54."""

@@ -2,6 +2,8 @@
 
 from __future__ import annotations
 
+import copy
+import inspect
 import tempfile
 import unittest
 from pathlib import Path
@@ -9,6 +11,8 @@ from unittest import mock
 
 from records import (
     ROOT,
+    Flag,
+    Index,
     first_lines,
     lodged,
     processor_seconds,
@@ -16,6 +20,7 @@ from records import (
     rules_table,
     with_agents,
 )
+import reference_engine
 from reference_engine import MEANINGS, Award, Closed, Record, Refused, Reply, Settlement, Step
 from reference_engine import library, replay
 from reference_engine.auction import CurvePoint, read_auction
@@ -109,7 +114,7 @@ class Building(unittest.TestCase):
                         with self.assertRaises(ValueError) as raised:
                             add(value)
                         self.assertTrue(str(raised.exception).startswith(f"{name} is {value}"))
-                    for value in (1.0, "1", True):
+                    for value in (1.0, "1", True, Flag(1), None if name != "agent" else b"1"):
                         with self.assertRaises(TypeError) as raised:
                             add(value)
                         self.assertTrue(str(raised.exception).startswith(f"{name} must be"))
@@ -126,6 +131,23 @@ class Building(unittest.TestCase):
             with self.assertRaisesRegex(TypeError, r"^steps\[1\] must be"):
                 record.lodge(1, [(1, 2), step])
         self.assertEqual(record, ready())
+
+    def test_whole_numbers_of_other_types(self) -> None:
+        built = (
+            Record()
+            .set_up(*map(Index, (20_000, 1_000, 900, 1_200, 40_000)))
+            .register(Index(1), Index(1), Index(1), [Index(820)])
+            .register(2, 2, 2, map(Index, (100, 200)), study=Index(400), day=Index(10))
+            .register(2, 3, 2, [200], study=500, day=20)
+            .register(3, 4, 2, [150])
+            .open(Index(25_000))
+            .offer(Index(2), [(Index(26_000), Index(100))])
+            .offer(3, [iter([26_000, 0])])
+            .offer(4, [Step(Index(26_000), Index(0))])
+            .close()
+            .settle(Index(100))
+        )
+        self.assertEqual(bytes(built), SAMPLE)
 
     def test_iterators_are_lists_too(self) -> None:
         record = Record().register(1, 1, 1, iter([4, 5])).offer(1, ((n, 0) for n in (3, 2)))
@@ -150,6 +172,28 @@ class Building(unittest.TestCase):
         self.assertEqual(bytes(record.close()), b"05\n05\n")
 
 
+class WrongTypes(unittest.TestCase):
+    right = {"record": b"", "replies": "", "prices": [1], "offers": [], "levels": [1], "steps": []}
+
+    def test_every_public_function(self) -> None:
+        """One argument that is none, beside others that are right, raises TypeError."""
+        named = [getattr(reference_engine, name) for name in reference_engine.__all__]
+        calls = [each for each in named if inspect.isfunction(each)]
+        record = Record()
+        methods = inspect.getmembers(record, inspect.ismethod)
+        calls += [method for name, method in methods if not name.startswith("_")]
+        tried = 0
+        for call in calls:
+            names = list(inspect.signature(call).parameters)
+            for wrong in names:
+                arguments = {name: self.right.get(name, 1) for name in names} | {wrong: object()}
+                with self.subTest(call=call.__name__, wrong=wrong):
+                    with self.assertRaises(TypeError):
+                        call(**arguments)
+                    tried += 1
+        self.assertEqual((tried, record), (41, Record()))
+
+
 class Files(unittest.TestCase):
     def test_read_and_written(self) -> None:
         with tempfile.TemporaryDirectory() as folder:
@@ -170,6 +214,14 @@ class Files(unittest.TestCase):
                 Record(wrong)
             with self.assertRaisesRegex(TypeError, "a record is made of bytes"):
                 replay(wrong)
+
+    def test_copies_are_independent(self) -> None:
+        for copied in (copy.copy, copy.deepcopy, Record.copy):
+            record = Record(b"05\n")
+            other = copied(record)
+            self.assertEqual(other, record)
+            other.close()
+            self.assertEqual((bytes(record), bytes(other)), (b"05\n", b"05\n05\n"))
 
     def test_a_record_keeps_its_own_bytes(self) -> None:
         content = bytearray(b"05\n")

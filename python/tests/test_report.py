@@ -5,18 +5,31 @@ from __future__ import annotations
 import contextlib
 import io
 import random
+import re
+import shutil
 import subprocess
 import sys
 import tempfile
 import unittest
 import xml.etree.ElementTree as ET
 from pathlib import Path
+from unittest import mock
 
-from records import ROOT, lodged, long_record, processor_seconds, random_record, sample
+from records import (
+    ROOT,
+    first_lines,
+    lodged,
+    long_record,
+    processor_seconds,
+    random_record,
+    sample,
+    with_agents,
+)
 from reference_engine import Record, Settlement
 from reference_engine.__main__ import main
 from reference_engine.auction import read_auction
-from reference_engine.figures import spread, thinned, ticks
+from reference_engine.calls import Offer
+from reference_engine.figures import quantity_labels, spread, thinned, ticks
 from reference_engine.report import page
 
 _HTML = "{http://www.w3.org/1999/xhtml}"
@@ -47,8 +60,14 @@ class Page:
         named = [table for table in tables if table.find(f"{_HTML}thead") is None]
         return {row[0]: row[1] for table in named for row in _cells(table)}
 
-    def pictures(self) -> list[ET.Element]:
-        return list(self.root.iter(_SVG + "svg"))
+    def pictures(self, kind: str = "broad") -> list[ET.Element]:
+        """The pictures for a page, or those for a phone."""
+        return self.root.findall(f".//{_HTML}div[@class='{kind}']/{_SVG}svg")
+
+    def answer(self) -> dict[str, str]:
+        """What stands in the box."""
+        items = self.root.findall(f"{_HTML}body/{_HTML}dl/{_HTML}div")
+        return {"".join(name.itertext()): "".join(figure.itertext()).strip() for name, figure in items}
 
 
 def _cells(table: ET.Element) -> list[list[str]]:
@@ -146,7 +165,7 @@ class SamplePage(unittest.TestCase):
             "closing price: 26.000",
             "opening price A: 40.000",
             "C of round 1: 25.000",
-            "award's total: 1,020",
+            "award's total: 1,020 kWh",
             "price, US$ per MWh",
             "quantity, kWh per day",
         ):
@@ -175,8 +194,56 @@ class SamplePage(unittest.TestCase):
         self.assertEqual(len(list(self.page.root.iter(_HTML + "style"))), 1)
         for each in self.page.root.iter():
             self.assertNotIn(each.tag.split("}")[1], ("script", "link", "img", "iframe"))
-            self.assertFalse({"href", "src"} & set(each.attrib))
+            self.assertNotIn("src", each.attrib)
+            self.assertTrue(each.get("href", "#").startswith("#"))
         self.assertNotIn("url(", self.page.text)
+
+    def test_the_answer_comes_first(self) -> None:
+        self.assertEqual(
+            self.page.answer(),
+            {
+                "Closing price": "26.000 US$ per MWh",
+                "Second price, for new plants": "26.000 US$ per MWh",
+                "Price paid to existing plants": "26.000 US$ per MWh",
+                "Award's total": "1,020 kWh per day",
+                "Rounds": "1",
+                "Participation": "sufficient",
+            },
+        )
+        body = self.page.root.find(f"{_HTML}body")
+        self.assertEqual([each.tag for each in body[:2]], [_HTML + "h1", _HTML + "dl"])
+        marked = Page(lodged(499_999)).answer()
+        self.assertEqual(marked["Second price, for new plants"], "40.000 US$ per MWh, marked short")
+        paid = Page(with_agents(300_001)).answer()
+        self.assertEqual(paid["Participation"], "insufficient")
+        self.assertEqual(paid["Price paid to existing plants"], "22.000 US$ per MWh")
+        self.assertEqual(Page(first_lines(9)).answer(), {"Settlement": "none", "Rounds": "1"})
+
+    def test_contents_lead_to_the_sections(self) -> None:
+        links = self.page.root.findall(f"{_HTML}body/{_HTML}nav//{_HTML}a")
+        headings = self.page.root.findall(f"{_HTML}body/{_HTML}h2")
+        self.assertEqual(
+            [(link.text, link.attrib["href"]) for link in links],
+            [(heading.text, f"#{heading.attrib['id']}") for heading in headings],
+        )
+        named = [each.attrib["id"] for each in self.page.root.iter() if "id" in each.attrib]
+        self.assertEqual(len(set(named)), len(named))
+
+    def test_source(self) -> None:
+        for name, value in self.page.auction.source.items():
+            self.assertIn(f"<p>{name}: <code>{value}</code></p>", self.page.text)
+
+    def test_wide_tables_are_cards_on_a_phone(self) -> None:
+        """Each cell of a table with more than five columns has the name of its column."""
+        seen = 0
+        for table in self.page.root.iter(_HTML + "table"):
+            heads = ["".join(head.itertext()) for head in table.findall(f"{_HTML}thead//{_HTML}th")]
+            for row in table.findall(f"{_HTML}tbody/{_HTML}tr"):
+                names = [cell.get("data-name") for cell in row]
+                self.assertEqual(names, heads if len(heads) > 5 else [None] * len(row))
+                seen += len(heads) > 5
+            self.assertEqual(table.get("class"), "cards" if len(heads) > 5 else None)
+        self.assertEqual(seen, 5)  # four registrations and a round
 
 
 def _middle(box: tuple[float, float, float, float, str]) -> float:
@@ -200,7 +267,7 @@ class RandomPages(unittest.TestCase):
 
     def test_pages_say_what_the_replies_say(self) -> None:
         choice = random.Random(25)
-        settled = several = 0
+        settled = several = self.seen_empty = 0
         for _ in range(60):
             read = Page(random_record(choice))
             auction = read.auction
@@ -212,6 +279,7 @@ class RandomPages(unittest.TestCase):
             self._curve(read)
         self.assertGreater(settled, 10)
         self.assertGreater(several, 10)
+        self.assertGreater(self.seen_empty, 100)
 
     def _rounds(self, read: Page) -> None:
         rows = read.rows("round")
@@ -224,9 +292,22 @@ class RandomPages(unittest.TestCase):
                 self.assertEqual(row[7], "yes" if now.closes_auction else "no")
             else:
                 self.assertEqual(row[7], "not closed")
-        moves = read.rows("line", "developer", "call")
-        lines = [line.number for now in read.auction.rounds for line in now.moves]
-        self.assertEqual([_whole(row[0]) for row in moves], lines)
+        self._moves(read)
+
+    def _moves(self, read: Page) -> None:
+        """Offers with steps and cancellations have a row, offers without any one line a round."""
+        moves = [line for now in read.auction.rounds for line in now.moves]
+        empty = [line for line in moves if isinstance(line.call, Offer) and not line.call.steps]
+        rows = [_whole(row[0]) for row in read.rows("line", "developer", "call")]
+        self.assertEqual(rows, [line.number for line in moves if line not in empty])
+        folded = read.root.findall(f".//{_HTML}p[@class='empty']")
+        self.assertEqual(
+            len(folded), sum(any(line in empty for line in now.moves) for now in read.auction.rounds)
+        )
+        words = " ".join("".join(each.itertext()) for each in folded)
+        found = [(int(pair[0]), int(pair[1])) for pair in re.findall(r"(\d+) \((\d+)\)", words)]
+        self.assertEqual(found, [(line.call.developer, line.number) for line in empty])
+        self.seen_empty += len(empty)
 
     def _refused(self, read: Page) -> None:
         rows = read.rows("line", "text")
@@ -266,10 +347,11 @@ class Figures(unittest.TestCase):
         records += [sample(), long_record(), _many_rounds(2), _many_rounds(16), _many_rounds(300)]
         seen = 0
         for record in records:
-            for picture in Page(record).pictures():
+            read = Page(record)
+            for picture in read.pictures() + read.pictures("narrow"):
                 seen += 1
                 self._check(picture)
-        self.assertGreater(seen, 60)
+        self.assertGreater(seen, 120)
 
     def _check(self, picture: ET.Element) -> None:
         width, height = map(float, picture.attrib["viewBox"].split()[2:])
@@ -288,11 +370,31 @@ class Figures(unittest.TestCase):
         self.assertEqual(len(read.pictures()), 2)
         for now in read.auction.rounds:
             self.assertIn(f"{now.excess:,}", words)
+        self.assertLess({"1", "2", "3", "4"}, {box[4] for box in _boxes(read.pictures("narrow")[0])})
+
+    def test_long_quantities_in_gwh(self) -> None:
+        words = {box[4] for box in _boxes(Page(_many_rounds(4)).pictures()[0])}
+        self.assertLess({"quantity, GWh per day, at C of each round", "32,000"}, words)
+        words = {box[4] for box in _boxes(Page(_many_rounds(4)).pictures()[1])}
+        self.assertLess({"quantity, GWh per day", "20,000"}, words)
+        for marks, labels, unit in (
+            ([180_000_000, 185_000_000], ["180", "185"], "GWh"),
+            ([18_000_000, 18_500_000], ["18.0", "18.5"], "GWh"),
+            ([18_001_000, 18_002_000], ["18.001", "18.002"], "GWh"),
+            ([18_000_100, 18_000_200], ["18,000,100", "18,000,200"], "kWh"),
+            ([8_000_000, 9_000_000], ["8,000,000", "9,000,000"], "kWh"),
+            ([], [], "kWh"),
+        ):
+            self.assertEqual(quantity_labels(marks), (labels, f"{unit} per day"))
 
     def test_second_price_is_marked_where_it_differs(self) -> None:
         read = Page(lodged(550_000))
         words = {box[4] for box in _boxes(read.pictures()[1])}
         self.assertLessEqual({"closing price: 29.990", "second price: 30.000"}, words)
+        self.assertEqual(words & {"closing price", "second price"}, {"closing price", "second price"})
+        phone = {box[4] for box in _boxes(read.pictures("narrow")[1])}
+        self.assertLessEqual({"closing price: 29.990", "second price: 30.000"}, phone)
+        self.assertNotIn("closing price", phone)
         rows = read.rows("line", "developer", "steps: US$ per MWh, kWh per day")
         self.assertEqual(rows, [["5", "1", "at 30.000 down to 300,000; at 29.990 down to 0"]])
 
@@ -405,14 +507,17 @@ class Command(unittest.TestCase):
         self.assertEqual(written.decode("utf-8"), Page(sample(), "record").text)
 
     def test_no_settling_asked_for(self) -> None:
-        self.assertEqual(self.report(b""), (0, ""))
-        self.assertEqual(self.report(b"0g\n"), (0, ""))
+        self.assertEqual(self.report(bytes(first_lines(10))), (0, ""))
+        self.assertEqual(self.report(b""), (1, "the record has no line\n"))
+        said = "no line was accepted: line 1 was refused by 12: malformed line\n"
+        self.assertEqual(self.report(b"0g\n"), (1, said))
 
     def test_settling_refused(self) -> None:
         status, errors = self.report(b"0600000001\n0600000001\n")
         self.assertEqual(status, 1)
-        self.assertEqual(errors, "not settled: line 2 was refused by 2: call not accepted in this phase\n")
-        self.assertIn("Every settling was refused.", (self.folder / "page.html").read_text())
+        refused = "line 1 was refused by 2: call not accepted in this phase"
+        self.assertEqual(errors, f"no line was accepted: {refused}\n")
+        self.assertIn("No settling was made.", (self.folder / "page.html").read_text())
 
     def test_refused_once_then_settled(self) -> None:
         self.assertEqual(self.report(b"0600000001\n" + bytes(sample()))[0], 0)
@@ -439,6 +544,62 @@ class Command(unittest.TestCase):
         )
         self.assertEqual((done.returncode, done.stderr), (0, b""))
         self.assertEqual(done.stdout.decode("utf-8"), Page(sample(), "stdin").text)
+
+
+class FigureCommand(unittest.TestCase):
+    """The report's figures as files."""
+
+    def setUp(self) -> None:
+        folder = tempfile.TemporaryDirectory()
+        self.addCleanup(folder.cleanup)
+        self.folder = Path(folder.name)
+
+    def figure(self, record: Record, which: str, output: str) -> tuple[int, str]:
+        """Exit status, and what stands on standard error."""
+        record.write(self.folder / "record")
+        command = ["figure", str(self.folder / "record"), "--which", which]
+        with contextlib.redirect_stderr(io.StringIO()) as err:
+            status = main([*command, "-o", str(self.folder / output)])
+        return status, err.getvalue()
+
+    def test_svg(self) -> None:
+        for place, which in enumerate(("rounds", "curve")):
+            self.assertEqual(self.figure(lodged(550_000), which, "figure.svg"), (0, ""))
+            picture = ET.parse(self.folder / "figure.svg").getroot()
+            *parts, source = picture
+            shown = Page(lodged(550_000)).pictures()[place]
+            self.assertEqual([ET.tostring(part) for part in parts], [ET.tostring(part) for part in shown])
+            self.assertEqual(source.tag, _SVG + "metadata")
+            for name, value in read_auction(lodged(550_000)).source.items():
+                self.assertIn(f"{name}: {value}", source.text)
+
+    @unittest.skipUnless(shutil.which("rsvg-convert"), "rsvg-convert is not installed")
+    def test_pdf(self) -> None:
+        self.assertEqual(self.figure(sample(), "curve", "figure.pdf"), (0, ""))
+        self.assertTrue((self.folder / "figure.pdf").read_bytes().startswith(b"%PDF-"))
+
+    def test_no_converter(self) -> None:
+        with mock.patch.object(shutil, "which", return_value=None):
+            status, err = self.figure(sample(), "curve", "figure.pdf")
+        self.assertEqual((status, err.count("\n")), (2, 1))
+        self.assertIn("no converter to PDF is installed (rsvg-convert and inkscape are known)", err)
+        self.assertFalse((self.folder / "figure.pdf").exists())
+
+    def test_nothing_to_draw(self) -> None:
+        for record, which, said in (
+            (Record().close(), "curve", "there is no curve: no set-up was accepted"),
+            (sample(), "rounds", "there is no figure of rounds: fewer than two were closed"),
+        ):
+            status, err = self.figure(record, which, "figure.svg")
+            self.assertEqual((status, err), (2, f"python3 -m reference_engine: {said}\n"))
+            self.assertFalse((self.folder / "figure.svg").exists())
+
+    def test_other_endings_and_the_record(self) -> None:
+        for output, said in (("figure.png", "neither .svg nor .pdf"), ("record", "neither .svg nor")):
+            status, err = self.figure(sample(), "curve", output)
+            self.assertEqual(status, 2)
+            self.assertIn(said, err)
+        self.assertEqual((self.folder / "record").read_bytes(), bytes(sample()))
 
 
 if __name__ == "__main__":

@@ -4,9 +4,14 @@ from __future__ import annotations
 
 import contextlib
 import csv
+import hashlib
+import importlib
+import importlib.util
 import io
 import random
 import re
+import shutil
+import subprocess
 import tempfile
 import unittest
 from pathlib import Path
@@ -24,7 +29,7 @@ from records import (
     untraced,
     with_agents,
 )
-from reference_engine import Record, table
+from reference_engine import Record, __version__, command
 from reference_engine.__main__ import main
 from reference_engine.auction import Auction, read_auction
 from reference_engine.table import latex_escaped
@@ -53,8 +58,8 @@ HEADINGS = {
 
 def cell_in(text: str) -> Cell:
     """A number, words, or None for an empty cell."""
-    if re.fullmatch(r"-?[0-9]+", text):
-        return int(text)
+    if re.fullmatch(r"-?[0-9]{1,3}(,[0-9]{3})*|-?[0-9]+", text):
+        return int(text.replace(",", ""))
     return text or None
 
 
@@ -68,28 +73,32 @@ def tables_in_csv(text: str) -> Tables:
 
 def tables_in_latex(text: str) -> Tables:
     """The heading's rows joined by column, a unit set between brackets as in the other formats."""
-    tables: Tables = {}
-    for name, columns, content in tabulars_in(text):
+    comments, begin, rest = text.partition("\\begingroup")
+    source = [line.removeprefix("% ").split(": ", 1) for line in comments.splitlines()]
+    tables: Tables = {"source": [["item", "value"], *map(list, source)]}
+    for name, kind, columns, content in tabulars_in(begin + rest):
         heading, _, body = content.partition("\\hline\n")
         names, *units = latex_rows(heading)
         headings: list[Cell] = []
         for first, *unit in zip(names, *units):
             words = " ".join(word for word in unit if word)
             headings.append(f"{first} ({words})" if words else first)
+        if kind == "longtable":
+            assert body.startswith("\\endhead\n\\hline\n\\endfoot\n")
+            body = body.partition("\\endfoot\n")[2]
         rows = [[cell_in(cell) for cell in row] for row in latex_rows(body)]
         assert all(len(row) == len(columns) for row in [headings, *rows])
-        assert len(rows) <= 32
-        joined = tables.setdefault(name, [headings])
-        assert joined[0] == headings and (len(joined) - 1) % 32 == 0
-        joined += rows
+        assert (kind == "longtable") == (len(rows) > 32)
+        tables[name] = [headings, *rows]
     return tables
 
 
-def tabulars_in(text: str) -> list[tuple[str, str, str]]:
-    """Of each tabular the name of its table, its columns' alignment, and what it holds."""
+def tabulars_in(text: str) -> list[tuple[str, str, str, str]]:
+    """Of each tabular the name of its table, its kind, its columns' alignment, what it holds."""
     return re.findall(
-        r"^% (\w+)\n\\begin\{tabular\}\{@\{\}([lr]+)@\{\}\}\n\\hline\n"
-        r"((?:.*\n)*?)\\end\{tabular\}\n",
+        r"^% (\w+)(?:; needs \\usepackage\{longtable\})?\n"
+        r"\\begin\{(\w+)\}(?:\[l\])?\{@\{\}([lr]+)@\{\}\}\n\\hline\n"
+        r"((?:.*\n)*?)\\end\{\2\}\n",
         text,
         re.MULTILINE,
     )
@@ -106,9 +115,9 @@ def latex_rows(text: str) -> list[list[str]]:
 
 def latex_read(cell: str) -> str:
     """A cell as it is read: a negative number stands in math, and no other."""
-    found = re.fullmatch(r"\$(-[0-9]+)\$", cell)
+    found = re.fullmatch(r"\$(-[0-9]{1,3}(\{,\}[0-9]{3})*)\$", cell)
     assert found or not cell.startswith("-"), cell
-    return found[1] if found else cell.replace(r"\$", "$")
+    return found[1].replace("{,}", ",") if found else cell.replace(r"\$", "$")
 
 
 def tables_in_markdown(text: str) -> Tables:
@@ -129,6 +138,7 @@ READERS = {"csv": tables_in_csv, "latex": tables_in_latex, "markdown": tables_in
 def tables_of(auction: Auction) -> Tables:
     """What the tables must say, from the auction's own figures."""
     tables: Tables = {name: [list(headings)] for name, headings in HEADINGS.items()}
+    tables["source"] = [["item", "value"], *map(list, auction.source.items())]
     for each in auction.rounds:
         figures = [each.supply, each.demand, each.remainder, each.excess]
         tables["rounds"].append([each.number, each.opening, each.c, *figures])
@@ -184,11 +194,11 @@ class TableTest(unittest.TestCase):
         """Each format reads back to the auction's numbers; the auction is read but once."""
         auction = read_auction(record)
         expected = tables_of(auction)
-        with mock.patch.object(table, "read_auction", return_value=auction) as read:
+        with mock.patch.object(command, "read_auction", return_value=auction) as read:
             for name, reader in READERS.items():
                 status, text, _ = self.run_on(record, "--format", name)
                 self.assertEqual(reader(text), expected, name)
-                self.assertEqual(status, 1 if auction.settling_failed else 0)
+                self.assertEqual(status, 1 if auction.trouble else 0)
         self.assertEqual(read.mock_calls, [mock.call(record)] * len(READERS))
         return expected
 
@@ -208,8 +218,9 @@ class TableTest(unittest.TestCase):
         choice = random.Random(25)
         rows = dict.fromkeys(HEADINGS, 0)
         for _ in range(60):
-            for name, table in self.check_read_back(random_record(choice)).items():
-                rows[name] += len(table) - 1
+            tables = self.check_read_back(random_record(choice))
+            for name in rows:
+                rows[name] += len(tables[name]) - 1
         for name, count in rows.items():
             self.assertGreater(count, 60, f"the random records have few rows of {name}")
 
@@ -231,7 +242,9 @@ class TableTest(unittest.TestCase):
     def test_odd_records(self) -> None:
         for content in (b"", b"\n", b"0g", b"\xff\x00&%|\\\r\n", b"0600000064", b"A" * 70_000):
             tables = self.check_read_back(Record(content))
-            self.assertEqual([len(table) for table in tables.values()], [1, 1, 1, 1])
+            self.assertEqual([len(tables[name]) for name in HEADINGS], [1, 1, 1, 1])
+            content_sha256 = hashlib.sha256(content).hexdigest()
+            self.assertEqual(tables["source"][3], ["record SHA-256", content_sha256])
 
     # ---- the formats
 
@@ -243,7 +256,7 @@ class TableTest(unittest.TestCase):
     def test_markdown_columns_are_aligned(self) -> None:
         text = self.run_on(random_record(random.Random(3)))[1]
         blocks = [block for block in text.split("\n\n") if block.startswith("|")]
-        self.assertEqual(len(blocks), 4)
+        self.assertEqual(len(blocks), 5)
         for block in blocks:
             bars = {
                 tuple(found.start() for found in re.finditer(r"\|", line))
@@ -265,32 +278,106 @@ class TableTest(unittest.TestCase):
         layout = {"footnotesize", "setlength", "renewcommand", "arraystretch", "parindent"}
         layout |= {"tabcolsep", "bigskip", "par", "begingroup", "endgroup"}
         self.assertEqual(commands, {"begin", "end", "hline", *layout})
-        self.assertTrue(text.startswith("\\begingroup"))
+        self.assertEqual(text.splitlines()[0], f"% engine version: {__version__}")
         self.assertTrue(text.endswith("\\end{tabular}\n\\par\\endgroup\n"))
 
-    def test_latex_tables_go_on_behind_32_rows(self) -> None:
-        for rows, lengths in ((32, [32]), (33, [32, 1]), (64, [32, 32]), (65, [32, 32, 1])):
-            record = ready().register(1, 1, 1, [1_200_000])
-            for c in range(39_999, 39_999 - rows, -1):
-                record.open(c).close()
-            self.check_read_back(record)
-            text = self.run_on(record, "--format", "latex", "--part", "rounds")[1]
-            bodies = [content.partition("\\hline\n")[2] for *_, content in tabulars_in(text)]
-            self.assertEqual([len(latex_rows(body)) for body in bodies], lengths)
-            self.assertEqual(text.count("\\end{tabular}\n\n\\bigskip\n"), len(lengths) - 1)
+    @staticmethod
+    def rounds(number: int) -> Record:
+        record = ready().register(1, 1, 1, [1_200_000])
+        for c in range(39_999, 39_999 - number, -1):
+            record.open(c).close()
+        return record
+
+    def test_long_tables_in_latex_break_over_pages(self) -> None:
+        for number, kind in ((32, "tabular"), (33, "longtable")):
+            tables = self.check_read_back(self.rounds(number))
+            self.assertEqual(len(tables["rounds"]), number + 1)
+            text = self.run_on(self.rounds(number), "--format", "latex", "--part", "rounds")[1]
+            self.assertEqual([each[1] for each in tabulars_in(text)], [kind])
+
+    @unittest.skipUnless(shutil.which("pdflatex"), "LaTeX is not installed")
+    def test_latex_is_set(self) -> None:
+        folder = self.path.parent
+        self.run_on(self.rounds(120), "--format", "latex", "-o", str(folder / "tables.tex"))
+        (folder / "paper.tex").write_text(
+            "\\documentclass{article}\\usepackage{longtable}\\begin{document}\n"
+            "\\input{tables}\n\\end{document}\n"
+        )
+        command = ["pdflatex", "-interaction=nonstopmode", "-halt-on-error", "paper.tex"]
+        done = subprocess.run(command, cwd=folder, capture_output=True, text=True)
+        self.assertEqual(done.returncode, 0, done.stdout)
+        self.assertRegex(done.stdout, r"Output written on paper.pdf \([3-9] pages")
+        self.assertNotIn("Overfull", done.stdout)
+
+    def test_thousands_separators(self) -> None:
+        for name, shown in (("markdown", " 1,170 |"), ("latex", "& 1,170 &"), ("csv", ",1170,")):
+            self.assertIn(shown, self.run_on(sample(), "--format", name)[1])
+        text = self.run_on(lodged(550_000), "--format", "latex", "--part", "rounds")[1]
+        self.assertIn("& 1,250,000 & 950,000 & 0 & 300,000 ", text)
+
+    def test_units(self) -> None:
+        """The point is moved, and every digit stays."""
+        for chosen, decimals, plain in (("kWh", 0, "kwh"), ("MWh", 3, "mwh"), ("GWh", 6, "gwh")):
+            for format_, cell in (("csv", ""), ("markdown", ",")):
+                options = ("--quantities", chosen, "--prices", "dollars", "--format", format_)
+                text = self.run_on(lodged(550_000), *options, "--part", "award")[1]
+                digits = f"{1_250_000 / 10**decimals:{cell}.{decimals}f}"
+                self.assertRegex(text, rf"total \({chosen} per day\)[ |,]+{digits}\b")
+                self.assertRegex(text, r"closing price \(US\$ per MWh\)[ |,]+29.990\b")
+            folder = self.path.with_name(plain)
+            self.run_on(sample(), "--quantities", chosen, "--split", str(folder))
+            heads, row = csv.reader((folder / "rounds.csv").read_text().splitlines())
+            excess = -55 / 10**decimals
+            self.assertEqual((heads[-1], row[-1]), (f"excess_{plain}", f"{excess:.{decimals}f}"))
+
+    def test_one_table_a_file(self) -> None:
+        folder = self.path.with_name("tables")
+        self.assertEqual(self.run_on(sample(), "--split", str(folder)), (0, "", ""))
+        read = {path.stem: path.read_text() for path in folder.iterdir()}
+        self.assertEqual(sorted(read), ["award", "curve", "rounds", "settlement", "source"])
+        self.assertEqual(read["curve"], "price_thousandths,supply_before_kwh,supply_after_kwh\n26000,1170,920\n")
+        (rounds,) = csv.DictReader(io.StringIO(read["rounds"]))
+        self.assertEqual((rounds["opening_price_thousandths"], rounds["excess_kwh"]), ("40000", "-55"))
+        (figures,) = csv.DictReader(io.StringIO(read["settlement"]))
+        self.assertEqual((figures["total_kwh"], figures["second_price_is_short"]), ("1020", "false"))
+        (source,) = csv.DictReader(io.StringIO(read["source"]))
+        expected = hashlib.sha256(bytes(sample())).hexdigest()
+        self.assertEqual((source["engine_version"], source["record_sha256"]), (__version__, expected))
+        for text in read.values():
+            self.assertRegex(text.splitlines()[0], r"^[a-z0-9_]+(,[a-z0-9_]+)*$")
+
+    @unittest.skipUnless(importlib.util.find_spec("pandas"), "pandas is not installed")
+    def test_pandas(self) -> None:
+        pandas = importlib.import_module("pandas")
+        folder = self.path.with_name("tables")
+        self.run_on(lodged(550_000).open(29_980), "--split", str(folder))
+        figures = pandas.read_csv(folder / "settlement.csv")
+        self.assertEqual(str(figures["participation_is_insufficient"].dtype), "bool")
+        self.assertEqual(pandas.read_csv(folder / "rounds.csv")["excess_kwh"].sum(), 299_950)
+
+    def test_split_goes_with_no_other_output(self) -> None:
+        folder = self.path.with_name("tables")
+        for options in (("-o", "x"), ("--format", "latex")):
+            status, out, err = self.run_on(sample(), "--split", str(folder), *options)
+            self.assertEqual((status, out), (2, ""))
+            self.assertIn("--split writes csv files to its folder", err)
+            self.assertFalse(folder.exists())
+        record = folder / "rounds.csv"
+        folder.mkdir()
+        sample().write(record)
+        with contextlib.redirect_stderr(io.StringIO()) as err:
+            self.assertEqual(main(["table", str(record), "--split", str(folder)]), 2)
+        self.assertIn(f"the output would replace {record}\n", err.getvalue())
+        self.assertEqual([*folder.iterdir()], [record])
 
     def test_parts(self) -> None:
         parts = {"rounds": ["rounds"], "curve": ["curve"], "award": ["award", "settlement"]}
+        parts["settlement"] = ["settlement"]
         expected = tables_of(read_auction(sample()))
         for part, names in parts.items():
             for name, reader in READERS.items():
                 tables = reader(self.run_on(sample(), "--part", part, "--format", name)[1])
-                self.assertEqual(tables, {each: expected[each] for each in names})
-
-    def test_single_part_reads_by_dict_reader(self) -> None:
-        text = self.run_on(sample(), "--part", "curve", "--format", "csv")[1]
-        rows = list(csv.DictReader(io.StringIO(text)))
-        self.assertEqual([row[f"supply before {QUANTITY}"] for row in rows], ["1170"])
+                self.assertEqual(tables, {each: expected[each] for each in (*names, "source")})
 
     # ---- the command
 
