@@ -70,7 +70,7 @@ use Rattle.statement.specs.calls_of_c.DevelopersPromised.{ended, added, showsAt
 use Rattle.statement.specs.calls_of_c.Sessions.{SessionsMeet, SessionsAsk, SessionsReturn, SessionsDetermined, SessionsExported}
 use Rattle.statement.specs.EngineCorrect.{EngineCorrect}
 
--- ---- calls made, as their own contracts have it: given this session, the kind of a seat and its number, and what was lent, `old`, the call gave r and
+-- ---- calls made, as their own contracts have it: given a session, the kind of a seat and its number, and what was lent, `old`, the call gave r and
 -- left `new`
 
 pub data Replays : (session old new : List ℕ) → ℕ → Type 0 where

@@ -13,7 +13,7 @@ use Rattle.rules_auction.specs.Ledger.{Call, Ledger}
 use Rattle.rules_auction.specs.Rounds.{ledger}
 use Rattle.rules_replies.specs.record_calls.Calls.{callsIn}
 use Rattle.rules_seats.specs.figures.Figures.{recordHall, recordState}
-use Rattle.record_figures.specs.Told.{TellsState}
+use Rattle.record_figures.specs.Told.{TellsState, TellsPreview, TellsCurve, TellsSettlement}
 use Rattle.statement.specs.calls_of_c.FiguresReturned.{StateReturned, state-returned, state-determined, PreviewReturned, preview-returned}
 use Rattle.statement.specs.calls_of_c.FiguresReturned.{preview-determined, CurveReturned, curve-returned, curve-determined}
 use Rattle.statement.specs.calls_of_c.SettlementReturned.{SettlementReturned, settlement-returned, settlement-determined}
@@ -87,6 +87,16 @@ state-told : (bytes old new : List ℕ) (r : ℕ) → TellsState bytes old new r
 unfolding recordState recordHall
 state-told bytes old new r w = state-returned (callsIn bytes) old new r (w .number) (w .lent)
 
+preview-told : (l : Ledger) (old new : List ℕ) (r : ℕ) → TellsPreview l old new r → PreviewReturned l old new r
+preview-told l old new r w = preview-returned l old new r (w .number) (w .lent)
+
+curve-told : (l : Ledger) (old new : List ℕ) (r : ℕ) → TellsCurve l old new r → CurveReturned l old new r
+curve-told l old new r w = curve-returned l old new r (w .number) (w .lent)
+
+settlement-told : (cs : List Call) (limit : ℕ) (oldF newF oldA newA : List ℕ) (r : ℕ) → TellsSettlement (ledger cs) limit oldF newF oldA newA r →
+    SettlementReturned (ledger cs) limit oldF newF oldA newA r
+settlement-told cs limit oldF newF oldA newA r w = settlement-returned cs limit oldF newF oldA newA r (w .number) (w .lent) (w .awards)
+
 figures-meet : {M : Type 1} → FiguresMeet M
 figures-meet = record {
   record-state = state-met.met;
@@ -106,9 +116,9 @@ figures-ask = record {
 figures-return : FiguresReturn
 figures-return = record {
   record-state = λ κs x r y w. state-told _ _ _ r w;
-  record-preview = λ κs x r y w. preview-returned _ _ _ r (w .number) (w .lent);
-  record-curve = λ κs x r y w. curve-returned _ _ _ r (w .number) (w .lent);
-  record-settlement = λ κs x r y w. settlement-returned (callsIn (now (x .0))) _ _ _ _ _ r (w .number) (w .lent) (w .awards);
+  record-preview = λ κs x r y w. preview-told _ _ _ r w;
+  record-curve = λ κs x r y w. curve-told _ _ _ r w;
+  record-settlement = λ κs x r y w. settlement-told (callsIn (now (x .0))) _ _ _ _ _ r w;
 }
 
 pub record-figures-exported : {M : Type 1} → RecordFiguresExported M

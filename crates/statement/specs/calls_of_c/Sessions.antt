@@ -9,6 +9,9 @@ use denote.Ref.{now}
 use denote.Triple.Clauses.{AtExit}
 use borrow.Fn.World.{ArgsD}
 use borrow.Fn.Kinds.{endedOf}
+use Rattle.record_figures.specs.Told.{TellsReading, TellsPreviewThrough, TellsCurveThrough, TellsSettlementThrough}
+use Rattle.host.specs.Forcing.{TellsForcingThrough}
+use Rattle.host.specs.Writing.{HostWritesSeat}
 use Rattle.statement.specs.calls_of_c.SeatedReplies.{SeatedReplied, SessionReplayed, session-replayed, seated-text-determined, session-replay-determined}
 use Rattle.statement.specs.calls_of_c.SeatRights.{WhoMay, who-may}
 use Rattle.statement.specs.calls_of_c.SeatedFigures.{PreviewThrough, CurveThrough, SettlementThrough, ForcingThrough, preview-through, curve-through}
@@ -174,16 +177,37 @@ sessions-ask = record {
   write-seat = λ κs x. (tt, tt);
 }
 
+module _ (session : List ℕ) (kind number : ℕ) where
+  reading-told : (old new : List ℕ) (r : ℕ) → TellsReading session kind number old new r → ReadingReturned session kind number old new r
+  reading-told old new r w = reading-returned session kind number old new r (w .number) (w .lent)
+
+  preview-told : (old new : List ℕ) (r : ℕ) → TellsPreviewThrough session kind number old new r → PreviewThrough session kind number old new r
+  preview-told old new r w = preview-through session kind number old new r (w .number, w .lent)
+
+  curve-told : (old new : List ℕ) (r : ℕ) → TellsCurveThrough session kind number old new r → CurveThrough session kind number old new r
+  curve-told old new r w = curve-through session kind number old new r (w .number, w .lent)
+
+  settlement-told : (limit : ℕ) (oldF newF oldA newA : List ℕ) (r : ℕ) → TellsSettlementThrough session kind number limit oldF newF oldA newA r →
+      SettlementThrough session kind number limit oldF newF oldA newA r
+  settlement-told limit oldF newF oldA newA r w = settlement-through session kind number limit oldF newF oldA newA r (w .number) (w .lent) (w .awards)
+
+  forcing-told : (m n : ℕ) (ps old new : List ℕ) (r : ℕ) → TellsForcingThrough session kind number m n ps old new r →
+      ForcingThrough session kind number m n ps old new r
+  forcing-told m n ps old new r w = forcing-through session kind number m n ps old new r (w .outcome) (w .buffer)
+
+seat-told : (kind number : ℕ) (old new : List ℕ) (r : ℕ) → HostWritesSeat kind number old new r → SeatReturned kind number old new r
+seat-told kind number old new r w = seat-returned kind number old new r (w .bytes) (w .buffer)
+
 sessions-return : SessionsReturn
 sessions-return = record {
   session-replay = λ κs x r y q. session-replayed _ _ _ r (q .0) (q .1);
-  session-reading = λ κs x r y w. reading-returned _ _ _ _ _ r (w .number) (w .lent);
-  session-preview = λ κs x r y w. preview-through _ _ _ _ _ r (w .number, w .lent);
-  session-curve = λ κs x r y w. curve-through _ _ _ _ _ r (w .number, w .lent);
-  session-settlement = λ κs x r y w. settlement-through _ _ _ _ _ _ _ _ r (w .number) (w .lent) (w .awards);
-  session-forcing = λ κs x r y w. forcing-through _ _ _ _ _ _ _ _ r (w .outcome) (w .buffer);
+  session-reading = λ κs x r y w. reading-told _ _ _ _ _ r w;
+  session-preview = λ κs x r y w. preview-told _ _ _ _ _ r w;
+  session-curve = λ κs x r y w. curve-told _ _ _ _ _ r w;
+  session-settlement = λ κs x r y w. settlement-told _ _ _ _ _ _ _ _ r w;
+  session-forcing = λ κs x r y w. forcing-told _ _ _ _ _ _ _ _ r w;
   session-record = λ κs x r y q. session-recorded _ _ _ r (q .0) (q .1);
-  write-seat = λ κs x r y w. seat-returned _ _ _ _ r (w .bytes) (w .buffer);
+  write-seat = λ κs x r y w. seat-told _ _ _ _ r w;
 }
 
 sessions-determined : SessionsDetermined
