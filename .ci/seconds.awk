@@ -1,24 +1,25 @@
-# Sums up the log of a gate, each line of which stands behind the second at which it came: what rt says of proofs and must-fail
-# edits by crate, then the parts by the clock.
+# Sums up the log of a gate, each line of which stands behind the second at which it came: what rt says of proofs, and .ci/refusals of
+# edits, by crate, then the parts by the clock.
 
 function number(text) { gsub(/[^0-9]/, "", text); return text + 0 }
 
 function clock(seconds, part) { parts = parts sprintf("%6d  %s\n", seconds, part) }
 
-$2 == "begins" { began = $1; tried = 0 }
+$2 == "begins" { began = $1 }
 
 # rt: NAME proved (N s)
-$2 == "rt:" && $4 == "proved" && $NF == "s)" { proof[$3] = number($(NF - 1)); proved = $1 }
+$2 == "rt:" && $4 == "proved" && $NF == "s)" { proof[$3] = number($(NF - 1)) }
 
-# rt: must-fail NAME/LABEL: .. N s)
-$2 == "rt:" && $3 == "must-fail" && $NF == "s)" { split($4, name, "/"); edit[name[1]] += number($(NF - 1)); edits[name[1]]++; tried = $1 }
+# crates/NAME/edits/LABEL.edit: .. (N s)
+$2 ~ /^crates\/.*\.edit:$/ && $NF == "s)" { split($2, name, "/"); edit[name[2]] += number($(NF - 1)); edits[name[2]]++ }
 
-$2 == "ends" && tried { clock(proved - began, "proofs"); clock(tried - proved, "must-fail edits"); clock($1 - tried, "programs") }
+$2 == "ends" { seconds = $1 - began; sub(/^[0-9]+ ends /, ""); clock(seconds, $0) }
 
-$2 == "ends" && !tried { seconds = $1 - began; sub(/^[0-9]+ ends /, ""); clock(seconds, $0) }
+# beside N COMMAND
+$2 == "beside" { clock($3, "beside the others:" substr($0, index($0, $3) + length($3))) }
 
 END {
-    print "seconds of proof, seconds of must-fail edits and their number, by crate:"
+    print "seconds of proof, seconds of edits and the number of their files, by crate:"
     sorted = "sort -k2,2nr -k1,1nr"
     for (crate in proof) {
         printf "%6d %6d %4d  %s\n", proof[crate], edit[crate], edits[crate], crate | sorted
