@@ -20,4 +20,8 @@ pub record VersionExported (M : Type 1) : Type 2 where
       (κs : Lfts 0) (x : ArgsD signature κs) (r : ℕ) (y : AtExit (endedOf 0 kinds.ps kinds.r) κs) → asking.Post κs x r y → r ≡ engineVersion
 
 pub version-exported : {M : Type 1} → VersionExported M
-version-exported = record { meets = asking-met.met; asks = λ κs x. (tt, tt); returns = λ κs x r y q. q }
+version-exported = record {
+  meets = asking-met.met;
+  asks = λ κs x. (tt, tt);
+  returns = λ κs x r y q. q;
+}
