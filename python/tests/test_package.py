@@ -51,7 +51,7 @@ class Version(unittest.TestCase):
 
     def test_what_the_library_says(self) -> None:
         """Its own version, whichever; one without the call says none."""
-        for number, version in ((1_002_003, "1.2.3"), (12_000_045, "12.0.45"), (999_000, "0.999.0")):
+        for number, version in ((1_002_003, "1.2.3"), (9_000_045, "9.0.45"), (999_000, "0.999.0")):
             other = mock.Mock(engine_version=mock.Mock(return_value=number))
             with mock.patch.object(library, "_library", return_value=other):
                 self.assertEqual(reference_engine.engine().version, version)
