@@ -17,10 +17,20 @@
 extern "C" {
 #endif
 
-#define REFERENCE_ENGINE_VERSION "0.39.0" /* the one place of the engine's version: 0, the landing, and 0 */
+#define REFERENCE_ENGINE_VERSION "0.42.0" /* the engine's version: 0, the landing, and 0 */
 
 /* What a call returns for refusal n: 2^64 - n. docs/RULES.md has the table of refusal numbers. */
 #define REFERENCE_ENGINE_REFUSAL(n) (UINT64_C(0) - (n))
+
+/*
+ * The version of the library that is linked, in one number: of 1.2.3 it is 1002003, a million times the
+ * first, a thousand times the second, and the third. It is that of REFERENCE_ENGINE_VERSION, unless a
+ * host was compiled with the header of another version.
+ *
+ * The call is never refused, keeps no state and touches no memory of the host, so any number of threads
+ * may make it at once.
+ */
+uint64_t engine_version(void);
 
 /*
  * Demand at price p on the curve of numeral 3.8.

@@ -92,7 +92,8 @@ class Engine:
     """The engine that is called: its version, the SHA-256 of its library, and what is swapped in.
 
     `swapped_in` has the library and the program `trace` that an environment variable names, as
-    REFERENCE_ENGINE_LIBRARY=PATH; of such a library the version is not known.
+    REFERENCE_ENGINE_LIBRARY=PATH. The version is what the library says; one without
+    `engine_version` does not, and its version is not known.
     """
 
     version: str
@@ -116,12 +117,21 @@ def _digest(path: Path) -> str:
     return sha256(path.read_bytes())
 
 
+def _library_version() -> str:
+    ask = getattr(_library(), "engine_version", None)
+    if ask is None:
+        return "not known"
+    ask.restype, ask.argtypes = ctypes.c_uint64, ()
+    number: int = ask()
+    return f"{number // 1_000_000}.{number // 1_000 % 1_000}.{number % 1_000}"
+
+
 def engine() -> Engine:
     """The engine that is called. Raises NotBuilt."""
     path, program = _library_path(), os.environ.get(_TRACE)
     swapped = [f"{_LIBRARY}={path}"] if path.parent != _NATIVE else []
-    version = "not known" if swapped else VERSION
-    return Engine(version, _digest(path), (*swapped, *([f"{_TRACE}={program}"] if program else [])))
+    traces = [f"{_TRACE}={program}"] if program else []
+    return Engine(_library_version(), _digest(path), (*swapped, *traces))
 
 
 def whole(name: str, value: SupportsIndex, below: int = 2**64) -> int:

@@ -180,7 +180,8 @@ class SwappedIn(unittest.TestCase):
                         out = left(*arguments)[1]
                     self.assertIn(swapped, out.replace(r"\_", "_"))
             done = run("--version", env={**os.environ, "REFERENCE_ENGINE_LIBRARY": str(other)})
-            self.assertIn("reference_engine not known, library SHA-256 ", done.stdout)
+            version = library.VERSION  # what the copy says of itself
+            self.assertIn(f"reference_engine {version}, library SHA-256 ", done.stdout)
             self.assertIn(swapped, done.stdout)
         with mock.patch.dict(os.environ, REFERENCE_ENGINE_TRACE=str(LIBRARY.with_name("trace"))):
             self.assertIn("REFERENCE_ENGINE_TRACE=", left("explain", SAMPLE)[1])

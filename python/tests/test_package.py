@@ -21,6 +21,7 @@ from records import ROOT
 sys.path.insert(0, str(ROOT / "python"))
 import backend  # noqa: E402  beside the package, not in it
 import reference_engine  # noqa: E402
+from reference_engine import library  # noqa: E402
 
 
 # A user's program with one wrong type.
@@ -47,6 +48,15 @@ class Version(unittest.TestCase):
         cited = (ROOT / "CITATION.cff").read_text(encoding="utf-8")
         self.assertIn(f"\nversion: {version}\n", cited)
         self.assertNotIn("license", cited)
+
+    def test_what_the_library_says(self) -> None:
+        """Its own version, whichever; one without the call says none."""
+        for number, version in ((1_002_003, "1.2.3"), (9_000_045, "9.0.45"), (999_000, "0.999.0")):
+            other = mock.Mock(engine_version=mock.Mock(return_value=number))
+            with mock.patch.object(library, "_library", return_value=other):
+                self.assertEqual(reference_engine.engine().version, version)
+        with mock.patch.object(library, "_library", return_value=object()):
+            self.assertEqual(reference_engine.engine().version, "not known")
 
     def test_changelog(self) -> None:
         """A line for each note, the newest first, and the version is the newest landing's."""

@@ -1,6 +1,6 @@
 /*
  * A C host of the demand call and its remainder: the paper's ten marked cases, and the refusal at
- * each bound.
+ * each bound; and of the version, which is that of the header.
  * Prints what fails; the exit status is 0 only if nothing does.
  */
 #include <inttypes.h>
@@ -50,11 +50,25 @@ static int holds(const struct check *check)
     return 0;
 }
 
+static int version_holds(void)
+{
+    unsigned major, minor, patch;
+    char more;
+    if (sscanf(REFERENCE_ENGINE_VERSION, "%u.%u.%u%c", &major, &minor, &patch, &more) == 3 &&
+        minor < 1000 && patch < 1000 &&
+        engine_version() == UINT64_C(1000000) * major + 1000 * minor + patch)
+        return 1;
+    printf("demand_host: the library has version %" PRIu64 ", the header " REFERENCE_ENGINE_VERSION
+           "\n",
+           engine_version());
+    return 0;
+}
+
 int main(void)
 {
-    const size_t count = sizeof checks / sizeof checks[0];
-    size_t held = 0;
-    for (size_t i = 0; i < count; i++)
+    const size_t cases = sizeof checks / sizeof checks[0], count = cases + 1;
+    size_t held = version_holds();
+    for (size_t i = 0; i < cases; i++)
         held += holds(&checks[i]);
     if (held != count) {
         printf("demand_host: %zu of %zu checks failed\n", count - held, count);

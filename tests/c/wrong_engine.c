@@ -35,7 +35,10 @@ static uint64_t answered(struct call call);
  * struct call, and the right one, right_NAME by tests/run, gets its arguments out of that. */
 #define CALL(name, parameters, arguments, ...)                                                    \
     extern __typeof__(name) right_##name;                                                         \
-    static uint64_t made_##name(const struct call *call) { return right_##name arguments; }       \
+    static uint64_t made_##name(const struct call *call) {                                        \
+        (void)call;                                                                               \
+        return right_##name arguments;                                                            \
+    }                                                                                             \
     uint64_t name parameters { return answered((struct call){.made = made_##name, __VA_ARGS__}); }
 
 /* Arguments, parameters and fields that many have. */
@@ -47,6 +50,7 @@ static uint64_t answered(struct call call);
 #define FRAME uint8_t *frame, size_t frame_length
 #define IN_FRAME .bytes = frame, .length = frame_length
 
+CALL(engine_version, (void), (), )
 CALL(demand, (uint64_t ce, uint64_t d, uint64_t m1, uint64_t m2, uint64_t p),
      (N(0), N(1), N(2), N(3), N(4)), .numbers = {ce, d, m1, m2, p})
 CALL(demand_remainder, (uint64_t ce, uint64_t d, uint64_t m1, uint64_t m2, uint64_t p),
@@ -518,6 +522,7 @@ static const struct fault {
     void (*how)(struct call *);
     int by;
 } faults[] = {
+    {"version", made_engine_version, ACCEPTED, raised, 1}, /* the next one */
     {"demand", made_demand, ACCEPTED, raised_at_ce, 1}, /* one kWh more at CE */
     {"remainder", made_demand_remainder, ACCEPTED, less_than_ce, 0}, /* that of the quotient */
     {"digit", made_replay, ACCEPTED, byte_from_end, -2}, /* the last digit */

@@ -1,3 +1,4 @@
+pub mod Version
 pub mod Writing
 pub mod Forcing
 pub mod Sealing

@@ -17,6 +17,7 @@ ghost use Rattle.record_figures.specs.Told.{TellsState, TellsPreview, TellsCurv
 ghost use Rattle.record_figures.specs.Told.{TellsSettlementThrough};
 ghost use Rattle.host.specs.Forcing.{hostForcing, TellsForcingThrough};
 ghost use Rattle.host.specs.Sealing.{hostSealed};
+ghost use Rattle.host.specs.Version.{engineVersion};
 ghost use Rattle.host.specs.Writing.{answer, HostWrites, HostWritesSeat};
 use engine_sealed::sealed_auction;
 use frame_writing::Written;
@@ -26,6 +27,21 @@ use record_replay::host_numbers;
 use record_replay::record_forcing;
 use record_replay::session_record;
 use seats::seat_numbers;
+
+// The engine's version, MAJOR.MINOR.PATCH, as REFERENCE_ENGINE_VERSION has it in the header.
+const MAJOR: u64 = 0;
+
+const MINOR: u64 = 42;
+
+const PATCH: u64 = 0;
+
+// The three in one number.
+#[no_mangle]
+pub extern "C" fn engine_version() -> u64
+    ensures { λ r. ⌜ r ≡ engineVersion ⌝ }
+{
+    1_000_000 * MAJOR + 1_000 * MINOR + PATCH
+}
 
 // Dem(p), or 2^64 - 1 where the settings or p are beyond their bounds.
 #[no_mangle]

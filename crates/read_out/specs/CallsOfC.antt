@@ -3,7 +3,7 @@
 -- (`same-..`); a refusal is 2^64 less its number and leaves the buffer. The nine calls that write frames stand in WritersOfC. Each conclusion takes
 -- the part of the record that it rests on, so that the loss of a clause is refused at the conclusion of that clause.
 use Prim.Native.Nat.{ℕ, _+_, _-_, _*_, _^_, _≤_, _<_}
-use mathlib.Core.Path.{_≡_, refl}
+use mathlib.Core.Path.{_≡_, refl, sym, _∙_}
 use mathlib.Core.Logic.{_↔_}
 use mathlib.Core.List.{List, [], _∷_, _++_}
 use lib.ListN.{length}
@@ -30,6 +30,10 @@ use Rattle.engine_settling.specs.declared.Settled.{Settled}
 use Rattle.engine_settling.proofs.settle.{signature as settle-signature}
 use Rattle.engine_settling.proofs.settle.Kinds as settle-kinds
 use Rattle.engine_settling.proofs.settle.Reads as settle
+use Rattle.host.specs.Version.{engineVersion}
+use Rattle.host.proofs.engine_version.{signature as version-signature}
+use Rattle.host.proofs.engine_version.Reads as asking-version
+use Rattle.host.proofs.engine_version.Statement as version-states
 use Rattle.host.proofs.demand.{signature as demand-signature}
 use Rattle.host.proofs.demand.Reads as demanding
 use Rattle.host.proofs.demand.Statement as demand-states
@@ -48,6 +52,7 @@ use Rattle.host.proofs.sealed_auction.{signature as sealing-signature}
 use Rattle.host.proofs.sealed_auction.Kinds as sealing-kinds
 use Rattle.host.proofs.sealed_auction.Reads as sealing
 use Rattle.host.proofs.sealed_auction.Statement as sealing-states
+use Rattle.statement.specs.calls_of_c.Version.{VersionExported}
 use Rattle.statement.specs.calls_of_c.Demand.{Inside, Demanded, Remains, DemandReturned, RemainderReturned, DemandExported}
 use Rattle.statement.specs.calls_of_c.Replay.{calledText, settledText, SettlingReplied, LineReplied, Replied, line-first, Replayed, ReplayExported}
 use Rattle.statement.specs.calls_of_c.Forcing.{ForcingReturned, ForcingExported}
@@ -57,6 +62,10 @@ use Rattle.statement.specs.EveryList.{Run}
 use Rattle.statement.specs.EngineCorrect.{EngineCorrect}
 
 -- ---- calls made, as their own contracts have it
+
+-- the call for the version gave r
+abbrev pub Versions : ℕ → Type 0
+Versions r = asking-version.Post tt tt r tt
 
 -- to these numbers the call gave r
 abbrev pub Demands : ℕ → ℕ → ℕ → ℕ → ℕ → ℕ → Type 0
@@ -87,6 +96,9 @@ pub data Seals : (ceiling demand : ℕ) (b : Book) (old new : List ℕ) → ℕ 
 -- ---- the parts of the statement
 
 module _ {M : Type 1} (s : EngineCorrect M) where
+  pub of-version : VersionExported M
+  of-version = s .exported .version
+
   pub of-demand : DemandExported M
   of-demand = s .exported .demand
 
@@ -98,6 +110,22 @@ module _ {M : Type 1} (s : EngineCorrect M) where
 
   pub of-sealed : SealedExported M
   of-sealed = s .exported .sealed
+
+-- ---- the engine's version
+
+module _ {M : Type 1} (e : VersionExported M) where
+  pub version-meets : version-states.statement M
+  version-meets = e .meets
+
+  pub version-asks-nothing : (κs : Lfts 0) (x : ArgsD version-signature κs) → asking-version.Pre κs x × asking-version.Asked κs x
+  version-asks-nothing κs x = e .asks κs x
+
+  pub version-returned : (r : ℕ) → Versions r → r ≡ engineVersion
+  version-returned r w = e .returns tt tt r tt w
+
+module _ {M : Type 1} (s : EngineCorrect M) where
+  pub same-version : (r r′ : ℕ) → Versions r → Versions r′ → r ≡ r′
+  same-version r r′ w v = let e = of-version s in version-returned e r w ∙ sym (version-returned e r′ v)
 
 -- ---- demand (document 01; document 02, 4)
 

@@ -1,4 +1,5 @@
 pub mod HostValues
+pub mod Version
 pub mod Demand
 pub mod Replay
 pub mod Forcing

@@ -13,3 +13,4 @@ pub mod sealed;
 pub mod sessions;
 pub mod settling;
 pub mod trace;
+pub mod version;

@@ -24,6 +24,7 @@ mod settling;
 mod shares;
 mod shuffling;
 mod trace;
+mod version;
 mod writing;
 
 use crate::generators::records::records_of;

@@ -1,6 +1,7 @@
--- UP TO C: what a host that links the twenty-six exported calls gets, a part of the statement (`EngineCorrect`). For every record, list,
+-- UP TO C: what a host that links the twenty-seven exported calls gets, a part of the statement (`EngineCorrect`). For every record, list,
 -- number and lent buffer, what each call returns and every byte or number of its buffers, by the definitions and in the statement's words; that each
 -- of them asks nothing of its arguments; and that it meets its contract, in every model. Beside them what the programs print.
+use Rattle.statement.specs.calls_of_c.Version.{VersionExported, version-exported}
 use Rattle.statement.specs.calls_of_c.Demand.{DemandExported, demand-exported}
 use Rattle.statement.specs.calls_of_c.Replay.{ReplayExported, replay-exported}
 use Rattle.statement.specs.calls_of_c.Forcing.{ForcingExported, forcing-exported}
@@ -11,6 +12,8 @@ use Rattle.statement.specs.calls_of_c.Sessions.{SessionsExported, sessio
 use Rattle.statement.specs.calls_of_c.Programs.{ProgramsStated, programs-stated}
 
 pub record ExportedStated (M : Type 1) : Type 2 where
+  -- the engine's version
+  pub version : VersionExported M
   -- demand and its remainder (document 01, Demand; document 02, 4)
   pub demand : DemandExported M
   -- a record and its replies, settlings included (document 01, Frames; demand 3)
@@ -30,6 +33,7 @@ pub record ExportedStated (M : Type 1) : Type 2 where
 
 pub exported-stated : {M : Type 1} → ExportedStated M
 exported-stated = record {
+  version = version-exported;
   demand = demand-exported;
   replay = replay-exported;
   forcing = forcing-exported;

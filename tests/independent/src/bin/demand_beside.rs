@@ -1,4 +1,5 @@
-//! Runs the engine's demand call and its remainder call beside the independent implementation.
+//! Runs the engine's demand call and its remainder call beside the independent implementation, and holds
+//! its version to that of the header.
 //! One line a group of inputs: how many were compared, how often the remainder was 0, and `ok` or
 //! the first difference.
 //! The exit status is 0 only if no group differs.
@@ -13,6 +14,7 @@ use independent::model::demand::{
     demand, demand_by_scan, demand_remainder, demand_remainder_by_scan,
 };
 use independent::model::demand::{HIGHEST_CE, HIGHEST_M2};
+use independent::model::version::{version_number, HEADER};
 use independent::BEYOND_BOUNDS;
 use independent::{host_number, Answer};
 use std::process::ExitCode;
@@ -33,7 +35,20 @@ fn main() -> ExitCode {
     // Each group is reported when it is done, also behind one that differs.
     let fixed = FIXED.map(|group| group().report());
     let generated = GENERATED.map(|(name, generate)| generated(name, generate).report());
-    verdict(fixed.iter().chain(&generated))
+    verdict([version()].iter().chain(&fixed).chain(&generated))
+}
+
+/// Prints the line of the version; true if it is that of the header.
+fn version() -> bool {
+    let (engine, header) = (engine::engine_version(), version_number(HEADER));
+    let same = header == Some(engine);
+    let verdict = if same {
+        "ok".into()
+    } else {
+        format!("engine {engine}, independent {header:?}")
+    };
+    println!("version of the header: 1 compared: {verdict}");
+    same
 }
 
 const FIXED: [fn() -> Group; 6] = [

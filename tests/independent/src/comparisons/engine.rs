@@ -9,6 +9,7 @@ use independent::model::sealed::Sealed;
 mod host {
     #[link(name = "host")]
     extern "C" {
+        pub fn engine_version() -> u64;
         pub fn demand(ce: u64, d: u64, m1: u64, m2: u64, p: u64) -> u64;
         pub fn demand_remainder(ce: u64, d: u64, m1: u64, m2: u64, p: u64) -> u64;
         pub fn replay(
@@ -183,6 +184,12 @@ mod host {
             record_length: usize,
         ) -> u64;
     }
+}
+
+/// The version in one number.
+pub fn engine_version() -> u64 {
+    // SAFETY: the call takes nothing, returns a plain number and has no preconditions.
+    unsafe { host::engine_version() }
 }
 
 /// Dem, or 2^64 - 1 for refusal 1.
