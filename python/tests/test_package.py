@@ -25,12 +25,15 @@ import reference_engine  # noqa: E402
 
 # A user's program with one wrong type.
 PROGRAM = """\
-from reference_engine import Award, Record, Settled, Step, demand, engine
+from reference_engine import AUCTIONEER, Award, Phase, Record, Session, Settled, Step
+from reference_engine import demand, engine
 
 record = Record().set_up(20_000, 1_000, 900, 1_200, 40_000).offer(2, [(1, 2), Step(1, 2)])
 for reply in record.copy().replies():
     if isinstance(reply, Settled):
         awards: tuple[Award, ...] = reply.awards
+hall: Session = Session().at(AUCTIONEER).close().copy()
+phases: list[Phase] = [record.state().phase, hall.reading(AUCTIONEER).phase]
 version: str = engine().version
 found: str = demand(1, 2, 3, 4, 5)
 """

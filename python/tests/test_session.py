@@ -2,7 +2,9 @@
 
 from __future__ import annotations
 
+import contextlib
 import copy
+import io
 import random
 import tempfile
 import unittest
@@ -29,6 +31,7 @@ from reference_engine import (
     library,
     who_can_force,
 )
+from reference_engine.__main__ import main
 from reference_engine.calls import Call, Cancellation, Malformed, Offer
 
 TWO, THREE = Seat.developer(2), Seat.developer(3)
@@ -452,6 +455,65 @@ class Refusals(Case):
     def test_lodged_record(self) -> None:
         hall = seated(lodged(550_000), random.Random(64))
         self.assertEqual(hall.record(), lodged(550_000))
+
+
+class Command(unittest.TestCase):
+    """The command record, and sessions where a record is read."""
+
+    def setUp(self) -> None:
+        folder = tempfile.TemporaryDirectory()
+        self.addCleanup(folder.cleanup)
+        self.path, self.new = Path(folder.name, "session"), Path(folder.name, "new")
+
+    def run_on(self, content: bytes, *arguments: str) -> tuple[int, str, str]:
+        """Exit status, standard output and standard error."""
+        self.path.write_bytes(content)
+        out, err = io.StringIO(), io.StringIO()
+        with contextlib.redirect_stdout(out), contextlib.redirect_stderr(err):
+            status = main([arguments[0], str(self.path), *arguments[1:]])
+        return status, out.getvalue(), err.getvalue()
+
+    def test_the_record_and_what_is_left_out(self) -> None:
+        said = "24 lines, 7 left out: 1 malformed, 6 refused by 20; the first is line 6\n"
+        content = bytes(four_seats())
+        self.assertEqual(self.run_on(content, "record", "-o", str(self.new)), (0, said, ""))
+        self.assertEqual(Record.read(self.new), permitted())
+        streamed = self.run_on(content, "record", "-o", "-")
+        self.assertEqual(streamed, (0, bytes(permitted()).decode(), said))
+        self.assertEqual(self.run_on(bytes(permitted()), "table")[0], 0)
+        alone = self.run_on(bytes(prepared()), "record", "-o", "-")
+        self.assertEqual(alone[::2], (0, "5 lines, 0 left out\n"))
+
+    def test_nothing_is_written_over(self) -> None:
+        for output in (self.path, self.new):
+            self.new.write_bytes(b"older\n")
+            status, out, err = self.run_on(bytes(four_seats()), "record", "-o", str(output))
+            self.assertEqual((status, out), (2, ""))
+            self.assertIn(f"{output} is there already, and is not written over\n", err)
+        self.assertEqual(self.new.read_bytes(), b"older\n")
+
+    def test_no_line_is_left(self) -> None:
+        malformed = "11 malformed, 0 refused by 20; the first is line 1; "
+        already = f"11 lines, 11 left out: {malformed}it is a record already, whose lines name no seat"
+        spoiled = "5 lines, 5 left out: 5 malformed, 0 refused by 20; the first is line 1;"
+        mends = f'every line ends with 0D 0A; "fix {self.path} -o NEW" mends it'
+        barred = "1 line, 1 left out: 0 malformed, 1 refused by 20; the first is line 1"
+        for content, said in (
+            (b"", "0 lines, 0 left out"),
+            (bytes(sample()), already),
+            (bytes(prepared()).replace(b"\n", b"\r\n"), f"{spoiled} {mends}"),
+            (b"010005", barred),
+        ):
+            left = self.run_on(content, "record", "-o", str(self.new))
+            self.assertEqual(left, (1, "", f"no record is written: {said}\n"))
+            self.assertFalse(self.new.exists())
+
+    def test_a_session_that_is_read_as_a_record(self) -> None:
+        for command in (("table",), ("explain",), ("show", "--json"), ("report", "-o", "-")):
+            status, _, err = self.run_on(bytes(four_seats()), *command)
+            refused = "no line was accepted: line 1 was refused by 12: malformed line"
+            hint = f'it is a session, of which "record {self.path} -o NEW" writes the record'
+            self.assertEqual((status, err), (1, f"{refused}; {hint}\n"))
 
 
 if __name__ == "__main__":
