@@ -14,7 +14,7 @@ from pathlib import Path
 
 _ROOT = Path(__file__).resolve().parent
 _PACKAGE = _ROOT / "reference_engine"
-_NATIVE = ("libreference_engine.so", "trace", "version")
+_NATIVE = ("libreference_engine.so", "version")
 
 
 def _files() -> list[Path]:

@@ -1,4 +1,4 @@
-"""The reference clearing of a firm-energy clock auction: figures of the library and of `trace`."""
+"""The reference clearing of a firm-energy clock auction: figures of the proved library."""
 
 from .calls import Step
 from .compare import Difference, differences
@@ -14,26 +14,40 @@ from .library import (
     engine,
     sealed_auction,
 )
+from .live import CurvePoint, Phase, Preview, Settlement, State
 from .record import Line, Record, replay, who_can_force
 from .refusals import MEANINGS, Refusal, Refused
-from .replies import Award, Closed, Reply, Settlement
+from .replies import Award, Closed, Reply, Settled
+from .session import AUCTIONEER, AUDITOR, Reading, Seat, SeatCalls, Session, SessionLine
 
 __all__ = [
+    "AUCTIONEER",
+    "AUDITOR",
     "MEANINGS",
     "Award",
     "Closed",
+    "CurvePoint",
     "Difference",
     "Engine",
     "Forced",
     "Line",
     "NotBuilt",
+    "Phase",
+    "Preview",
+    "Reading",
     "Record",
     "Refusal",
     "Refused",
     "Reply",
     "SealedAwards",
     "SealedOffer",
+    "Seat",
+    "SeatCalls",
+    "Session",
+    "SessionLine",
+    "Settled",
     "Settlement",
+    "State",
     "Step",
     "__version__",
     "demand",

@@ -1,34 +1,25 @@
-"""What happened in an auction: its record's lines, their replies and the trace, by rounds."""
+"""What happened in an auction: its record's lines and replies by rounds, and what they leave."""
 
 from __future__ import annotations
 
-import re
 from dataclasses import dataclass, field
 
 from . import library
 from .calls import Opening, Registration, SetUp
 from .library import Engine
+from .lines import Bytes
+from .live import CurvePoint, Phase, Preview, Settlement, State
 from .mending import mended
 from .record import Line, Record, as_record
-from .replies import Closed, Settlement
-
-_REPLY = re.compile(r"[0-9A-F]{4,}")
-
-
-@dataclass(frozen=True)
-class CurvePoint:
-    """A withdrawal price, with total supply before and after it."""
-
-    price: int
-    before: int
-    after: int
+from .replies import Closed, Settled
 
 
 @dataclass
 class Round:
     """A round that was opened: its prices, the accepted lines in it, and, once closed, its figures.
 
-    Supply is the excess plus Dem(C), both the library's. `closes_auction` is the trace's.
+    Supply is the excess plus Dem(C), both the library's. `ended` says whether closing the round
+    ended the auction.
     """
 
     number: int
@@ -41,40 +32,34 @@ class Round:
     demand: int | None = None
     remainder: int | None = None
     supply: int | None = None
-    closes_auction: bool | None = None
-
-
-@dataclass(frozen=True)
-class Settled:
-    """An accepted settling, with the choices that its search keeps (None without a trace)."""
-
-    line: Line
-    settlement: Settlement
-    kept: int | None
+    ended: bool | None = None
 
 
 @dataclass
 class Auction:
-    """An auction as its record tells it. `traced` is False where the record is too long for it.
+    """An auction as its record tells it, with what the library says of all of the record.
 
-    `curve` is the supply curve behind the latest closing, by falling price, and the trace's.
-    `faults` says in words what is wrong with the record's bytes and can be mended, and `mended` is
-    the record without that.
+    `preview` is there while a round is open, and `settlement` where a settling was accepted: a
+    closed auction never changes, so all of its settlings have the same figures. `faults` says in
+    words what is wrong with the record's bytes and can be mended, and `mended` is the record
+    without that.
     """
 
     lines: list[Line]
-    traced: bool
     engine: Engine
     record_sha256: str
     mended: bytes
     faults: list[str]
+    state: State
+    curve: tuple[CurvePoint, ...]
+    preview: Preview | None
+    settlement: Settlement | None
     settings: SetUp | None = None
     registrations: list[Line] = field(default_factory=list)
     lodgings: list[Line] = field(default_factory=list)
     rounds: list[Round] = field(default_factory=list)
-    settled: list[Settled] = field(default_factory=list)
+    settled: list[Line] = field(default_factory=list)
     refused: list[Line] = field(default_factory=list)
-    curve: list[CurvePoint] = field(default_factory=list)
 
     def registration_of(self, developer: int) -> Registration | None:
         """The accepted registration of a developer."""
@@ -119,51 +104,24 @@ class Auction:
         return library.demand(known.ce, known.d, known.m1, known.m2, price)
 
 
-@dataclass
-class _Traced:
-    """What the trace says beside one reply."""
-
-    closes: bool | None = None
-    curve: list[str] = field(default_factory=list)
-    kept: int | None = None
-
-
-def _traces(text: str) -> list[_Traced]:
-    """What the trace says beside each reply; a preview stands before the reply it belongs to."""
-    traces: list[_Traced] = []
-    closes: bool | None = None
-    for line in text.splitlines():
-        if line.startswith("curve "):  # each closing has the whole curve: most lines are these
-            traces[-1].curve.append(line)
-        elif _REPLY.fullmatch(line):
-            traces.append(_Traced(closes))
-            closes = None
-        else:
-            name, *numbers = line.split(" ")
-            if name == "preview":
-                closes = numbers[3] == "1"
-            elif name == "kept":
-                traces[-1].kept = int(numbers[0])
-    return traces
-
-
-def _curve(lines: list[str]) -> list[CurvePoint]:
-    """The points of a trace's lines `curve PRICE BEFORE AFTER`."""
-    return [CurvePoint(*(int(number) for number in line.split(" ")[1:])) for line in lines]
-
-
-def read_auction(record: Record | bytes) -> Auction:
+def read_auction(record: Record | Bytes) -> Auction:
     """The auction of a record, whatever bytes it holds."""
     record = as_record(record)
-    lines, content = record.lines(), bytes(record)
-    traced = library.has_trace(content)
-    traces = _traces(library.traced(content)) if traced else [_Traced() for _ in lines]
-    auction = Auction(lines, traced, library.engine(), library.sha256(content), *mended(content))
-    latest: list[str] = []
-    for line, trace in zip(lines, traces, strict=True):
-        _add(auction, line, trace)
-        latest = trace.curve if isinstance(line.reply, Closed) else latest
-    auction.curve = _curve(latest)
+    lines, content, state = record.lines(), bytes(record), record.state()
+    settled = [line for line in lines if isinstance(line.reply, Settled)]
+    auction = Auction(
+        lines,
+        library.engine(),
+        library.sha256(content),
+        *mended(content),
+        state,
+        record.supply_curve(),
+        record.preview() if state.phase is Phase.ROUND else None,
+        record.settlement() if settled else None,
+        settled=settled,
+    )
+    for line in lines:
+        enter(auction, line)
     return auction
 
 
@@ -172,7 +130,7 @@ def _asks_settling(line: Line) -> bool:
     return line.reply.kind == 0x06 or line.text.replace(b"\0", b"").startswith(b"06")
 
 
-def _add(auction: Auction, line: Line, trace: _Traced) -> None:
+def enter(auction: Auction, line: Line) -> None:
     """Enters an accepted line where it belongs, a refused one among the refused."""
     call, reply = line.call, line.reply
     if reply.refusal:
@@ -184,12 +142,10 @@ def _add(auction: Auction, line: Line, trace: _Traced) -> None:
     elif isinstance(call, Opening):
         auction.rounds.append(_opened(auction, line, call))
     elif isinstance(reply, Closed):
-        _close(auction, line, reply, trace)
-    elif isinstance(reply, Settlement):
-        auction.settled.append(Settled(line, reply, trace.kept))
+        _close(auction, line, reply)
     elif reply.kind == 0x07:
         auction.lodgings.append(line)
-    else:
+    elif not isinstance(reply, Settled):
         auction.rounds[-1].moves.append(line)
 
 
@@ -200,11 +156,11 @@ def _opened(auction: Auction, line: Line, call: Opening) -> Round:
     return Round(len(auction.rounds) + 1, before, call.c, line)
 
 
-def _close(auction: Auction, line: Line, reply: Closed, trace: _Traced) -> None:
+def _close(auction: Auction, line: Line, reply: Closed) -> None:
     now = auction.rounds[-1]
     now.closed = line
     now.excess = reply.excess
     now.remainder = reply.remainder
     now.demand = auction.demand_at(now.c)
     now.supply = reply.excess + now.demand
-    now.closes_auction = trace.closes
+    now.ended = reply.ended

@@ -74,7 +74,7 @@ def _asked(line: Line) -> dict[str, Any]:
 
 
 def as_json(auction: Auction) -> str:
-    """All of an auction: its calls with their replies, its rounds, curve and settlement."""
+    """All of an auction: its calls with their replies, its rounds, and what they leave behind."""
     rounds = [
         {
             **{name: value for name, value in vars(now).items() if name != "moves"},
@@ -83,18 +83,19 @@ def as_json(auction: Auction) -> str:
         }
         for now in auction.rounds
     ]
-    settled = [
-        {"line": each.line.number, **_figures(each.line), "kept": each.kept}
-        for each in auction.settled
-    ]
-    whole = {
+    settled: dict[str, Any] | None = None
+    if auction.settlement:
+        settled = {"line": auction.settled[-1].number, **asdict(auction.settlement)}
+    whole: dict[str, Any] = {
         "source": {plain(name): value for name, value in auction.source.items()},
         "units": _UNITS,
         "faults": auction.faults,
         "calls": [_answered(line) for line in auction.lines],
         "rounds": rounds,
-        "curve": [asdict(point) for point in auction.curve] if auction.traced else None,
-        "settlement": settled[-1] if settled else None,
+        "state": {**asdict(auction.state), "phase": auction.state.phase.name.lower()},
+        "preview": auction.preview and asdict(auction.preview),
+        "curve": [asdict(point) for point in auction.curve],
+        "settlement": settled,
     }
     return json.dumps(whole, indent=1) + "\n"
 

@@ -15,6 +15,7 @@ from typing import TypeAlias
 from .auction import Auction, read_auction
 from .mending import mends
 from .record import Record
+from .session import Session
 
 Commands: TypeAlias = "argparse._SubParsersAction[argparse.ArgumentParser]"
 
@@ -125,6 +126,16 @@ def auction_of(chosen: argparse.Namespace) -> Auction:
 def status_of(auction: Auction, record: str) -> int:
     """The exit status, with a line on stderr where something is wrong with the record."""
     said = auction.trouble or "; ".join(auction.faults)
+    if auction.faults:
+        said += f"; {mends(record)}"
+    elif len(auction.refused) == len(auction.lines) and _is_session(auction):
+        said += f'; it is a session, of which "record {record} -o NEW" writes the record'
     if said:
-        print(said, *([mends(record)] if auction.faults else []), sep="; ", file=sys.stderr)
+        print(said, file=sys.stderr)
     return 1 if auction.trouble else 0
+
+
+def _is_session(auction: Auction) -> bool:
+    """Whether lines that are refused in a record are accepted in a session."""
+    session = Session(b"\n".join(line.text for line in auction.lines))
+    return any(not reply.number for reply in session.replies())

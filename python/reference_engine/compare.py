@@ -167,8 +167,8 @@ def _in_reply(reply: Reply, reference: Reply) -> Iterator[Found]:
 
 
 def _fields(value: Any, reference: Any) -> Iterator[tuple[str, Any, Any]]:
-    """The fields of two values of one dataclass, with their names in words."""
-    for each in fields(reference):
+    """The fields of two values of one dataclass that bytes say, with their names in words."""
+    for each in (each for each in fields(reference) if each.compare):
         name = each.name
         yield name.replace("_", " "), getattr(value, name), getattr(reference, name)
 

@@ -6,7 +6,7 @@ import argparse
 import sys
 from collections.abc import Iterator
 
-from .auction import Auction, Round, Settled
+from .auction import Auction
 from .calls import (
     KINDS,
     NAMES,
@@ -22,8 +22,9 @@ from .calls import (
     Step,
 )
 from .command import STATUS, Commands, auction_of, parser_of, status_of
+from .live import Settlement
 from .record import Line
-from .replies import Closed
+from .replies import Closed, Settled
 
 _UNITS = (
     "Prices in thousandths of US$ per MWh, quantities in kWh per day,"
@@ -35,8 +36,7 @@ _DESCRIPTION = """\
 Writes each line of a record in words with its reply: its number, what it asks, and behind -> what
 the reference answers. The figures and awards of a settling stand below its line, an item a line.
 Bytes that are not printable are shown escaped, as in '05\\r'; a long malformed line is cut, and its
-length said. A record without lines gives "no line". For a record of more than 65,536 bytes, the
-most that trace reads, it is not said whether a closing closes the auction.
+length said. A record without lines gives "no line".
 
 """
 
@@ -99,20 +99,16 @@ def _steps(steps: tuple[Step, ...]) -> str:
 # ---- what it is answered
 
 
-def closing_in_words(closed: Closed, now: Round) -> str:
-    """A closing's figures, and what it does to the auction where the trace says it."""
-    figures = f"excess {closed.excess:,}, remainder {closed.remainder:,}"
-    if now.closes_auction is None:
-        return figures
-    return figures + ("; the auction is closed" if now.closes_auction else "; the auction goes on")
+def closing_in_words(closed: Closed) -> str:
+    """A closing's figures, and what it does to the auction."""
+    then = "the auction is closed" if closed.ended else "the auction goes on"
+    return f"excess {closed.excess:,}, remainder {closed.remainder:,}; {then}"
 
 
-def settlement_in_words(settled: Settled) -> list[str]:
+def settlement_in_words(figures: Settlement) -> list[str]:
     """A settling's figures and awards, an item a line."""
-    figures = settled.settlement
-    short = "short" if figures.second_is_short else "not short"
-    participation = "insufficient" if figures.participation_is_insufficient else "sufficient"
-    kept = "" if settled.kept is None else f", {settled.kept:,} kept by the search"
+    short = "short" if figures.short else "not short"
+    participation = "insufficient" if figures.insufficient else "sufficient"
     awards = [
         f"award: project {award.project}, developer {award.developer}, {award.quantity:,}"
         for award in figures.awards
@@ -121,7 +117,8 @@ def settlement_in_words(settled: Settled) -> list[str]:
         f"closing price {figures.price:,}",
         f"demand {figures.demand:,}, remainder {figures.remainder:,}",
         f"total {figures.total:,}",
-        f"choices: {figures.choices:,} admissible, {figures.covering:,} covering{kept}",
+        f"choices: {figures.choices:,} admissible, {figures.covering:,} covering,"
+        f" {figures.kept:,} kept by the search",
         *awards,
         f"second price {figures.second_price:,}, {short}",
         f"participation {participation}",
@@ -137,18 +134,16 @@ def explained(auction: Auction) -> Iterator[str]:
         yield "no line"
         return
     yield _UNITS
-    closings = {each.closed.number: each for each in auction.rounds if each.closed}
-    settlings = {each.line.number: each for each in auction.settled}
     width = len(str(len(auction.lines)))
     for line in auction.lines:
         answer = "accepted"
         if line.reply.refusal:
             answer = str(line.reply.refusal)
         elif isinstance(line.reply, Closed):
-            answer = closing_in_words(line.reply, closings[line.number])
+            answer = closing_in_words(line.reply)
         yield f"{line.number:<{width}} {call_in_words(line)} -> {answer}"
-        if line.number in settlings:
-            for item in settlement_in_words(settlings[line.number]):
+        if isinstance(line.reply, Settled) and auction.settlement:
+            for item in settlement_in_words(auction.settlement):
                 yield f"{'':{width}} {item}"
 
 

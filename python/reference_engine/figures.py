@@ -255,8 +255,8 @@ def _marked_prices(auction: Auction) -> list[tuple[int, str, _Style]]:
     """The prices that get a line and a label: of settling, then A and the C of rounds."""
     assert auction.settings is not None
     marks: list[tuple[int, str, _Style]] = []
-    if auction.settled:
-        final = auction.settled[-1].settlement
+    final = auction.settlement
+    if final:
         marks.append((final.price, "closing price", _CLOSING))
         if final.second_price != final.price:
             marks.append((final.second_price, "second price", _SECOND))
@@ -278,9 +278,9 @@ def _demand_points(auction: Auction) -> list[tuple[int, int]]:
 
 
 def _supply_points(auction: Auction) -> list[tuple[int, int]]:
-    """The corners of the supply curve, from A down to the C of the latest closing, by the trace."""
+    """The corners of the supply curve, from A down to the C of the latest closing."""
     closed = [now for now in auction.rounds if now.closed]
-    if not auction.traced or not closed or auction.settings is None:
+    if not closed or auction.settings is None:
         return []
     last = closed[-1]
     assert last.supply is not None
@@ -319,9 +319,9 @@ def _round_ticks(auction: Auction, across: Scale, up: Scale) -> Markup:
 
 def _award_mark(auction: Auction, across: Scale, up: Scale) -> Markup:
     """The award's total: a diamond at the closing price, and a line up to its label."""
-    if not auction.settled:
+    final = auction.settlement
+    if final is None:
         return Markup()
-    final = auction.settled[-1].settlement
     x, y = across.at(final.total), up.at(final.price)
     words = f"award's total: {quantity(final.total)} kWh"
     half = len(words) * _CHARACTER / 2
@@ -340,7 +340,7 @@ def _curves_legend(
     priced = [mark for mark in _marked_prices(auction) if mark[2] is not _ROUND]
     for marked, words, style in priced:
         items.append((_stroke(style), words if layout.labelled else f"{words}: {price(marked)}"))
-    if auction.settled:
+    if auction.settlement:
         items.append((lambda x, y: _diamond(x + 30, y), "award's total at the closing price"))
     some = len(auction.rounds) > _LABELLED_ROUNDS
     words = "A, and C of some rounds (ticks: of each)" if some else "A, and C of each round"
@@ -351,7 +351,7 @@ def demand_and_supply(auction: Auction, layout: Layout = BROAD) -> Markup:
     """Demand and supply by price, with prices and the award's total. Needs an accepted set-up."""
     demand, supply = _demand_points(auction), _supply_points(auction)
     quantities = [each for each, _ in demand + supply]
-    quantities += [each.settlement.total for each in auction.settled[-1:]]
+    quantities += [auction.settlement.total] if auction.settlement else []
     up = _scale([each for _, each in demand], float(_BOTTOM), float(_TOP))
     marks = ticks(up.low, up.high, 10)
     labels = [price(mark) for mark in marks]

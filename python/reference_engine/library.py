@@ -11,12 +11,12 @@ import ctypes
 import hashlib
 import operator
 import os
-import subprocess
+import re
 from collections.abc import Iterable, Mapping, Sequence, Set
 from dataclasses import dataclass
 from functools import cache
 from pathlib import Path
-from typing import SupportsIndex, TypeVar
+from typing import Any, SupportsIndex, TypeVar, Union
 
 from .refusals import Refused
 
@@ -24,9 +24,7 @@ _Item = TypeVar("_Item")
 
 _NATIVE = Path(__file__).parent / "native"
 _REFUSALS = 2**64 - 256  # from here on a result is 2^64 less a refusal's number
-_TRACED = 65_536  # bytes of the longest record that `trace` reads
-# Environment variables that swap another library or another `trace` in
-_LIBRARY, _TRACE = "REFERENCE_ENGINE_LIBRARY", "REFERENCE_ENGINE_TRACE"
+_LIBRARY = "REFERENCE_ENGINE_LIBRARY"  # the environment variable that swaps another library in
 
 # Parameters in include/reference_engine.h: a number; bytes, or numbers, with their length.
 _NUMBER = (ctypes.c_uint64,)
@@ -36,6 +34,10 @@ _PARAMETERS = {
     "demand": _NUMBER * 5,
     "demand_remainder": _NUMBER * 5,
     "replay": _BYTES * 2,
+    "record_state": _BYTES + _LIST,
+    "record_preview": _BYTES + _LIST,
+    "record_curve": _BYTES + _LIST,
+    "record_settlement": _BYTES + _NUMBER + _LIST + _BYTES,
     "who_can_force": _BYTES + _NUMBER * 2 + _LIST + _BYTES,
     "sealed_auction": _NUMBER * 2 + _LIST * 5,
     "write_set_up": _NUMBER * 5 + _BYTES,
@@ -47,18 +49,22 @@ _PARAMETERS = {
     "write_settling": _NUMBER + _BYTES,
     "write_lodging": _NUMBER + _LIST * 2 + _BYTES,
     "write_cancellation": _NUMBER + _BYTES,
+    "write_seat": _NUMBER * 2 + _BYTES,
+    "session_replay": _BYTES * 2,
+    "session_reading": _BYTES + _NUMBER * 2 + _LIST,
+    "session_preview": _BYTES + _NUMBER * 2 + _LIST,
+    "session_curve": _BYTES + _NUMBER * 2 + _LIST,
+    "session_settlement": _BYTES + _NUMBER * 3 + _LIST + _BYTES,
+    "session_forcing": _BYTES + _NUMBER * 4 + _LIST + _BYTES,
+    "session_record": _BYTES * 2,
 }
+
+# What a call takes: a number; bytes; a list of numbers; a lent buffer of either.
+_Argument = Union[int, bytes, Sequence[int], "ctypes.Array[Any]"]
 
 
 class NotBuilt(Exception):
-    """The shared object or the program `trace` is missing, or lacks a call."""
-
-
-def _built(variable: str, name: str) -> Path:
-    path = Path(os.environ.get(variable) or _NATIVE / name)
-    if not path.is_file():
-        raise NotBuilt(f"{path} is missing; in the checkout, python/build makes it")
-    return path
+    """The shared object is missing, or lacks a call."""
 
 
 def _version() -> str:
@@ -72,7 +78,10 @@ VERSION = _version()
 
 @cache
 def _library_path() -> Path:
-    return _built(_LIBRARY, "libreference_engine.so")
+    path = Path(os.environ.get(_LIBRARY) or _NATIVE / "libreference_engine.so")
+    if not path.is_file():
+        raise NotBuilt(f"{path} is missing; in the checkout, python/build makes it")
+    return path
 
 
 @cache
@@ -91,7 +100,7 @@ def _library() -> ctypes.CDLL:
 class Engine:
     """The engine that is called: its version, the SHA-256 of its library, and what is swapped in.
 
-    `swapped_in` has the library and the program `trace` that an environment variable names, as
+    `swapped_in` has the library that an environment variable names, as
     REFERENCE_ENGINE_LIBRARY=PATH; of such a library the version is not known.
     """
 
@@ -118,10 +127,9 @@ def _digest(path: Path) -> str:
 
 def engine() -> Engine:
     """The engine that is called. Raises NotBuilt."""
-    path, program = _library_path(), os.environ.get(_TRACE)
-    swapped = [f"{_LIBRARY}={path}"] if path.parent != _NATIVE else []
-    version = "not known" if swapped else VERSION
-    return Engine(version, _digest(path), (*swapped, *([f"{_TRACE}={program}"] if program else [])))
+    path = _library_path()
+    swapped = (f"{_LIBRARY}={path}",) if path.parent != _NATIVE else ()
+    return Engine("not known" if swapped else VERSION, _digest(path), swapped)
 
 
 def whole(name: str, value: SupportsIndex, below: int = 2**64) -> int:
@@ -157,17 +165,44 @@ def wholes(name: str, values: Iterable[SupportsIndex], below: int = 2**64) -> li
     return [whole(f"{name}[{place}]", value, below) for place, value in numbers]
 
 
-def _numbers(values: Sequence[int]) -> tuple[ctypes.Array[ctypes.c_uint64], int]:
-    """Numbers that are tested, as the library takes them: ctypes itself would cut them."""
-    return (ctypes.c_uint64 * len(values))(*values), len(values)
+def signed(number: int) -> int:
+    """The number that 64 bits in two's complement say."""
+    return number - 2**64 if number >= 2**63 else number
 
 
-def _call(name: str, *arguments: object) -> int:
-    """The result of a call of the library. Raises Refused."""
-    result: int = getattr(_library(), name)(*arguments)
+def _passed(name: str, argument: _Argument) -> tuple[object, ...]:
+    """An argument as the library takes it; ctypes itself would cut numbers."""
+    if isinstance(argument, (bytes, ctypes.Array)):
+        return argument, len(argument)
+    if isinstance(argument, Sequence):
+        numbers = wholes(f"a list of {name}", argument)
+        return (ctypes.c_uint64 * len(numbers))(*numbers), len(numbers)
+    return (whole(f"a number of {name}", argument),)
+
+
+def _call(name: str, *arguments: _Argument) -> int:
+    """The result of a call of the library; bytes, lists and buffers go with their length.
+
+    Raises Refused.
+    """
+    passed = (part for argument in arguments for part in _passed(name, argument))
+    result: int = getattr(_library(), name)(*passed)
     if result >= _REFUSALS:
         raise Refused(2**64 - result)
     return result
+
+
+def _bytes_of(name: str, room: int, *arguments: _Argument) -> bytes:
+    """The bytes that a call writes into a buffer, where it returns their number."""
+    buffer = ctypes.create_string_buffer(room)
+    return ctypes.string_at(buffer, _call(name, *arguments, buffer))
+
+
+def _numbers_of(name: str, room: int, each: int, *arguments: _Argument) -> tuple[int, ...]:
+    """The numbers that a call writes into a buffer: `each` for one it returns, or 0 for all."""
+    numbers = (ctypes.c_uint64 * room)()
+    count = _call(name, *arguments, numbers)
+    return tuple(numbers)[: each * count if each else room]
 
 
 def demand(
@@ -191,13 +226,47 @@ def _at_price(
     return [whole(name, value) for name, value in values.items()]
 
 
+# ---- records
+
+
 def replies_to(record: bytes) -> bytes:
     """The replies to a record, a line each, as bytes."""
-    # The longest reply has 29 bytes, but for a settling's with 32 awards: 463 (docs/FORMAT.md). A
-    # first line is never settled.
-    room = 29 * (record.count(b"\n") + 1) + 434 * record.count(b"\n06")
-    buffer = ctypes.create_string_buffer(room)
-    return ctypes.string_at(buffer, _call("replay", record, len(record), buffer, room))
+    return _bytes_of("replay", _room(record, rb"^06"), record)
+
+
+def _room(content: bytes, settling: bytes) -> int:
+    """Bytes that always fit the replies to lines, given how one that settles begins.
+
+    The longest reply has 29, but for a settling's with 32 awards: 463 (docs/FORMAT.md).
+    """
+    settlings = len(re.findall(settling, content, re.MULTILINE))
+    return 29 * (content.count(b"\n") + 1) + 434 * settlings
+
+
+def record_state(record: bytes) -> tuple[int, ...]:
+    """The five figures of the auction that a record leaves behind."""
+    return _numbers_of("record_state", 5, 0, record)
+
+
+def record_preview(record: bytes) -> tuple[int, ...]:
+    """The three figures of closing the open round now. Raises Refused(2)."""
+    return _numbers_of("record_preview", 3, 0, record)
+
+
+def record_curve(record: bytes) -> tuple[int, ...]:
+    """The supply curve: three numbers a point."""
+    return _numbers_of("record_curve", 768, 3, record)
+
+
+def record_settlement(record: bytes, limit: int) -> tuple[tuple[int, ...], bytes]:
+    """The twelve figures of a settling, and its award records. Raises Refused(2), (10)."""
+    return _settlement("record_settlement", record, limit)
+
+
+def _settlement(name: str, *arguments: _Argument) -> tuple[tuple[int, ...], bytes]:
+    figures, awards = (ctypes.c_uint64 * 12)(), ctypes.create_string_buffer(192)
+    _call(name, *arguments, figures, awards)
+    return tuple(figures), awards.raw[: 6 * figures[11]]
 
 
 @dataclass(frozen=True)
@@ -212,18 +281,76 @@ def forced(
     record: bytes, first: SupportsIndex, second: SupportsIndex, prices: Iterable[SupportsIndex]
 ) -> Forced:
     """What `who_can_force` says of the auction that a record's bytes leave behind."""
+    return _forced("who_can_force", first, second, prices, record)
+
+
+def _forced(
+    name: str,
+    first: SupportsIndex,
+    second: SupportsIndex,
+    prices: Iterable[SupportsIndex],
+    *behind: _Argument,
+) -> Forced:
+    """What a call says of the game behind a record, or behind a session for a seat."""
+    pair = whole("first", first), whole("second", second)
     move = ctypes.create_string_buffer(1)
-    outcome = _call(
-        "who_can_force",
-        record,
-        len(record),
-        whole("first", first),
-        whole("second", second),
-        *_numbers(wholes("prices", prices)),
-        move,
-        len(move),
-    )
+    outcome = _call(name, *behind, *pair, wholes("prices", prices), move)
     return Forced(outcome, move.raw == b"\x01")
+
+
+# ---- sessions; a seat is its kind and its number
+
+
+def write_seat(kind: int, number: int) -> bytes:
+    """The four digits with which a line of the seat begins. Raises Refused(14)."""
+    return _bytes_of("write_seat", 4, kind, number)
+
+
+def session_replay(session: bytes) -> bytes:
+    """The replies to a session, a line each, as bytes."""
+    return _bytes_of("session_replay", _room(session, rb"^....06"), session)
+
+
+def session_reading(session: bytes, seat: int, number: int) -> tuple[int, ...]:
+    """The numbers that a seat reads. Raises Refused(20)."""
+    return _numbers_of("session_reading", 31, 1, session, seat, number)
+
+
+def session_preview(session: bytes, seat: int, number: int) -> tuple[int, ...]:
+    """As `record_preview`, for the auctioneer. Raises Refused(20), (2)."""
+    return _numbers_of("session_preview", 3, 0, session, seat, number)
+
+
+def session_curve(session: bytes, seat: int, number: int) -> tuple[int, ...]:
+    """As `record_curve`, for the auctioneer. Raises Refused(20)."""
+    return _numbers_of("session_curve", 768, 3, session, seat, number)
+
+
+def session_settlement(
+    session: bytes, seat: int, number: int, limit: int
+) -> tuple[tuple[int, ...], bytes]:
+    """As `record_settlement`, for auctioneer and auditor. Raises Refused(20), (2), (10)."""
+    return _settlement("session_settlement", session, seat, number, limit)
+
+
+def session_forcing(
+    session: bytes,
+    seat: int,
+    number: int,
+    first: SupportsIndex,
+    second: SupportsIndex,
+    prices: Iterable[SupportsIndex],
+) -> Forced:
+    """As `forced`, for the auctioneer. Raises Refused(20), (2), (17)."""
+    return _forced("session_forcing", first, second, prices, session, seat, number)
+
+
+def session_record(session: bytes) -> bytes:
+    """The plain record of a session."""
+    return _bytes_of("session_record", len(session), session)
+
+
+# ---- the sealed auction
 
 
 @dataclass(frozen=True)
@@ -252,20 +379,16 @@ def sealed_auction(
     for place, offer in enumerate(book):
         if not isinstance(offer, SealedOffer):
             raise TypeError(f"offers[{place}] must be a SealedOffer, not {type(offer).__name__}")
-    lists = [
-        _numbers(wholes("prices", [offer.price for offer in book])),
-        _numbers(wholes("quantities", [offer.quantity for offer in book])),
-        _numbers(wholes("minimums", [offer.minimum for offer in book])),
-        _numbers(wholes("ages", [offer.age for offer in book])),
-    ]
     awards = (ctypes.c_uint64 * len(book))()
     left = _call(
         "sealed_auction",
         whole("ceiling", ceiling),
         whole("demand", demand),
-        *(part for pair in lists for part in pair),
+        wholes("prices", [offer.price for offer in book]),
+        wholes("quantities", [offer.quantity for offer in book]),
+        wholes("minimums", [offer.minimum for offer in book]),
+        wholes("ages", [offer.age for offer in book]),
         awards,
-        len(awards),
     )
     return SealedAwards(tuple(awards), left)
 
@@ -275,28 +398,4 @@ def written(name: str, *arguments: int | Sequence[int]) -> bytes:
 
     The arguments are tested numbers and lists of them. Raises Refused(14).
     """
-    frame = ctypes.create_string_buffer(161)
-    passed: list[object] = []
-    for argument in arguments:
-        if isinstance(argument, int):
-            passed.append(argument)
-        else:
-            passed.extend(_numbers(argument))
-    return ctypes.string_at(frame, _call(name, *passed, frame, len(frame)))
-
-
-def has_trace(record: bytes) -> bool:
-    """Whether the program `trace` reads a record of this length."""
-    return len(record) <= _TRACED
-
-
-def traced(record: bytes) -> str:
-    """What the program `trace` writes for a record.
-
-    Raises ValueError where the record is too long, CalledProcessError where `trace` ends badly.
-    """
-    if not has_trace(record):
-        raise ValueError(f"a record of {len(record)} bytes has no trace")
-    program = _built(_TRACE, "trace")
-    done = subprocess.run([str(program)], input=record, stdout=subprocess.PIPE, check=True)
-    return done.stdout.decode("ascii")
+    return _bytes_of(name, 161, *arguments)

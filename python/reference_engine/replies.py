@@ -2,7 +2,7 @@
 
 from __future__ import annotations
 
-from dataclasses import dataclass
+from dataclasses import dataclass, field
 from functools import lru_cache
 
 from .refusals import Refusal
@@ -22,13 +22,19 @@ class Reply:
         """The refusal, or None where the call is accepted."""
         return Refusal(self.number) if self.number else None
 
+    @property
+    def ended(self) -> bool | None:
+        """Whether this call ended the auction; None where the reply's bytes alone are known."""
+        return False
+
 
 @dataclass(frozen=True)
 class Closed(Reply):
-    """An accepted closing: supply less Dem(C), and the remainder of Dem(C)."""
+    """An accepted closing: supply less Dem(C), the remainder of Dem(C), and what the bytes lack."""
 
     excess: int
     remainder: int
+    ended: bool | None = field(default=None, compare=False)
 
 
 @dataclass(frozen=True)
@@ -41,8 +47,8 @@ class Award:
 
 
 @dataclass(frozen=True)
-class Settlement(Reply):
-    """An accepted settling."""
+class Settled(Reply):
+    """An accepted settling; its figures have the names of live.Settlement."""
 
     price: int
     demand: int
@@ -52,8 +58,8 @@ class Settlement(Reply):
     awards: tuple[Award, ...]
     remainder: int
     second_price: int
-    second_is_short: bool
-    participation_is_insufficient: bool
+    short: bool
+    insufficient: bool
     price_paid: int
 
 
@@ -98,7 +104,7 @@ def _reply(fields: _Fields) -> Reply:
             Award(fields.number(2), fields.number(2), fields.number(8))
             for _ in range(fields.number(2))
         )
-        return Settlement(
+        return Settled(
             kind,
             number,
             price,

@@ -7,12 +7,14 @@ from collections.abc import Callable, Iterable, Sequence
 from pathlib import Path
 
 from . import figures
-from .auction import Auction, Round, Settled
+from .auction import Auction, Round
 from .calls import KINDS, NAMES, Cancellation, Lodging, Malformed, Offer, Registration, Step
 from .command import STATUS, Commands, add_output, auction_of, keep, parser_of, status_of, write
 from .figures import BROAD, NARROW, Layout
+from .live import Settlement
 from .markup import Markup, element, escaped, joined, price, quantity
 from .record import Line
+from .replies import Award
 from .show import answer
 
 _STEPS = "steps: US$ per MWh, kWh per day"
@@ -219,8 +221,8 @@ def _steps(steps: Sequence[Step]) -> Markup:
     return _together(f"at {price(step.price)} down to {quantity(step.level)}" for step in steps)
 
 
-def _yes(mark: bool | None, unknown: str) -> str:
-    return unknown if mark is None else "yes" if mark else "no"
+def _yes(mark: bool | None) -> str:
+    return "yes" if mark else "no"
 
 
 def _plural(number: int, one: str, many: str) -> str:
@@ -348,7 +350,7 @@ def _closing_cells(now: Round) -> list[str]:
     if now.supply is None or now.demand is None or now.remainder is None or now.excess is None:
         return ["", "", "", "", "not closed"]
     figures_shown = [quantity(each) for each in (now.supply, now.demand, now.remainder, now.excess)]
-    return [*figures_shown, _yes(now.closes_auction, "not shown")]
+    return [*figures_shown, _yes(now.ended)]
 
 
 def _rounds(auction: Auction) -> list[Markup]:
@@ -370,16 +372,10 @@ def _rounds(auction: Auction) -> list[Markup]:
             "of a kWh per day."
         ),
     ]
-    if not auction.traced:
-        parts.append(_note(_untraced("whether a round closes the auction")))
     if sum(now.closed is not None for now in auction.rounds) > 1:
         caption = "Supply, demand and excess by round; the excess in kWh per day."
         parts.append(_drawn(auction, figures.supply_by_round, caption))
     return [*parts, *_moves(auction)]
-
-
-def _untraced(what: str) -> str:
-    return f"The record is longer than 65,536 bytes and has no trace: {what} is not shown."
 
 
 def _moves(auction: Auction) -> list[Markup]:
@@ -413,8 +409,6 @@ def _curve(auction: Auction) -> list[Markup]:
     parts: list[Markup] = []
     if auction.settings is not None:
         parts.append(_drawn(auction, figures.demand_and_supply, _caption(auction)))
-    if not auction.traced:
-        return [*parts, _said(_untraced("the supply curve"))]
     if not any(now.closed for now in auction.rounds):
         return [*parts, _said("No round was closed, so there is no supply curve.")]
     if not auction.curve:
@@ -432,38 +426,30 @@ def _curve(auction: Auction) -> list[Markup]:
 
 
 def _caption(auction: Auction) -> str:
-    if auction.traced and any(now.closed for now in auction.rounds):
+    if any(now.closed for now in auction.rounds):
         return "Demand, and supply after the withdrawals down to the C of the latest closing."
     return "Demand; there is no supply curve to show."
 
 
 def _settlements(auction: Auction) -> list[Markup]:
-    """Each settlement once, with the lines that got it."""
-    if not auction.settled:
+    """The settlement, with the lines that got it."""
+    if auction.settlement is None:
         failed = auction.settling_failed
         return [_said("No settling was made." if failed else "No settling was asked for.")]
-    alike: dict[str, list[Settled]] = {}
-    for settled in auction.settled:
-        alike.setdefault(settled.line.reply_text, []).append(settled)
-    parts: list[Markup] = []
-    for group in alike.values():
-        numbers = [quantity(each.line.number) for each in group]
-        where = f"line {numbers[0]}" if len(numbers) == 1 else f"lines {'; '.join(numbers)}"
-        parts += [_said(f"Settled by {where}."), *_settlement(auction, group[0])]
-    return parts
+    numbers = [quantity(line.number) for line in auction.settled]
+    where = f"line {numbers[0]}" if len(numbers) == 1 else f"lines {'; '.join(numbers)}"
+    return [_said(f"Settled by {where}."), *_settlement(auction, auction.settlement)]
 
 
-def _settlement(auction: Auction, settled: Settled) -> list[Markup]:
+def _settlement(auction: Auction, final: Settlement) -> list[Markup]:
     assert auction.settings is not None, "the library settles no auction before set-up"
-    final = settled.settlement
-    kept = "not shown" if settled.kept is None else quantity(settled.kept)
-    participation = "insufficient" if final.participation_is_insufficient else "sufficient"
+    participation = "insufficient" if final.insufficient else "sufficient"
     return [
         _named(
             [
                 ("Closing price P", price(final.price), "US$ per MWh"),
                 ("Second price, for new plants", price(final.second_price), "US$ per MWh"),
-                ("Second price is short", _yes(final.second_is_short, ""), ""),
+                ("Second price is short", _yes(final.short), ""),
                 ("Demand at P", quantity(final.demand), "kWh per day"),
                 (
                     "Remainder of demand",
@@ -473,18 +459,16 @@ def _settlement(auction: Auction, settled: Settled) -> list[Markup]:
                 ("Award's total", quantity(final.total), "kWh per day"),
                 ("Admissible choices", quantity(final.choices), ""),
                 ("Covering choices", quantity(final.covering), ""),
-                ("Covering choices kept by the search", kept, ""),
+                ("Covering choices kept by the search", quantity(final.kept), ""),
                 ("Participation", participation, ""),
                 ("Price paid to existing plants", price(final.price_paid), "US$ per MWh"),
             ]
         ),
-        *([] if auction.traced else [_note(_untraced("the number of choices kept"))]),
-        *_awards(auction, settled),
+        *_awards(auction, final.awards),
     ]
 
 
-def _awards(auction: Auction, settled: Settled) -> list[Markup]:
-    awards = settled.settlement.awards
+def _awards(auction: Auction, awards: Sequence[Award]) -> list[Markup]:
     if not awards:
         return [_said("Nothing is awarded.")]
     calls = [auction.registration_of(award.developer) for award in awards]

@@ -20,11 +20,11 @@ either (python/README.md).
 def answer(auction: Auction) -> list[tuple[str, str, str]]:
     """What came out of an auction: names, figures and units."""
     rounds = ("Rounds", quantity(len(auction.rounds)), "")
-    if not auction.settled:
+    final = auction.settlement
+    if final is None:
         return [("Settlement", "none", ""), rounds]
-    final = auction.settled[-1].settlement
-    short = ", marked short" if final.second_is_short else ""
-    participation = "insufficient" if final.participation_is_insufficient else "sufficient"
+    short = ", marked short" if final.short else ""
+    participation = "insufficient" if final.insufficient else "sufficient"
     return [
         ("Closing price", price(final.price), "US$ per MWh"),
         ("Second price, for new plants", price(final.second_price), f"US$ per MWh{short}"),
@@ -46,7 +46,7 @@ def add_to(commands: Commands) -> None:
     parser = parser_of(run, commands, "show", summary, _DESCRIPTION + STATUS)
     formats = parser.add_mutually_exclusive_group()
     for name, shown, what in (
-        ("json", as_json, "calls, replies, rounds, supply curve and settlement as JSON"),
+        ("json", as_json, "calls, replies, rounds, state, supply curve and settlement as JSON"),
         ("csv", as_csv, "the calls as CSV, a row each"),
     ):
         formats.add_argument(

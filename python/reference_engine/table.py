@@ -6,14 +6,13 @@ import argparse
 import csv
 import io
 import re
-import sys
 from collections.abc import Callable, Iterable, Sequence
 from dataclasses import dataclass
 from itertools import zip_longest
 from pathlib import Path
 from typing import Union
 
-from .auction import Auction, Settled
+from .auction import Auction
 from .calls import KINDS, Registration
 from .command import (
     STATUS,
@@ -26,6 +25,7 @@ from .command import (
     status_of,
     write,
 )
+from .live import Settlement
 from .markup import pointed
 from .replies import Award
 
@@ -160,14 +160,7 @@ def curve_table(auction: Auction, units: Units) -> Table:
     rows: list[tuple[Value, ...]] = [
         (point.price, point.before, point.after) for point in auction.curve
     ]
-    return Table("curve", columns, rows, _no_curve(auction))
-
-
-def _no_curve(auction: Auction) -> str:
-    """Why the supply curve has no row."""
-    if auction.traced:
-        return "no withdrawal up to the latest closing"
-    return "not known: the record has more than 65,536 bytes, the most that trace reads"
+    return Table("curve", columns, rows, "no withdrawal up to the latest closing")
 
 
 def award_table(auction: Auction, units: Units) -> Table:
@@ -179,7 +172,7 @@ def award_table(auction: Auction, units: Units) -> Table:
         Column("kind", words=True),
         Column("quantity", units.quantity),
     )
-    awards = auction.settled[-1].settlement.awards if auction.settled else ()
+    awards = auction.settlement.awards if auction.settlement else ()
     rows = [_award_row(award, auction.registration_of(award.developer)) for award in awards]
     return Table("award", columns, rows, "not settled")
 
@@ -206,23 +199,22 @@ def settlement_table(auction: Auction, units: Units) -> Table:
         Column("participation is insufficient"),
         Column("price paid to existing plants", units.price),
     )
-    rows = [_settlement_row(settled) for settled in auction.settled[-1:]]
+    rows = [_settlement_row(auction.settlement)] if auction.settlement else []
     return Table("settlement", columns, rows, "not settled", upright=True)
 
 
-def _settlement_row(settled: Settled) -> tuple[Value, ...]:
-    figures = settled.settlement
+def _settlement_row(figures: Settlement) -> tuple[Value, ...]:
     return (
         figures.price,
         figures.second_price,
-        figures.second_is_short,
+        figures.short,
         figures.demand,
         figures.remainder,
         figures.total,
         figures.choices,
         figures.covering,
-        settled.kept,
-        figures.participation_is_insufficient,
+        figures.kept,
+        figures.insufficient,
         figures.price_paid,
     )
 
@@ -446,8 +438,6 @@ def run(chosen: argparse.Namespace) -> int:
         write(chosen.output, text.encode("utf-8", "backslashreplace"))
     else:
         _split(chosen.record, Path(chosen.split), [*tables, source])
-    if not auction.traced and chosen.part in ("curve", "all"):
-        print(f"supply curve {_no_curve(auction)}", file=sys.stderr)
     return status_of(auction, chosen.record)
 
 

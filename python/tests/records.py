@@ -11,7 +11,7 @@ from pathlib import Path
 from reference_engine import Record
 
 ROOT = Path(__file__).resolve().parents[2]
-LONGEST = 65_536  # bytes that the program trace reads
+LONGEST = 65_536  # bytes of the longest record that the programs read
 
 _MALFORMED = (
     b"",
@@ -91,8 +91,8 @@ def with_agents(new: int) -> Record:
     return record.open(29_990).offer(2).offer(3).close().settle()
 
 
-def untraced() -> Record:
-    """The sample and malformed lines, some hundreds, and more bytes than trace reads."""
+def lengthened() -> Record:
+    """The sample and some hundreds of malformed lines: more bytes than the programs read."""
     return Record(bytes(sample()) + (b"0" * 99 + b"\n") * (LONGEST // 100 + 1))
 
 

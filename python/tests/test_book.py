@@ -13,8 +13,8 @@ import unittest
 from pathlib import Path
 from unittest import mock
 
-from records import first_lines, lodged, random_record, sample, untraced, with_agents
-from reference_engine import Record, Settlement, __version__
+from records import first_lines, lodged, random_record, sample, lengthened, with_agents
+from reference_engine import Phase, Record, Settled, __version__
 from reference_engine.__main__ import main
 from reference_engine.auction import read_auction
 from reference_engine.book import as_csv, as_json, built
@@ -97,7 +97,7 @@ class Shown(unittest.TestCase):
         self.assertEqual(shown["curve"], [{"price": 26_000, "before": 1_170, "after": 920}])
         (only,) = shown["rounds"]
         self.assertEqual((only["opening"], only["supply"], only["excess"]), (40_000, 920, -55))
-        self.assertEqual((only["opened"], only["closed"], only["closes_auction"]), (6, 10, True))
+        self.assertEqual((only["opened"], only["closed"], only["ended"]), (6, 10, True))
         settled = shown["settlement"]
         self.assertEqual((settled["line"], settled["price"], settled["kept"]), (11, 26_000, 2))
         self.assertEqual(settled["awards"][1], {"project": 2, "developer": 3, "quantity": 200})
@@ -114,7 +114,7 @@ class Shown(unittest.TestCase):
             for call, line in zip(shown["calls"], lines, strict=True):
                 self.assertEqual(call["reply"]["text"], line.reply_text)
                 self.assertEqual(call["reply"]["refusal"] or 0, line.reply.number)
-            settled = [line.reply for line in lines if isinstance(line.reply, Settlement)]
+            settled = [line.reply for line in lines if isinstance(line.reply, Settled)]
             if not settled:
                 self.assertIsNone(shown["settlement"])
                 continue
@@ -130,9 +130,26 @@ class Shown(unittest.TestCase):
     def test_the_latest_settlement(self) -> None:
         self.assertEqual(self.shown(sample().settle(50).settle(0))["settlement"]["line"], 12)
 
-    def test_no_trace(self) -> None:
-        shown = self.shown(untraced())
-        self.assertEqual((shown["curve"], shown["settlement"]["kept"]), (None, None))
+    def test_what_is_left_behind(self) -> None:
+        """State, preview, curve and settlement, as the methods of Record give them."""
+        phases = set()
+        for count in range(12):
+            record = first_lines(count)
+            shown, state = self.shown(record), record.state()
+            phases.add(shown["state"].pop("phase"))
+            self.assertEqual(list(shown["state"].values()), list(vars(state).values())[1:])
+            self.assertEqual(shown["preview"] is not None, state.phase is Phase.ROUND)
+            if state.phase is Phase.ROUND:
+                self.assertEqual(shown["preview"], vars(record.preview()))
+            self.assertEqual(shown["curve"], [vars(point) for point in record.supply_curve()])
+        self.assertEqual(phases, {"fresh", "ready", "round", "closed"})
+        replies = [call["reply"].get("ended") for call in shown["calls"]]
+        self.assertEqual(replies, [None] * 9 + [True, None])
+
+    def test_beyond_64_kib(self) -> None:
+        shown, known = self.shown(lengthened()), self.shown(sample())
+        for name in ("state", "curve", "settlement"):
+            self.assertEqual(shown[name], known[name])
 
 
 class Books(unittest.TestCase):

@@ -16,7 +16,7 @@ from pathlib import Path
 from unittest import mock
 
 from records import ROOT, long_record, processor_seconds, random_record, sample
-from reference_engine import Award, Closed, Record, Reply, Settlement, differences, engine
+from reference_engine import Award, Closed, Record, Reply, Settled, differences, engine
 from reference_engine.__main__ import main
 from reference_engine.record import Line
 
@@ -36,8 +36,8 @@ IN_SETTLING = (
     "award: quantity",
     "remainder",
     "second price",
-    "second is short",
-    "participation is insufficient",
+    "short",
+    "insufficient",
     "price paid",
     "reply",
 )
@@ -48,14 +48,14 @@ def text_of(reply: Reply) -> str:
     text = f"{reply.kind:02X}{reply.number:02X}"
     if isinstance(reply, Closed):
         return f"{text}{reply.excess % 2**64:016X}{reply.remainder:08X}"
-    if not isinstance(reply, Settlement):
+    if not isinstance(reply, Settled):
         return text
     text += f"{reply.price:08X}{reply.demand:010X}{reply.total:010X}"
     text += f"{reply.choices:08X}{reply.covering:08X}{len(reply.awards):02X}"
     for award in reply.awards:
         text += f"{award.project:02X}{award.developer:02X}{award.quantity:08X}"
-    text += f"{reply.remainder:08X}{reply.second_price:08X}{reply.second_is_short:02X}"
-    return f"{text}{reply.participation_is_insufficient:02X}{reply.price_paid:08X}"
+    text += f"{reply.remainder:08X}{reply.second_price:08X}{reply.short:02X}"
+    return f"{text}{reply.insufficient:02X}{reply.price_paid:08X}"
 
 
 @dataclass(frozen=True)
@@ -81,14 +81,14 @@ def plantings(line: Line, choice: random.Random) -> Iterator[Planted]:
         yield Planted(text_of(replace(reply, number=0)), "number", 0, reply.number)
     if isinstance(reply, Closed):
         yield from wrong_numbers(reply, ("excess", "remainder"), choice)
-    if isinstance(reply, Settlement):
+    if isinstance(reply, Settled):
         yield from in_settlement(reply, choice)
     digits = choice.choice([text_of(reply) + "0", text_of(reply)[:-1], "", " " + text_of(reply)])
     yield Planted(digits, "reply", digits, text_of(reply))
 
 
 def wrong_numbers(
-    reply: Closed | Settlement, names: tuple[str, ...], choice: random.Random
+    reply: Closed | Settled, names: tuple[str, ...], choice: random.Random
 ) -> Iterator[Planted]:
     for name in names:
         right = getattr(reply, name)
@@ -97,17 +97,17 @@ def wrong_numbers(
         yield Planted(text, name.replace("_", " "), wrong, right)
 
 
-def in_settlement(reply: Settlement, choice: random.Random) -> Iterator[Planted]:
+def in_settlement(reply: Settled, choice: random.Random) -> Iterator[Planted]:
     names = ("price", "demand", "total", "choices", "covering")
     yield from wrong_numbers(reply, (*names, "remainder", "second_price", "price_paid"), choice)
-    for name in ("second_is_short", "participation_is_insufficient"):
+    for name in ("short", "insufficient"):
         right = getattr(reply, name)
         text = text_of(replace(reply, **{name: not right}))
         yield Planted(text, name.replace("_", " "), not right, right)
     yield from in_awards(reply, choice)
 
 
-def in_awards(reply: Settlement, choice: random.Random) -> Iterator[Planted]:
+def in_awards(reply: Settled, choice: random.Random) -> Iterator[Planted]:
     awards = list(reply.awards)
     place = choice.randrange(len(awards))
     for name in ("project", "developer", "quantity"):
@@ -232,8 +232,8 @@ class Words(unittest.TestCase):
         self.assertEqual(self.said(6, "7700"), [f"line 6 (opening): {expected}"])
 
     def test_marks(self) -> None:
-        said = self.settled(second_is_short=True)
-        self.assertEqual(said, ["line 11 (settling): second is short: yes, the reference has no"])
+        said = self.settled(short=True)
+        self.assertEqual(said, ["line 11 (settling): short: yes, the reference has no"])
 
     def test_price_paid(self) -> None:
         said = self.settled(price_paid=22_000)
@@ -466,14 +466,14 @@ class Command(unittest.TestCase):
         self.assertEqual(output, "record,replies,line,call,field,value,reference\n")
 
     def test_csv_of_marks_and_odd_lines(self) -> None:
-        settlement = replace(sample().replies()[-1], second_is_short=True)
+        settlement = replace(sample().replies()[-1], short=True)
         lines = self.right.splitlines()
         texts = [lines[0], 'a,"b"\x00\r', *lines[2:10], text_of(settlement), "0500"]
         _, output, _ = self.run_main(SAMPLE, self.file("odd", joined(texts)), "--csv", "-")
         rows = [(row["field"], row["value"], row["reference"]) for row in self.read_back(output)]
         expected = [
             ("reply", r'a,"b"\x00\r', "0200"),
-            ("second is short", "1", "0"),
+            ("short", "1", "0"),
             ("line", "0500", ""),
         ]
         self.assertEqual(rows, expected)

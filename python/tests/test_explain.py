@@ -18,7 +18,7 @@ from records import (
     processor_seconds,
     random_record,
     sample,
-    untraced,
+    lengthened,
     with_agents,
 )
 from reference_engine import MEANINGS, Record, command
@@ -170,11 +170,11 @@ class ExplainTest(unittest.TestCase):
     def test_empty_record(self) -> None:
         self.assertEqual(self.run_on(b""), (1, "no line\n", "the record has no line\n"))
 
-    def test_record_that_trace_does_not_read(self) -> None:
-        status, text, err = self.run_on(untraced())
+    def test_beyond_64_kib(self) -> None:
+        status, text, err = self.run_on(lengthened())
         self.assertEqual((status, err), (0, ""))
-        self.assertIn("\n10  close -> excess -55, remainder 0\n", text)
-        self.assertIn("    choices: 4 admissible, 3 covering\n", text)
+        self.assertIn("\n10  close -> excess -55, remainder 0; the auction is closed\n", text)
+        self.assertIn("    choices: 4 admissible, 3 covering, 2 kept by the search\n", text)
 
     # ---- random records
 
@@ -196,7 +196,7 @@ class ExplainTest(unittest.TestCase):
         self.assertEqual(
             [(int(excess), int(remainder), end == "is") for excess, remainder, end in closings],
             [
-                (each.excess, each.remainder, each.closes_auction)
+                (each.excess, each.remainder, each.ended)
                 for each in auction.rounds
                 if each.closed
             ],
@@ -206,8 +206,8 @@ class ExplainTest(unittest.TestCase):
             [tuple(map(int, award)) for award in awards],
             [
                 (award.project, award.developer, award.quantity)
-                for each in auction.settled
-                for award in each.settlement.awards
+                for _ in auction.settled
+                for award in auction.settlement.awards
             ],
         )
 

@@ -255,29 +255,16 @@ class Forcing(Untouched):
 
 class Built(unittest.TestCase):
     def test_what_is_missing_is_named(self) -> None:
-        for name in ("REFERENCE_ENGINE_LIBRARY", "REFERENCE_ENGINE_TRACE"):
-            call = "demand(20000, 1000, 900, 1200, 20000)"
-            if name.endswith("TRACE"):
-                call = "library.traced(b'')"
-            script = f"from reference_engine import *; from reference_engine import library; {call}"
-            done = subprocess.run(
-                [sys.executable, "-c", script],
-                env={**os.environ, name: "/nowhere/to/be/found"},
-                capture_output=True,
-                text=True,
-            )
-            self.assertIn(NotBuilt.__name__, done.stderr)
-            self.assertIn("/nowhere/to/be/found is missing", done.stderr)
-            self.assertIn("python/build", done.stderr)
-
-    def test_trace_of_the_sample(self) -> None:
-        record = (ROOT / "crates/trace/stdin").read_bytes()
-        self.assertEqual(library.traced(record), (ROOT / "crates/trace/stdout").read_text())
-
-    def test_trace_of_the_longest(self) -> None:
-        self.assertEqual(library.traced(b"0" * 65_536), "FF0C\n")
-        with self.assertRaises(ValueError):
-            library.traced(b"0" * 65_537)
+        script = "from reference_engine import *; demand(20000, 1000, 900, 1200, 20000)"
+        done = subprocess.run(
+            [sys.executable, "-c", script],
+            env={**os.environ, "REFERENCE_ENGINE_LIBRARY": "/nowhere/to/be/found"},
+            capture_output=True,
+            text=True,
+        )
+        self.assertIn(NotBuilt.__name__, done.stderr)
+        self.assertIn("/nowhere/to/be/found is missing", done.stderr)
+        self.assertIn("python/build", done.stderr)
 
 
 class Meanings(unittest.TestCase):

@@ -19,9 +19,8 @@ from reference_engine import library
 from reference_engine.__main__ import main
 
 SAMPLE = str(ROOT / "crates/replay/stdin")
-FALSE = shutil.which("false") or ""  # ends with status 1, whatever it is given
 LIBRARY = ROOT / "python/reference_engine/native/libreference_engine.so"
-COMMANDS = ("compare", "report", "table", "figure", "explain", "show", "build", "fix")
+COMMANDS = ("compare", "report", "table", "figure", "explain", "show", "build", "fix", "record")
 
 
 def run(*arguments: str, **options: object) -> subprocess.CompletedProcess[str]:
@@ -75,12 +74,6 @@ class CommandLine(unittest.TestCase):
             done = run("explain", SAMPLE, env={**os.environ, "REFERENCE_ENGINE_LIBRARY": path})
             self.assertEqual((done.returncode, done.stderr.count("\n")), (2, 1))
             self.assertIn(said, done.stderr)
-
-    def test_trace_ends_badly(self) -> None:
-        done = run("explain", SAMPLE, env={**os.environ, "REFERENCE_ENGINE_TRACE": FALSE})
-        self.assertEqual((done.returncode, done.stdout), (2, ""))
-        said = f"Command '['{FALSE}']' returned non-zero exit status 1."
-        self.assertEqual(done.stderr, f"python3 -m reference_engine: {said}\n")
 
     def test_names_that_cannot_be_printed(self) -> None:
         with tempfile.TemporaryDirectory() as folder:
@@ -182,8 +175,6 @@ class SwappedIn(unittest.TestCase):
             done = run("--version", env={**os.environ, "REFERENCE_ENGINE_LIBRARY": str(other)})
             self.assertIn("reference_engine not known, library SHA-256 ", done.stdout)
             self.assertIn(swapped, done.stdout)
-        with mock.patch.dict(os.environ, REFERENCE_ENGINE_TRACE=str(LIBRARY.with_name("trace"))):
-            self.assertIn("REFERENCE_ENGINE_TRACE=", left("explain", SAMPLE)[1])
 
 
 if __name__ == "__main__":

@@ -25,12 +25,15 @@ import reference_engine  # noqa: E402
 
 # A user's program with one wrong type.
 PROGRAM = """\
-from reference_engine import Award, Record, Settlement, Step, demand, engine
+from reference_engine import AUCTIONEER, Award, Phase, Record, Session, Settled, Step
+from reference_engine import demand, engine
 
 record = Record().set_up(20_000, 1_000, 900, 1_200, 40_000).offer(2, [(1, 2), Step(1, 2)])
 for reply in record.copy().replies():
-    if isinstance(reply, Settlement):
+    if isinstance(reply, Settled):
         awards: tuple[Award, ...] = reply.awards
+hall: Session = Session().at(AUCTIONEER).close().copy()
+phases: list[Phase] = [record.state().phase, hall.reading(AUCTIONEER).phase]
 version: str = engine().version
 found: str = demand(1, 2, 3, 4, 5)
 """
@@ -90,8 +93,6 @@ class Wheel(unittest.TestCase):
                 found = base64.urlsafe_b64encode(hashlib.sha256(content).digest()).decode()
                 self.assertEqual(digest, "sha256=" + found.rstrip("="))
                 self.assertEqual(int(length), len(content))
-            trace = wheel.getinfo("reference_engine/native/trace").external_attr >> 16
-            self.assertTrue(trace & 0o100)
         sources = {f"reference_engine/{path.name}" for path in backend._PACKAGE.glob("*.py")}
         self.assertLess({*sources, "reference_engine/py.typed"}, set(recorded))
 
@@ -127,12 +128,11 @@ class Wheel(unittest.TestCase):
 
     def test_unpacked(self) -> None:
         script = (
-            "import reference_engine as r; from reference_engine import library; "
-            "print(r.__file__, r.demand(20000, 1000, 900, 1200, 29999), library.traced(b'0g'))"
+            "import reference_engine as r; "
+            "print(r.__file__, r.demand(20000, 1000, 900, 1200, 29999), r.replay(b'0g'))"
         )
         with zipfile.ZipFile(self.folder / self.name) as wheel:
             wheel.extractall(self.folder)
-        (self.folder / "reference_engine/native/trace").chmod(0o755)  # zipfile drops modes
         done = subprocess.run(
             [sys.executable, "-c", script],
             cwd=self.folder,
@@ -142,7 +142,7 @@ class Wheel(unittest.TestCase):
             check=True,
         )
         place = self.folder / "reference_engine/__init__.py"
-        self.assertEqual(done.stdout, f"{place} 951 FF0C\n\n")
+        self.assertEqual(done.stdout, f"{place} 951 [Reply(kind=255, number=12)]\n")
 
     def test_not_built(self) -> None:
         with mock.patch.object(backend, "_NATIVE", ("nothing.so",)):

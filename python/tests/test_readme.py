@@ -87,7 +87,7 @@ class PythonReadme(Shown):
         self.read("python/README.md")
 
     def test_blocks(self) -> None:
-        self.assertPrinted(5)
+        self.assertPrinted(7)
         sample = self.folder / "sample.record"
         self.assertEqual(sample.read_bytes(), (ROOT / "crates/replay/stdin").read_bytes())
         self.assertIn("</svg>", (self.folder / "report.html").read_text(encoding="utf-8"))

@@ -21,9 +21,22 @@ from records import (
     with_agents,
 )
 import reference_engine
-from reference_engine import MEANINGS, Award, Closed, Record, Refused, Reply, Settlement, Step
+from reference_engine import (
+    AUCTIONEER,
+    MEANINGS,
+    Award,
+    Closed,
+    CurvePoint,
+    Record,
+    Refused,
+    Reply,
+    Seat,
+    Session,
+    Settled,
+    Step,
+)
 from reference_engine import library, replay
-from reference_engine.auction import CurvePoint, read_auction
+from reference_engine.auction import read_auction
 from reference_engine.calls import (
     Cancellation,
     Closing,
@@ -173,15 +186,26 @@ class Building(unittest.TestCase):
 
 
 class WrongTypes(unittest.TestCase):
-    right = {"record": b"", "replies": "", "prices": [1], "offers": [], "levels": [1], "steps": []}
+    right = {
+        "record": b"",
+        "replies": "",
+        "prices": [1],
+        "offers": [],
+        "levels": [1],
+        "steps": [],
+        "seat": AUCTIONEER,
+        "frame": b"05",
+    }
 
     def test_every_public_function(self) -> None:
         """One argument that is none, beside others that are right, raises TypeError."""
         named = [getattr(reference_engine, name) for name in reference_engine.__all__]
         calls = [each for each in named if inspect.isfunction(each)]
-        record = Record()
-        methods = inspect.getmembers(record, inspect.ismethod)
-        calls += [method for name, method in methods if not name.startswith("_")]
+        record, session = Record(), Session()
+        for each in (record, session, session.at(AUCTIONEER)):
+            methods = inspect.getmembers(each, inspect.ismethod)
+            calls += [method for name, method in methods if not name.startswith("_")]
+        calls += [Seat, Seat.developer]
         tried = 0
         for call in calls:
             names = list(inspect.signature(call).parameters)
@@ -191,7 +215,7 @@ class WrongTypes(unittest.TestCase):
                     with self.assertRaises(TypeError):
                         call(**arguments)
                     tried += 1
-        self.assertEqual((tried, record), (41, Record()))
+        self.assertEqual((tried, record, session), (42 + 36, Record(), Session()))
 
 
 class Files(unittest.TestCase):
@@ -238,7 +262,7 @@ class Replaying(unittest.TestCase):
         expected.append(Closed(5, 0, -55, 0))
         awards = (Award(1, 1, 820), Award(2, 3, 200))
         expected.append(
-            Settlement(
+            Settled(
                 6, 0, 26_000, 970, 1_020, 4, 3, awards, 0, 26_000, False, False, 26_000
             )
         )
@@ -251,25 +275,26 @@ class Replaying(unittest.TestCase):
         (only,) = auction.rounds
         self.assertEqual((only.opening, only.c), (40_000, 25_000))
         self.assertEqual((only.supply, only.demand), (920, 975))
-        self.assertEqual((only.excess, only.remainder, only.closes_auction), (-55, 0, True))
-        self.assertEqual(auction.curve, [CurvePoint(26_000, 1_170, 920)])
-        self.assertEqual([settled.kept for settled in auction.settled], [2])
+        self.assertEqual((only.excess, only.remainder, only.ended), (-55, 0, True))
+        self.assertEqual(auction.curve, (CurvePoint(26_000, 1_170, 920),))
+        self.assertEqual([line.number for line in auction.settled], [11])
+        self.assertEqual(auction.settlement.kept, 2)
         self.assertEqual([len(only.moves), len(auction.registrations)], [3, 4])
         self.assertEqual((auction.refused, auction.settling_failed), ([], False))
 
     def test_lodging(self) -> None:
         found = lodged(550_000).replies()[-1]
         self.assertEqual((found.price, found.total), (29_990, 1_250_000))
-        self.assertEqual((found.second_price, found.second_is_short), (30_000, False))
+        self.assertEqual((found.second_price, found.short), (30_000, False))
         found = lodged(499_999).replies()[-1]
-        self.assertEqual((found.second_price, found.second_is_short), (40_000, True))
+        self.assertEqual((found.second_price, found.short), (40_000, True))
 
     def test_agents(self) -> None:
         for new, insufficient, paid in ((300_001, True, 22_000), (300_000, False, 30_000)):
             record = with_agents(new)
             found = record.replies()[-1]
             self.assertEqual((found.price, found.demand), (30_000, 950_000))
-            self.assertEqual(found.participation_is_insufficient, insufficient)
+            self.assertEqual(found.insufficient, insufficient)
             self.assertEqual(found.price_paid, paid)
         self.assertTrue(bytes(record).split(b"\n")[1].startswith(b"0801010105"))
 
@@ -301,7 +326,7 @@ class Replaying(unittest.TestCase):
             malformed,
             [(2, Malformed(b"0g\r")), (3, Malformed(b"")), (14, Malformed(b"\xff\x00"))],
         )
-        self.assertEqual(auction.settled[0].settlement.price, 26_000)
+        self.assertEqual(auction.settlement.price, 26_000)
 
     def test_empty(self) -> None:
         self.assertEqual((replay(b""), Record().lines(), read_auction(b"").rounds), ([], [], []))
@@ -316,7 +341,7 @@ class Replaying(unittest.TestCase):
             record.settle(1)
         began = processor_seconds()
         replies = record.replies()
-        settled = [reply for reply in replies if isinstance(reply, Settlement)]
+        settled = [reply for reply in replies if isinstance(reply, Settled)]
         self.assertEqual({len(reply.awards) for reply in settled}, {32})
         self.assertEqual(len(settled), len(replies) - 35)
         self.assertGreater(len(settled), 5_000)
@@ -329,14 +354,13 @@ class Replaying(unittest.TestCase):
         began = processor_seconds()
         auction = read_auction(record)
         self.assertEqual(len(auction.refused), 21_845)
-        self.assertTrue(auction.traced)
         self.assertLess(processor_seconds() - began, 30)
 
-    def test_beyond_the_trace(self) -> None:
-        auction = read_auction(SAMPLE + b"05\n" * 22_000)
-        self.assertFalse(auction.traced)
+    def test_beyond_64_kib(self) -> None:
+        auction, known = read_auction(SAMPLE + b"05\n" * 22_000), read_auction(SAMPLE)
         self.assertEqual((len(auction.refused), auction.rounds[0].supply), (22_000, 920))
-        self.assertEqual((auction.curve, auction.rounds[0].closes_auction), ([], None))
+        self.assertEqual((auction.curve, auction.rounds[0].ended), (known.curve, True))
+        self.assertEqual(auction.settlement, known.settlement)
 
 
 if __name__ == "__main__":

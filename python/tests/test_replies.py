@@ -5,7 +5,7 @@ from __future__ import annotations
 import random
 import unittest
 
-from reference_engine import Award, Closed, Reply, Settlement
+from reference_engine import Award, Closed, Reply, Settled
 from reference_engine.replies import reply_in
 
 CLOSED = "0500FFFFFFFFFFFFFFC900000000"
@@ -40,7 +40,7 @@ class Reading(unittest.TestCase):
         awards = (Award(1, 1, 300_000), Award(2, 2, 400_000), Award(3, 3, 550_000))
         self.assertEqual(
             reply_in(SETTLED),
-            Settlement(
+            Settled(
                 kind=6,
                 number=0,
                 price=29_990,
@@ -51,14 +51,14 @@ class Reading(unittest.TestCase):
                 awards=awards,
                 remainder=0,
                 second_price=30_000,
-                second_is_short=False,
-                participation_is_insufficient=False,
+                short=False,
+                insufficient=False,
                 price_paid=29_990,
             ),
         )
         marked = SETTLED[:-12] + "0101" + SETTLED[-8:]
         reply = reply_in(marked)
-        self.assertTrue(reply.second_is_short and reply.participation_is_insufficient)
+        self.assertTrue(reply.short and reply.insufficient)
 
     def test_cut_or_longer(self) -> None:
         for text in ("0100", "FF0C", CLOSED, SETTLED):

@@ -26,7 +26,7 @@ from records import (
     random_record,
     ready,
     sample,
-    untraced,
+    lengthened,
     with_agents,
 )
 from reference_engine import Record, __version__, command
@@ -143,30 +143,27 @@ def tables_of(auction: Auction) -> Tables:
         figures = [each.supply, each.demand, each.remainder, each.excess]
         tables["rounds"].append([each.number, each.opening, each.c, *figures])
     tables["curve"] += [[point.price, point.before, point.after] for point in auction.curve]
-    if not auction.settled:
+    last = auction.settlement
+    if last is None:
         return tables
-    last = auction.settled[-1]
-    for award in last.settlement.awards:
+    for award in last.awards:
         plant = auction.registration_of(award.developer)
         assert plant is not None
         agent = plant.agent or plant.developer
         kind = {1: "existing", 2: "new"}[plant.kind]
         tables["award"].append([award.project, award.developer, agent, kind, award.quantity])
     tables["settlement"] += [
-        [f"closing price {PRICE}", last.settlement.price],
-        [f"second price {PRICE}", last.settlement.second_price],
-        ["second price is short", ["no", "yes"][last.settlement.second_is_short]],
-        [f"demand {QUANTITY}", last.settlement.demand],
-        [f"remainder {REMAINDER}", last.settlement.remainder],
-        [f"total {QUANTITY}", last.settlement.total],
-        ["admissible choices", last.settlement.choices],
-        ["covering choices", last.settlement.covering],
+        [f"closing price {PRICE}", last.price],
+        [f"second price {PRICE}", last.second_price],
+        ["second price is short", ["no", "yes"][last.short]],
+        [f"demand {QUANTITY}", last.demand],
+        [f"remainder {REMAINDER}", last.remainder],
+        [f"total {QUANTITY}", last.total],
+        ["admissible choices", last.choices],
+        ["covering choices", last.covering],
         ["choices that the search keeps", last.kept],
-        [
-            "participation is insufficient",
-            ["no", "yes"][last.settlement.participation_is_insufficient],
-        ],
-        [f"price paid to existing plants {PRICE}", last.settlement.price_paid],
+        ["participation is insufficient", ["no", "yes"][last.insufficient]],
+        [f"price paid to existing plants {PRICE}", last.price_paid],
     ]
     return tables
 
@@ -425,15 +422,11 @@ class TableTest(unittest.TestCase):
             self.assertEqual(main(["table", str(self.path.with_name("missing"))]), 2)
         self.assertIn("missing", err.getvalue())
 
-    def test_record_that_trace_does_not_read(self) -> None:
-        tables = self.check_read_back(untraced())
-        self.assertEqual(len(tables["curve"]), 1)
-        self.assertIn(["choices that the search keeps", None], tables["settlement"])
-        status, text, err = self.run_on(untraced(), "--part", "curve")
-        self.assertEqual(status, 0)
-        for said in (text.lower(), err):
-            self.assertIn("not known: the record has more than 65,536 bytes", said)
-        self.assertEqual(self.run_on(untraced(), "--part", "rounds")[2], "")
+    def test_beyond_64_kib(self) -> None:
+        tables, known = self.check_read_back(lengthened()), self.check_read_back(sample())
+        for name in ("rounds", "curve", "award", "settlement"):
+            self.assertEqual(tables[name], known[name])
+        self.assertEqual(self.run_on(lengthened())[::2], (0, ""))
 
     def test_long_record_is_fast(self) -> None:
         record = long_record()

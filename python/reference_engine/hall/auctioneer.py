@@ -5,20 +5,18 @@ from __future__ import annotations
 from collections.abc import Mapping, Sequence
 
 from .. import library
-from ..auction import Auction, Round, Settled
-from ..auction import CurvePoint as Point
-from ..calls import KINDS, Closing, Lodging, Opening, Registration, SetUp
+from ..auction import Auction, enter
+from ..calls import KINDS, Lodging, Registration
 from ..figures import BROAD, NARROW, demand_and_supply
+from ..live import Phase, State
 from ..markup import Markup, element, joined, price, quantity
 from ..record import Line
 from ..refusals import Refused
-from ..replies import Closed, Settlement
-from ..session import AUCTIONEER, CurvePoint, Phase, Seat
+from ..session import AUCTIONEER, Seat
 from . import common
 from .common import form, step_fields, with_name
 from .drawing import Form, Part, button, buttons, figures, note, part, row, table
 from .forms import PLANTS, STEPS, Game
-from .hall import Asked
 from .seats import Seated
 from .views import View
 from .words import PRICE, QUANTITY, step_in_words
@@ -27,7 +25,6 @@ from .words import PRICE, QUANTITY, step_in_words
 def parts(view: View, seated: Sequence[Seated], game: Game | None) -> list[Part]:
     """The parts of the page; `game` is a question who can force the price."""
     names = {each.seat: each.name for each in seated}
-    points = view.supply_curve()
     return [
         common.state(view),
         common.answer(view),
@@ -40,7 +37,7 @@ def parts(view: View, seated: Sequence[Seated], game: Game | None) -> list[Part]
         common.settling(view),
         _forcing(view, game),
         common.settlement(view, names),
-        _curve(view, points),
+        _curve(view),
         _plants(view, names),
         _seats(view, seated),
         common.calls(view),
@@ -266,44 +263,39 @@ def _forcing(view: View, game: Game | None) -> Part:
 # ---- the supply curve
 
 
-def _curve(view: View, points: Sequence[CurvePoint]) -> Part:
-    auction = _told(view, points)
-    if auction.settings is None or not any(each.closed for each in auction.rounds):
+def _curve(view: View) -> Part:
+    auction = _told(view)
+    if not any(each.closed for each in auction.rounds):
         return Part("curve", whole=True)
     drawn = joined(
         element("div", demand_and_supply(auction, BROAD), class_="broad"),
         element("div", demand_and_supply(auction, NARROW), class_="narrow"),
     )
-    shown: list[str] = [drawn]
-    if points:
-        rows = [(price(each.price), quantity(each.before), quantity(each.after)) for each in points]
+    listed = note("Nobody has withdrawn yet.")
+    if auction.curve:
+        rows = [
+            (price(each.price), quantity(each.before), quantity(each.after))
+            for each in auction.curve
+        ]
         heads = (f"Price, {PRICE}", f"Supply before, {QUANTITY}", f"Supply after, {QUANTITY}")
-        listed = table("Points of the supply curve", heads, rows, "nnn")
-        shown.append(element("details", element("summary", "Withdrawal prices"), listed))
-    else:
-        shown.append(note("Nobody has withdrawn yet."))
-    return part("curve", "Supply curve", *shown, whole=True)
+        points = table("Points of the supply curve", heads, rows, "nnn")
+        listed = element("details", element("summary", "Withdrawal prices"), points)
+    return part("curve", "Supply curve", drawn, listed, whole=True)
 
 
-def _told(view: View, points: Sequence[CurvePoint]) -> Auction:
-    """The auction as far as this seat's own calls and its look at the curve tell it."""
-    auction = Auction([], True, library.engine(), "", b"", [])
-    auction.curve = [Point(each.price, each.before, each.after) for each in points]
-    for number, asked in enumerate(view.accepted(), 1):
-        line = Line(number, b"", asked.call, asked.reply, asked.reply_text)
-        if isinstance(asked.call, SetUp):
-            auction.settings = asked.call
-        elif isinstance(asked.call, Opening) and auction.settings:
-            opening = auction.rounds[-1].c if auction.rounds else auction.settings.a
-            count = len(auction.rounds) + 1
-            auction.rounds.append(Round(count, opening, asked.call.c, line))
-        elif isinstance(asked.reply, Closed):
-            now = auction.rounds[-1]
-            now.closed, now.excess = line, asked.reply.excess
-            now.demand = auction.demand_at(now.c)
-            now.supply = now.excess + now.demand
-        elif isinstance(asked.reply, Settlement):
-            auction.settled = [Settled(line, asked.reply, None)]
+def _told(view: View) -> Auction:
+    """The auction as far as this seat's own calls and its looks tell it, for the figure."""
+    reading = view.known.reading
+    lines = [
+        Line(number, b"", each.call, each.reply, each.reply_text)
+        for number, each in enumerate(view.accepted(), 1)
+    ]
+    closings = sum(line.reply.kind == 0x05 for line in lines)
+    state = State(reading.phase, reading.opening, reading.closing, reading.excess, closings)
+    looks = view.supply_curve(), None, view.settlement()
+    auction = Auction(lines, library.engine(), "", b"", [], state, *looks)
+    for line in lines:
+        enter(auction, line)
     return auction
 
 

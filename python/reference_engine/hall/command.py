@@ -6,8 +6,7 @@ import argparse
 import socket
 from collections.abc import Iterable
 
-from ..command import BadInput, Commands, read, write_new
-from ..session import Session
+from ..command import BadInput, Commands, read
 from .application import Application
 from .hall import Hall
 from .roster import Listed, read_roster
@@ -19,8 +18,8 @@ serves their pages until Ctrl-C. Each call is a line of SESSION, synced before i
 started again on the same file, the hall goes on where it stopped. Links and names stand in
 SESSION.seats, which its owner alone reads, and stay the same. docs/HALL.md is for teachers.
 
-With --links the links are printed, and with --record the session's record is written for report
-and table; then the command ends. Exit status: 0, or 2 for bad usage and where it cannot go on.
+The command record makes the session's record, for report and table. With --links the links are
+printed, and nothing is served. Exit status: 0, or 2 for bad usage and where it cannot go on.
 """
 
 
@@ -39,19 +38,12 @@ def add_to(commands: Commands) -> None:
     )
     parser.add_argument("--port", type=int, default=8000, help="the port, 8000 if not given")
     parser.add_argument("--url", help="what links begin with, such as http://192.168.1.5:8000")
-    ending = parser.add_mutually_exclusive_group()
-    ending.add_argument("--links", action="store_true", help="print the links and end")
-    ending.add_argument("--record", metavar="RECORD", help="write the session's record and end")
+    parser.add_argument("--links", action="store_true", help="print the links and end")
     parser.set_defaults(run=run)
 
 
 def run(chosen: argparse.Namespace) -> int:
     """Runs the command and gives its exit status."""
-    if chosen.record is not None:
-        content = read(chosen.session)
-        whole = content[: content.rfind(b"\n") + 1]  # what the hall would go on with
-        write_new(chosen.record, bytes(Session(whole).record()))
-        return 0
     listed = read_roster(read(chosen.seats), chosen.seats) if chosen.seats else []
     if not 0 <= chosen.port < 2**16:
         raise BadInput(f"--port is {chosen.port}, and must be from 0 to {2**16 - 1}")

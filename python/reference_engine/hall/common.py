@@ -4,9 +4,9 @@ from __future__ import annotations
 
 from collections.abc import Callable, Mapping, Sequence
 
+from ..live import Phase, Settlement
 from ..markup import Markup, element, joined, price, quantity
-from ..replies import Settlement
-from ..session import Phase, Seat
+from ..session import Seat
 from .drawing import Form, Part, button, buttons, figures, note, part, row, table
 from .views import View
 from .words import PHASES, PRICE, QUANTITY, answer_in_words, call_in_words
@@ -117,8 +117,8 @@ def settlement(view: View, names: Mapping[Seat, str]) -> Part:
 
 
 def _settled(found: Settlement) -> Markup:
-    short = ", marked short" if found.second_is_short else ""
-    participation = "insufficient" if found.participation_is_insufficient else "sufficient"
+    short = ", marked short" if found.short else ""
+    participation = "insufficient" if found.insufficient else "sufficient"
     return figures(
         [
             ("Closing price", price(found.price), PRICE),
@@ -129,6 +129,7 @@ def _settled(found: Settlement) -> Markup:
             ("Participation of small agents", participation, ""),
             ("Admissible choices", quantity(found.choices), ""),
             ("Choices that cover demand", quantity(found.covering), ""),
+            ("Choices that the search keeps", quantity(found.kept), ""),
         ]
     )
 

@@ -2,8 +2,8 @@
 
 from __future__ import annotations
 
+from ..live import Phase
 from ..markup import element, price, quantity
-from ..session import Phase
 from . import common
 from .common import form, step_fields
 from .drawing import Part, button, buttons, note, part, table

@@ -16,10 +16,11 @@ from ..calls import (
     SetUp,
     Settling,
 )
+from ..live import CurvePoint, Preview, Settlement
 from ..markup import pointed
 from ..refusals import Refused
-from ..replies import Reply, Settlement
-from ..session import CurvePoint, Preview, Seat, Session
+from ..replies import Reply
+from ..session import Seat, Session
 from .forms import Typed
 from .hall import Asked, Known
 from .words import refused
@@ -44,9 +45,9 @@ class View:
         return [each for each in self.known.asked if each.reply.number == 0]
 
     def settlement(self) -> Settlement | None:
-        """The reply to the seat's latest accepted settling."""
-        found = [each.reply for each in self.accepted() if isinstance(each.reply, Settlement)]
-        return found[-1] if found else None
+        """What settling gives, once a settling of this seat was accepted."""
+        found = [each.call for each in self.accepted() if isinstance(each.call, Settling)]
+        return self.known.session.settlement(self.seat, found[-1].limit) if found else None
 
     def preview(self) -> Preview | None:
         """What closing would answer, where the library tells this seat."""

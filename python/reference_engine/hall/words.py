@@ -15,10 +15,10 @@ from ..calls import (
     Settling,
     Step,
 )
+from ..live import Phase
 from ..markup import price, quantity
 from ..refusals import Refusal
-from ..replies import Closed, Reply, Settlement
-from ..session import Phase
+from ..replies import Closed, Reply, Settled
 
 #: Each phase, in a word or two and in a sentence.
 PHASES: dict[Phase, tuple[str, str]] = {
@@ -145,6 +145,6 @@ def answer_in_words(reply: Reply) -> str:
         return f"Refused ({reply.number}). {refused(reply)[1]}"
     if isinstance(reply, Closed):
         return f"Accepted: the excess is {quantity(reply.excess)} {QUANTITY}."
-    if isinstance(reply, Settlement):
+    if isinstance(reply, Settled):
         return f"Accepted: the closing price is {price(reply.price)} {PRICE}."
     return "Accepted."
