@@ -156,7 +156,7 @@ def _plants(view: View, names: Mapping[Seat, str]) -> Part:
         for each in view.accepted()
         if isinstance(each.call, Lodging)
     }
-    rows = [
+    rows: list[Sequence[str]] = [
         (
             with_name(each.developer, names),
             *_plant(each.project, each.kind, each.levels),

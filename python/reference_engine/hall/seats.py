@@ -119,9 +119,11 @@ def _read(path: Path) -> list[Seated]:
 
 
 def _seated(row: dict[str, Any]) -> Seated:
-    plant = row["plant"]
-    if plant is not None:
-        plant = Plant(**{**plant, "levels": tuple(plant["levels"])})
+    plant: Plant | None = None
+    if row["plant"] is not None:
+        fields: dict[str, Any] = dict(row["plant"])
+        fields["levels"] = tuple(fields["levels"])
+        plant = Plant(**fields)
     if not (isinstance(row["key"], str) and row["key"].isascii() and len(row["key"]) >= 22):
         raise ValueError("not a key")
     return Seated(Seat(**row["seat"]), row["key"], str(row["name"]), plant)

@@ -96,7 +96,7 @@ class View:
         return max(len(call.steps), 1)
 
 
-_FORMS: dict[type[Call], str] = {  # type: ignore[valid-type]
+_FORMS: dict[type[Call], str] = {
     SetUp: "set_up",
     Registration: "register",
     Opening: "open",
