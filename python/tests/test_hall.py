@@ -90,7 +90,7 @@ class WholeSession(HallTest):
         self.assertReplies(auctioneer.post("lodge", lodged), "0700")
         self.assertReplies(auctioneer.post("open", c="30"), "0300")
         page = words_of(carla.get())
-        for figure in ("40.000 US$ per MWh", "30.000 US$ per MWh", "275,000, 550,000 kWh per day"):
+        for figure in ("40.000 US$ per MWh", "30.000 US$ per MWh", "275,000 · 550,000 kWh per day"):
             self.assertIn(figure, page)
         self.assertReplies(carla.post("offer", price1="32.5", level1="275000"), "0400")
         self.assertIn("32.500 275,000", words_of(carla.get()))
@@ -150,7 +150,7 @@ class WholeSession(HallTest):
         key = served.at(DEVELOPER[9]).key
         self.assertEqual(served.said, [f"developer 9: http://hall/{key}"])
         self.assertNotIn(key, auctioneer.get().text)
-        self.assertIn("100, 2,000, 30,000", words_of(served.at(DEVELOPER[9]).get()))
+        self.assertIn("100 · 2,000 · 30,000", words_of(served.at(DEVELOPER[9]).get()))
 
 
 class Refusals(HallTest):
@@ -260,7 +260,7 @@ class Secrecy(HallTest):
                 hall = Hall(self.path, CLASS)
                 texts.append(_called(Application(hall), hall, DEVELOPER[3]))
                 hall.close()
-            self.assertIn("275,000, 550,000", texts[0])
+            self.assertIn("275,000 · 550,000", texts[0])
             self.assertEqual(*texts)
 
     def test_no_page_has_a_link_or_others_values(self) -> None:

@@ -39,17 +39,19 @@ def _call(seat: Seat, number: int) -> tuple[str, dict[str, str]]:
 class _Seat(threading.Thread):
     """A client of a seat, one call at a time; `times` has the seconds of each."""
 
-    def __init__(self, client: Client, seat: Seat, numbers: range, pause: float) -> None:
+    def __init__(
+        self, client: Client, seat: Seat, numbers: range, pause: float, first: float
+    ) -> None:
         super().__init__()
-        self.client, self.seat, self.numbers, self.pause = client, seat, numbers, pause
+        self.client, self.seat, self.numbers = client, seat, numbers
+        self.pause, self.first = pause, first
         self.asked: list[tuple[bytes, str | None]] = []
         self.times: list[float] = []
 
     def run(self) -> None:
-        begun = time.monotonic()
+        begun = time.monotonic() + self.first
         for count, number in enumerate(self.numbers):
-            if self.pause:
-                time.sleep(max(0.0, begun + count * self.pause - time.monotonic()))
+            time.sleep(max(0.0, begun + count * self.pause - time.monotonic()))
             form, fields = _call(self.seat, number)
             line, start = line_of(form, self.seat, fields), time.monotonic()
             reply = self.client.post(form, fields).reply
@@ -70,9 +72,10 @@ class Load(HallTest):
         begun = {seat: kept(self.path, seat) for seat in SEATS}
         calls = SECONDS * A_SECOND or CALLS
         each = calls // len(SEATS)
-        pause = len(SEATS) / A_SECOND if SECONDS else 0.0
+        first = 1 / A_SECOND if SECONDS else 0.0
+        pause = len(SEATS) * first
         clients = [
-            _Seat(served.at(seat), seat, range(place * each, (place + 1) * each), pause)
+            _Seat(served.at(seat), seat, range(place * each, (place + 1) * each), pause, place * first)
             for place, seat in enumerate(SEATS)
         ]
         start = time.monotonic()

@@ -103,7 +103,7 @@ def _listed(view: View, seated: Sequence[Seated]) -> Part:
 
 
 def _plant(project: int, kind: int, levels: Sequence[int]) -> tuple[str, str, str]:
-    return quantity(project), KINDS.get(kind, str(kind)), "  ".join(map(quantity, levels))
+    return quantity(project), KINDS.get(kind, str(kind)), " · ".join(map(quantity, levels))
 
 
 def _register(view: View) -> Part:
@@ -142,7 +142,7 @@ def _lodge(view: View) -> Part:
     steps = max(len(each.levels) for each in existing)
     drawn = given.drawn(
         row(given.field("developer", "Developer")),
-        step_fields(given, min(steps, STEPS), lambda name, label: given.field(name, label)),
+        step_fields(given, min(steps, STEPS), lambda name, label: given.field(name, label, beside=False)),
         buttons(button("Lodge the list")),
     )
     words = "Existing plants may lodge withdrawals for later. A list replaces the one before."
@@ -220,7 +220,6 @@ def _closing(view: View) -> Part:
                 ("Then the auction", outcome, ""),
             ]
         ),
-        element("p"),
         given.drawn(buttons(button("Close the round"))),
         whole=True,
         live=True,

@@ -81,15 +81,20 @@ def form(view: View, name: str) -> Form:
 
 
 def step_fields(
-    given: Form, count: int, level: Callable[[str, str], Markup], unit: str = PRICE
+    given: Form, count: int, level: Callable[[str, str], Markup]
 ) -> Markup:
-    """The fields of so many steps; `level` draws the field of a level by name and label."""
+    """The fields of so many steps; `level` draws the field of a level by name and label.
+
+    What is wrong with a step stands below it.
+    """
     rows = []
     for number in range(1, count + 1):
+        names = f"price{number}", f"level{number}"
         fields = (
             element("b", f"Step {number}"),
-            given.field(f"price{number}", f"at price, {unit}", "decimal"),
-            level(f"level{number}", f"down to, {QUANTITY}"),
+            given.field(names[0], f"at price, {PRICE}", "decimal", beside=False),
+            level(names[1], f"down to, {QUANTITY}"),
+            *map(given.fault, names),
         )
         described = {"role": "group", "aria_label": f"Step {number}"}
         rows.append(element("div", *fields, class_="row step", **described))
@@ -99,13 +104,13 @@ def step_fields(
 def settling(view: View) -> Part:
     """The form that settles the closed auction."""
     if view.known.reading.phase is not Phase.CLOSED:
-        return Part("settle")
+        return Part("settle", whole=True)
     given = form(view, "settle")
     drawn = given.drawn(
         row(given.field("limit", "Most admissible choices", value="65536")),
         buttons(button("Settle")),
     )
-    return part("settle", "Settle the auction", drawn)
+    return part("settle", "Settle the auction", drawn, whole=True)
 
 
 def settlement(view: View, names: Mapping[Seat, str]) -> Part:
@@ -122,14 +127,14 @@ def _settled(found: Settlement) -> Markup:
     return figures(
         [
             ("Closing price", price(found.price), PRICE),
-            ("Second price, for new plants", price(found.second_price), f"{PRICE}{short}"),
+            ("Price for new plants", price(found.second_price), f"{PRICE}{short}"),
             ("Paid to existing plants", price(found.price_paid), PRICE),
-            ("Demand at the closing price", quantity(found.demand), QUANTITY),
+            ("Demand at that price", quantity(found.demand), QUANTITY),
             ("Award's total", quantity(found.total), QUANTITY),
-            ("Participation of small agents", participation, ""),
+            ("Participation", participation, ""),
             ("Admissible choices", quantity(found.choices), ""),
-            ("Choices that cover demand", quantity(found.covering), ""),
-            ("Choices that the search keeps", quantity(found.kept), ""),
+            ("Covering choices", quantity(found.covering), ""),
+            ("Choices kept by search", quantity(found.kept), ""),
         ]
     )
 

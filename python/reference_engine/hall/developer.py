@@ -14,15 +14,17 @@ from .words import PRICE, QUANTITY
 
 def parts(view: View) -> list[Part]:
     """The parts of the page."""
-    return [common.state(view), common.answer(view), _offer(view), _own(view), common.calls(view)]
+    offer = _offer(view)
+    own = _own(view, whole=not offer.content)
+    return [common.state(view), common.answer(view), offer, own, common.calls(view)]
 
 
-def _own(view: View) -> Part:
+def _own(view: View, whole: bool) -> Part:
     """Declared levels and the standing offer."""
     reading = view.known.reading
     if not reading.levels:
-        return part("own", "Your plant", note("You are not registered yet."))
-    levels = ", ".join(quantity(level) for level in reading.levels)
+        return part("own", "Your plant", note("You are not registered yet."), whole=whole)
+    levels = " · ".join(quantity(level) for level in reading.levels)
     shown: list[str] = [element("p", "Declared levels: ", element("b", levels), f" {QUANTITY}")]
     if reading.phase is Phase.ROUND:
         shown.append(element("h3", "Your standing offer"))
@@ -34,7 +36,7 @@ def _own(view: View) -> Part:
             rows = [(price(step.price), quantity(step.level)) for step in reading.offer]
             heads = (f"At price, {PRICE}", f"down to, {QUANTITY}")
             shown.append(table("Steps of the standing offer", heads, rows, "nn"))
-    return part("own", "Your plant", *shown)
+    return part("own", "Your plant", *shown, whole=whole)
 
 
 def _offer(view: View) -> Part:
@@ -53,7 +55,7 @@ def _offer(view: View) -> Part:
         step_fields(
             given,
             min(len(reading.levels), STEPS),
-            lambda name, label: given.choice(name, label, levels),
+            lambda name, label: given.choice(name, label, levels, beside=False),
         ),
         buttons(
             button("Hand in the offer"),

@@ -37,18 +37,29 @@ def _unit(unit: str) -> list[Markup]:
 
 
 def table(caption: str, heads: Sequence[str], rows: Iterable[Sequence[str]], numbers: str) -> Markup:
-    """A table; `numbers` has a mark for each column, "n" for one of numbers."""
+    """A table; `numbers` has a mark for each column, "n" for one of numbers.
+
+    One of more than three columns is drawn on a phone as cards, a row each.
+    """
     classes: list[dict[str, str]] = [{"class_": "number"} if mark == "n" else {} for mark in numbers]
     head = [element("th", name, scope="col", **given) for name, given in zip(heads, classes)]
+    looks = {"class_": "cards"} if len(heads) > 3 else {}
     body = [
-        element("tr", *(element("td", cell, **given) for cell, given in zip(row, classes)))
-        for row in rows
+        element(
+            "tr",
+            *(
+                element("td", cell, data_name=name, **given)
+                for name, cell, given in zip(heads, cells, classes)
+            ),
+        )
+        for cells in rows
     ]
     drawn = element(
         "table",
         element("caption", caption, class_="unseen"),
         element("thead", element("tr", *head)),
         element("tbody", *body),
+        **looks,
     )
     return element("div", drawn, class_="scroll")
 
@@ -75,11 +86,13 @@ class Form:
 
     def group(self, field: str, legend: str, *content: str) -> Markup:
         """Fields that one refusal is about."""
-        described = self._described(field) if field in self.faults else {}
+        described = {**self._described(field), "tabindex": "-1"} if field in self.faults else {}
         return element("fieldset", element("legend", legend), *content, self.fault(field), **described)
 
-    def field(self, name: str, label: str, mode: str = "numeric", value: str = "") -> Markup:
-        """A field with its label."""
+    def field(
+        self, name: str, label: str, mode: str = "numeric", value: str = "", beside: bool = True
+    ) -> Markup:
+        """A field with its label, and what is wrong with it unless that stands elsewhere."""
         given = element(
             "input",
             id=self._id(name),
@@ -90,9 +103,11 @@ class Form:
             value=self.values.get(name, value),
             **self._described(name),
         )
-        return self._labelled(name, label, given)
+        return self._labelled(name, label, given, beside)
 
-    def choice(self, name: str, label: str, options: Mapping[str, str]) -> Markup:
+    def choice(
+        self, name: str, label: str, options: Mapping[str, str], beside: bool = True
+    ) -> Markup:
         """A field whose value is one of the options, each with what is shown for it."""
         chosen = self.values.get(name, "")
         drawn = []
@@ -100,10 +115,11 @@ class Form:
             selected = {"selected": "selected"} if value == chosen else {}
             drawn.append(element("option", words, value=value, **selected))
         given = element("select", *drawn, id=self._id(name), name=name, **self._described(name))
-        return self._labelled(name, label, given)
+        return self._labelled(name, label, given, beside)
 
-    def _labelled(self, name: str, label: str, given: Markup) -> Markup:
-        return element("div", element("label", label, for_=self._id(name)), given, self.fault(name))
+    def _labelled(self, name: str, label: str, given: Markup, beside: bool) -> Markup:
+        fault = self.fault(name) if beside else Markup()
+        return element("div", element("label", label, for_=self._id(name)), given, fault)
 
     def _described(self, name: str) -> dict[str, str]:
         if name not in self.faults:
