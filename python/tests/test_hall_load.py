@@ -75,7 +75,9 @@ class Load(HallTest):
         first = 1 / A_SECOND if SECONDS else 0.0
         pause = len(SEATS) * first
         clients = [
-            _Seat(served.at(seat), seat, range(place * each, (place + 1) * each), pause, place * first)
+            _Seat(
+                served.at(seat), seat, range(place * each, (place + 1) * each), pause, place * first
+            )
             for place, seat in enumerate(SEATS)
         ]
         start = time.monotonic()
@@ -91,7 +93,9 @@ class Load(HallTest):
         # The two of one seat mix their lines; each still is answered as the engine replies.
         both = [*clients[1].asked, *clients[-1].asked]
         self.assertEqual(sorted(kept(self.path, AUDITOR)), sorted(both))
-        self.assertEqual(unfit(kept(self.path, AUCTIONEER), [*begun[AUCTIONEER], *clients[0].asked]), "")
+        self.assertEqual(
+            unfit(kept(self.path, AUCTIONEER), [*begun[AUCTIONEER], *clients[0].asked]), ""
+        )
         self.assertEqual(sum(len(client.asked) for client in clients), each * len(SEATS))
         self._say([time for client in clients for time in client.times], taken)
 

@@ -85,12 +85,17 @@ class _Damaged:
         path = f"/{self.key()}"
         if self.choice.random() < 0.5:
             return self.request("GET", path)
-        return self.form(f"{path}/{self.choice.choice(sorted(FORMS))}", {"c": "30", "price1": "33", "level1": "0"})
+        return self.form(
+            f"{path}/{self.choice.choice(sorted(FORMS))}",
+            {"c": "30", "price1": "33", "level1": "0"},
+        )
 
     # ---- kinds of damage
 
     def noise(self) -> bytes:
-        return self.choice.randbytes(self.choice.randint(0, 400)) + b"\r\n\r\n" * self.choice.randint(0, 1)
+        return self.choice.randbytes(
+            self.choice.randint(0, 400)
+        ) + b"\r\n\r\n" * self.choice.randint(0, 1)
 
     def cut(self) -> bytes:
         whole = self.sound()
@@ -108,7 +113,9 @@ class _Damaged:
             [
                 self.request("GET", "/" + "a" * many),
                 self.request("GET", f"/{self.key()}", b"", f"X: {'b' * many}"),
-                self.request("GET", f"/{self.key()}", b"", *[f"X{each}: y" for each in range(many // 40)]),
+                self.request(
+                    "GET", f"/{self.key()}", b"", *[f"X{each}: y" for each in range(many // 40)]
+                ),
                 self.request("GET", f"/{self.key()}?shown={'c' * many}"),
                 self.form(f"/{self.key()}/offer", {"price1": "1" * many}),
                 self.form(f"/{self.key()}/offer", {f"p{each}": "1" for each in range(many // 50)}),
@@ -116,33 +123,79 @@ class _Damaged:
         )
 
     def mistyped(self) -> bytes:
-        kind = self.choice.choice(["application/json", "multipart/form-data; boundary=x", "text/plain", "", "é"])
-        length = self.choice.choice(["-1", "abc", "1e3", "99999999999", "0x10", "5, 5", " ", "+4", "16385"])
+        kind = self.choice.choice(
+            ["application/json", "multipart/form-data; boundary=x", "text/plain", "", "é"]
+        )
+        length = self.choice.choice(
+            ["-1", "abc", "1e3", "99999999999", "0x10", "5, 5", " ", "+4", "16385"]
+        )
         path = f"/{self.key()}/{self.choice.choice(sorted(FORMS))}"
         body = self.choice.choice([b"{}", b"--x\r\n", b"a=b&c", b"%ff%fe=1", b"\xff\xfe"])
         if self.choice.random() < 0.5:
-            return self.request("POST", path, body, f"Content-Type: {kind}", f"Content-Length: {len(body)}")
-        return self.request("POST", path, body, f"Content-Type: {kind}", f"Content-Length: {length}")
+            return self.request(
+                "POST", path, body, f"Content-Type: {kind}", f"Content-Length: {len(body)}"
+            )
+        return self.request(
+            "POST", path, body, f"Content-Type: {kind}", f"Content-Length: {length}"
+        )
 
     def traversing(self) -> bytes:
         up = self.choice.choice(["..", "%2e%2e", "..%2f..", "....", ".", "%00", "..\\", "%c0%ae"])
         first, second = self.choice.choice(["", self.key()]), self.choice.choice(["", self.key()])
-        file = self.choice.choice(["etc/passwd", "class.session", "class.session.seats", "hall.py", ""])
+        file = self.choice.choice(
+            ["etc/passwd", "class.session", "class.session.seats", "hall.py", ""]
+        )
         path = f"/{first}/{up}/{second}/{up}/{file}".replace("//", self.choice.choice(["/", "//"]))
         return self.request(self.choice.choice(["GET", "POST"]), path)
 
     def typed(self) -> bytes:
-        names = ["price1", "level1", "price2", "level2", "developer", "c", "ce", "d", "m1", "m2", "a"]
-        names += ["project", "kind", "levels", "study", "day", "agent", "limit", "number", "first", "prices"]
+        names = [
+            "price1",
+            "level1",
+            "price2",
+            "level2",
+            "developer",
+            "c",
+            "ce",
+            "d",
+            "m1",
+            "m2",
+            "a",
+        ]
+        names += [
+            "project",
+            "kind",
+            "levels",
+            "study",
+            "day",
+            "agent",
+            "limit",
+            "number",
+            "first",
+            "prices",
+        ]
         fields = {name: self.choice.choice(NASTY) for name in self.choice.sample(names, 6)}
         if self.choice.random() < 0.2:
             query = urlencode(fields, errors="surrogatepass")
             return self.request("GET", f"/{self.key()}?{query}")
-        form = self.choice.choice([*sorted(FORMS), "listed", "renew", "changes", quote(self.choice.choice(NASTY))])
+        form = self.choice.choice(
+            [*sorted(FORMS), "listed", "renew", "changes", quote(self.choice.choice(NASTY))]
+        )
         return self.form(f"/{self.key()}/{form}", fields)
 
     def asked_otherwise(self) -> bytes:
-        methods = ["PUT", "DELETE", "OPTIONS", "TRACE", "CONNECT", "PATCH", "get", "HEAD", "G" * 30, "GET\t"]
+        methods = [
+            "PUT",
+            "DELETE",
+            "OPTIONS",
+            "TRACE",
+            "CONNECT",
+            "PATCH",
+            "get",
+            "HEAD",
+            "G" * 30,
+            "GET\t",
+        ]
         path = f"/{self.choice.choice([self.key(), 'x'])}/{self.choice.choice(['', 'close', 'changes'])}"
         return self.request(self.choice.choice(methods), path, b"", "Content-Length: 0")
 
@@ -172,7 +225,10 @@ class _Damaged:
         )
         start = self.choice.choice(["HTTP/1.1", "HTTP/0.9", "HTTP/2", "", "http/1.1"])
         lines = [f"POST /{self.key()}/keep {start}", "Host: hall", *head, "", ""]
-        return self.choice.choice(["\r\n", "\n"]).join(lines).encode() + b"0\r\n\r\nGET / HTTP/1.1\r\n\r\n"
+        return (
+            self.choice.choice(["\r\n", "\n"]).join(lines).encode()
+            + b"0\r\n\r\nGET / HTTP/1.1\r\n\r\n"
+        )
 
 
 class Damaged(HallTest):
@@ -204,7 +260,15 @@ class Damaged(HallTest):
 
     def seen(self, request: bytes, found: bytes, others: list[bytes]) -> int:
         """The status of an answer that tells nothing; 0 where there is none."""
-        for wrong in (b"Traceback", b'File "', b"reference_engine", b"<script>alert", b"<img", b"root:", *others):
+        for wrong in (
+            b"Traceback",
+            b'File "',
+            b"reference_engine",
+            b"<script>alert",
+            b"<img",
+            b"root:",
+            *others,
+        ):
             self.assertNotIn(wrong, found, request)
         for secret in SECRETS:
             self.assertNotIn(secret, found, request)
@@ -226,8 +290,16 @@ class Bounds(HallTest):
         """Who does not send on is closed on, and others are served meanwhile."""
         served = self.served(patience=1.0)
         key = served.at(CARLA).key.encode()
-        starts = [b"", b"G", b"GET /" + key, b"POST /" + key + b"/keep HTTP/1.1\r\nContent-Length: 9\r\n\r\na"]
-        slow = [socket.create_connection(("127.0.0.1", served.port), timeout=PATIENCE) for _ in range(20)]
+        starts = [
+            b"",
+            b"G",
+            b"GET /" + key,
+            b"POST /" + key + b"/keep HTTP/1.1\r\nContent-Length: 9\r\n\r\na",
+        ]
+        slow = [
+            socket.create_connection(("127.0.0.1", served.port), timeout=PATIENCE)
+            for _ in range(20)
+        ]
         for place, connection in enumerate(slow):
             self.addCleanup(connection.close)
             connection.sendall(starts[place % len(starts)])
@@ -259,7 +331,9 @@ class Bounds(HallTest):
         """Beyond the bound they are closed at once, and served again when others have ended."""
         with mock.patch.object(server, "_CONNECTIONS", 3):
             served = self.served()
-        held = [socket.create_connection(("127.0.0.1", served.port), timeout=PATIENCE) for _ in range(3)]
+        held = [
+            socket.create_connection(("127.0.0.1", served.port), timeout=PATIENCE) for _ in range(3)
+        ]
         refused = socket.create_connection(("127.0.0.1", served.port), timeout=PATIENCE)
         self.assertEqual(refused.recv(100), b"")
         refused.close()

@@ -134,7 +134,10 @@ def _next(seat: Seat, number: int) -> tuple[str, dict[str, str]]:
         return "settle", {"limit": str(number)}
     if number % 2:
         return "cancel", {}
-    return "offer", {"price1": f"{30 + number // 2_000 % 10}.{number // 2 % 1_000:03}", "level1": "0"}
+    return "offer", {
+        "price1": f"{30 + number // 2_000 % 10}.{number // 2 % 1_000:03}",
+        "level1": "0",
+    }
 
 
 def unfit(lines: list[tuple[bytes, str]], asked: list[tuple[bytes, str | None]]) -> str:
@@ -259,7 +262,13 @@ class FullDisk(HallTest):
                 raise OSError(errno.ENOSPC, os.strerror(errno.ENOSPC))
             return write(file, content[:10], at)
 
-        for name, failing in (("pwrite", full), ("fsync", mock.Mock(side_effect=[OSError(errno.ENOSPC, "No space left on device"), None] * 9))):
+        for name, failing in (
+            ("pwrite", full),
+            (
+                "fsync",
+                mock.Mock(side_effect=[OSError(errno.ENOSPC, "No space left on device"), None] * 9),
+            ),
+        ):
             with mock.patch.object(store.os, name, failing):
                 answer = client.post("keep")
             self.assertEqual(answer.status, 503)
@@ -328,7 +337,13 @@ class Files(HallTest):
                 SessionFile(self.path)
 
     def test_bad_file_of_seats(self) -> None:
-        for content in ("", "{}", "[]", '{"seats": [{}]}', '{"seats": [{"seat": {"kind": 0, "number": 0}, "key": "a", "name": "", "plant": null}]}'):
+        for content in (
+            "",
+            "{}",
+            "[]",
+            '{"seats": [{}]}',
+            '{"seats": [{"seat": {"kind": 0, "number": 0}, "key": "a", "name": "", "plant": null}]}',
+        ):
             Path(f"{self.path}.seats").write_text(content)
             with self.assertRaisesRegex(BadInput, "is no file of seats"):
                 Hall(self.path)

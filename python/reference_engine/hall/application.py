@@ -35,7 +35,6 @@ _HEADERS = [
     ("Referrer-Policy", "no-referrer"),
     ("X-Content-Type-Options", "nosniff"),
     ("X-Frame-Options", "DENY"),
-    ("Cross-Origin-Opener-Policy", "same-origin"),
     ("Cross-Origin-Resource-Policy", "same-origin"),
     ("Cache-Control", "no-store"),
 ]
@@ -130,7 +129,7 @@ class _Request:
     def page(self, query: Fields) -> Response:
         """The seat's page; with a question in the address, its answer too."""
         game, typed = None, None
-        if self._seated.seat == AUCTIONEER and query:
+        if self._seated.seat == AUCTIONEER and "first" in query:
             try:
                 game = game_of(query)
             except Unclear as unclear:

@@ -1,4 +1,4 @@
-"""The auctioneer's page: set-up, registrations, rounds with their looks, settling, and the seats."""
+"""The auctioneer's page: set-up, registrations, rounds and their looks, settling, and seats."""
 
 from __future__ import annotations
 
@@ -86,7 +86,10 @@ def _listed(view: View, seated: Sequence[Seated]) -> Part:
     if view.known.reading.phase is not Phase.READY or not waiting:
         return Part("listed", whole=True)
     rows = [
-        (each.words, *_plant(each.plant.project, each.plant.kind, each.plant.levels))
+        (
+            with_name(each.seat.number, {each.seat: each.name}),
+            *_plant(each.plant.project, each.plant.kind, each.plant.levels),
+        )
         for each in waiting
         if each.plant
     ]
@@ -142,7 +145,9 @@ def _lodge(view: View) -> Part:
     steps = max(len(each.levels) for each in existing)
     drawn = given.drawn(
         row(given.field("developer", "Developer")),
-        step_fields(given, min(steps, STEPS), lambda name, label: given.field(name, label, beside=False)),
+        step_fields(
+            given, min(steps, STEPS), lambda name, label: given.field(name, label, beside=False)
+        ),
         buttons(button("Lodge the list")),
     )
     words = "Existing plants may lodge withdrawals for later. A list replaces the one before."
@@ -239,10 +244,14 @@ def _forcing(view: View, game: Game | None) -> Part:
         values = {"first": str(game.first), "second": str(game.second)}
         values["prices"] = " ".join(price(each) for each in game.prices)
         try:
-            found = view.known.session.who_can_force(view.seat, game.first, game.second, game.prices)
+            found = view.known.session.who_can_force(
+                view.seat, game.first, game.second, game.prices
+            )
             move = "withdraw" if found.withdraws else "keep its quantity"
             words = f"Developer {game.first} can force {price(found.outcome)} {PRICE}."
-            said = element("p", element("b", words), f"A best first move is to {move}.", class_="answer")
+            said = element(
+                "p", element("b", words), f"A best first move is to {move}.", class_="answer"
+            )
         except Refused as error:
             faults = {"": f"{error.refusal.meaning[:1].upper()}{error.refusal.meaning[1:]}."}
     given = Form("forcing", view.place, values, faults)
@@ -308,7 +317,10 @@ def _seats(view: View, seated: Sequence[Seated]) -> Part:
         if each.seat == AUCTIONEER:
             continue
         numbers = {"kind": str(each.seat.kind), "number": str(each.seat.number)}
-        hidden = [element("input", type="hidden", name=name, value=value) for name, value in numbers.items()]
+        hidden = [
+            element("input", type="hidden", name=name, value=value)
+            for name, value in numbers.items()
+        ]
         given = Form(f"renew-{each.seat.kind}-{each.seat.number}", f"{view.place}/renew", {}, {})
         sent = button("Renew the link", True, True, aria_label=f"Renew the link of {each.words}")
         rows.append((str(each.seat).capitalize(), each.name, given.drawn(*hidden, sent)))

@@ -34,7 +34,9 @@ def add_to(commands: Commands) -> None:
     parser.add_argument("session", metavar="SESSION", help="the file of the session; made if new")
     parser.add_argument("--seats", metavar="CSV", help="the class list: names, numbers and plants")
     parser.add_argument(
-        "--host", default="127.0.0.1", help="the address to listen on; 127.0.0.1 is this machine alone"
+        "--host",
+        default="127.0.0.1",
+        help="the address to listen on; 127.0.0.1 is this machine alone",
     )
     parser.add_argument("--port", type=int, default=8000, help="the port, 8000 if not given")
     parser.add_argument("--url", help="what links begin with, such as http://192.168.1.5:8000")
@@ -62,7 +64,9 @@ def _serve(chosen: argparse.Namespace, listed: Iterable[Listed]) -> int:
     except OSError as error:
         hall.close()
         why = error.strerror or str(error)
-        raise BadInput(f"{chosen.host}, port {chosen.port}: {why}; --host or --port give another") from None
+        raise BadInput(
+            f"{chosen.host}, port {chosen.port}: {why}; --host or --port give another"
+        ) from None
     with server:
         hall.url = _url(chosen, server.server_address[1])
         _print_links(hall)

@@ -21,7 +21,10 @@ def state(view: View) -> Part:
     for phase, (name, _) in PHASES.items():
         current = {"aria_current": "step"} if phase is reading.phase else {}
         steps.append(element("li", name, **current))
-    shown: list[str] = [element("ol", *steps, class_="phases"), element("p", PHASES[reading.phase][1])]
+    shown: list[str] = [
+        element("ol", *steps, class_="phases"),
+        element("p", PHASES[reading.phase][1]),
+    ]
     if reading.phase >= Phase.ROUND:
         shown.append(
             figures(
@@ -45,13 +48,20 @@ def _excess(view: View) -> tuple[str, str]:
 def answer(view: View) -> Part:
     """The seat's latest call, and what it was answered."""
     if view.typed:
-        faults = element("p", element("b", "Not sent"), " ".join(view.typed.faults.values()), class_="answer refused")
+        faults = element(
+            "p",
+            element("b", "Not sent"),
+            " ".join(view.typed.faults.values()),
+            class_="answer refused",
+        )
         return part("answer", "Your latest call", faults, whole=True, live=True)
     latest = view.latest
     if latest is None:
         return Part("answer", whole=True, live=True)
     looks = "answer refused" if latest.reply.number else "answer"
-    words = element("p", element("b", call_in_words(latest.call)), answer_in_words(latest.reply), class_=looks)
+    words = element(
+        "p", element("b", call_in_words(latest.call)), answer_in_words(latest.reply), class_=looks
+    )
     return part("answer", "Your latest call", words, whole=True, live=True)
 
 
@@ -80,9 +90,7 @@ def form(view: View, name: str) -> Form:
     return Form(name, f"{view.place}/{name}", values, faults)
 
 
-def step_fields(
-    given: Form, count: int, level: Callable[[str, str], Markup]
-) -> Markup:
+def step_fields(given: Form, count: int, level: Callable[[str, str], Markup]) -> Markup:
     """The fields of so many steps; `level` draws the field of a level by name and label.
 
     What is wrong with a step stands below it.

@@ -50,7 +50,10 @@ def _offer(view: View) -> Part:
         words = "Cancelled, it is as if never made, and you can make another."
         return part("offer", "Your offer stands", note(words), drawn)
     given = form(view, "offer")
-    levels = {"": "choose", **{str(level): quantity(level) for level in (*reversed(reading.levels), 0)}}
+    levels = {
+        "": "choose",
+        **{str(level): quantity(level) for level in (*reversed(reading.levels), 0)},
+    }
     drawn = given.drawn(
         step_fields(
             given,

@@ -36,12 +36,16 @@ def _unit(unit: str) -> list[Markup]:
     return [joined(" ", element("small", unit))] if unit else []
 
 
-def table(caption: str, heads: Sequence[str], rows: Iterable[Sequence[str]], numbers: str) -> Markup:
+def table(
+    caption: str, heads: Sequence[str], rows: Iterable[Sequence[str]], numbers: str
+) -> Markup:
     """A table; `numbers` has a mark for each column, "n" for one of numbers.
 
     One of more than three columns is drawn on a phone as cards, a row each.
     """
-    classes: list[dict[str, str]] = [{"class_": "number"} if mark == "n" else {} for mark in numbers]
+    classes: list[dict[str, str]] = [
+        {"class_": "number"} if mark == "n" else {} for mark in numbers
+    ]
     head = [element("th", name, scope="col", **given) for name, given in zip(heads, classes)]
     looks = {"class_": "cards"} if len(heads) > 3 else {}
     body = [
@@ -87,7 +91,9 @@ class Form:
     def group(self, field: str, legend: str, *content: str) -> Markup:
         """Fields that one refusal is about."""
         described = {**self._described(field), "tabindex": "-1"} if field in self.faults else {}
-        return element("fieldset", element("legend", legend), *content, self.fault(field), **described)
+        return element(
+            "fieldset", element("legend", legend), *content, self.fault(field), **described
+        )
 
     def field(
         self, name: str, label: str, mode: str = "numeric", value: str = "", beside: bool = True
@@ -135,7 +141,9 @@ class Form:
 def button(words: str, second: bool = False, small: bool = False, **attributes: str) -> Markup:
     """A button that sends its form."""
     looks = " ".join(["second"] * second + ["small"] * small)
-    return element("button", words, type="submit", **({"class_": looks} if looks else {}), **attributes)
+    return element(
+        "button", words, type="submit", **({"class_": looks} if looks else {}), **attributes
+    )
 
 
 def buttons(*drawn: str) -> Markup:

@@ -71,7 +71,9 @@ class _Reader:
         """Whole numbers between blanks or semicolons."""
         texts = self.text(name).replace(";", " ").split()
         if not texts or not all(_WHOLE.fullmatch(text) for text in texts):
-            return [self._unclear(name, "Write whole numbers with blanks between, such as 100 200.")]
+            return [
+                self._unclear(name, "Write whole numbers with blanks between, such as 100 200.")
+            ]
         return [int(text.replace(",", "")) for text in texts]
 
     def prices(self, name: str) -> list[int]:
@@ -79,9 +81,7 @@ class _Reader:
         texts = self.text(name).replace(";", " ").split()
         found = [_PRICE.fullmatch(text) for text in texts]
         if not texts or not all(found):
-            return [
-                self._unclear(name, "Write prices with blanks between, such as 24 22.5 20.")
-            ]
+            return [self._unclear(name, "Write prices with blanks between, such as 24 22.5 20.")]
         return [int(each[1]) * 1_000 + int((each[2] or "").ljust(3, "0")) for each in found if each]
 
     def steps(self) -> list[tuple[int, int]]:
@@ -172,7 +172,9 @@ def line_of(form: str, seat: Seat, fields: Fields) -> bytes:
     try:
         return bytes(write())
     except (ValueError, Refused):  # a number beyond its field, or a line that is too long
-        raise Unclear({"": "A number is larger than a call can say, or there are too many."}) from None
+        raise Unclear(
+            {"": "A number is larger than a call can say, or there are too many."}
+        ) from None
 
 
 def line_of_plant(seat: Seat, developer: int, plant: Plant) -> bytes:

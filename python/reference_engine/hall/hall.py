@@ -109,7 +109,12 @@ class Hall:
         return asked
 
     def _registered(self) -> list[int]:
-        return [number for calls in self._asked.values() for each in calls for number in _registers(each)]
+        return [
+            number
+            for calls in self._asked.values()
+            for each in calls
+            for number in _registers(each)
+        ]
 
     # ---- seats
 
@@ -163,7 +168,9 @@ class Hall:
 
     def _stir(self, seats: Iterable[Seat]) -> None:
         with self._turn:
-            stirred = [event for seat in dict.fromkeys(seats) for event in self._watchers.get(seat, ())]
+            stirred = [
+                event for seat in dict.fromkeys(seats) for event in self._watchers.get(seat, ())
+            ]
         for event in stirred:
             event.set()
 

@@ -65,7 +65,9 @@ def page(seated: Seated, place: str, plain: Sequence[Part], drawn: Sequence[Part
         "header",
         element("div", element("h1", title), name, element("a", "Reload", href=place)),
     )
-    sections = [_section(each, fingerprint([base])) for base, each in zip(plain, drawn, strict=True)]
+    sections = [
+        _section(each, fingerprint([base])) for base, each in zip(plain, drawn, strict=True)
+    ]
     offline = "No answer from the hall; this page may be out of date."
     body = element(
         "body",
@@ -81,12 +83,16 @@ def _section(drawn: Part, known: str) -> Markup:
     attributes = {"class_": "whole"} if drawn.whole else {}
     if drawn.live:
         attributes["aria_live"] = "polite"
-    return element("section", drawn.content, id=drawn.name, tabindex="-1", data_part=known, **attributes)
+    return element(
+        "section", drawn.content, id=drawn.name, tabindex="-1", data_part=known, **attributes
+    )
 
 
 def plain_page(heading: str, *words: str) -> str:
     """A page that says something and nothing else."""
-    said = element("section", element("h2", heading), *(element("p", each) for each in words), class_="whole")
+    said = element(
+        "section", element("h2", heading), *(element("p", each) for each in words), class_="whole"
+    )
     return _document(heading, element("body", element("main", said)))
 
 

@@ -45,9 +45,7 @@ class Server(socketserver.ThreadingMixIn, socketserver.TCPServer):
     allow_reuse_address = True
     request_queue_size = 128
 
-    def __init__(
-        self, address: tuple[str, int], application: WSGI, patience: float = 15.0
-    ) -> None:
+    def __init__(self, address: tuple[str, int], application: WSGI, patience: float = 15.0) -> None:
         """Binds the address, port 0 being any free one. Raises OSError."""
         self.application, self.patience = application, patience
         self._free = threading.BoundedSemaphore(_CONNECTIONS)

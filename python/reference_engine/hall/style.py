@@ -2,7 +2,8 @@
 
 STYLE = """
 :root { --ink: #16202c; --soft: #4c5866; --line: #c4cbd3; --paper: #fff; --ground: #eef1f4;
-  --accent: #0a4a8f; --bad: #a01212; --bad-ground: #fdf0ef; --good: #14602f; --good-ground: #eef7f0; }
+  --accent: #0a4a8f; --bad: #a01212; --bad-ground: #fdf0ef; --good: #14602f;
+  --good-ground: #eef7f0; }
 * { box-sizing: border-box; }
 body { margin: 0; font: 1rem/1.45 system-ui, sans-serif; color: var(--ink);
   background: var(--ground); overflow-wrap: anywhere; }
@@ -48,6 +49,7 @@ tbody th { font-weight: 400; }
 .number { text-align: right; font-variant-numeric: tabular-nums; white-space: nowrap; }
 thead .number { white-space: normal; }
 td:last-child, th:last-child { padding-right: 0; }
+td:nth-child(2) { min-width: 5rem; }
 td button { white-space: nowrap; }
 .accepted { color: var(--good); } .refused { color: var(--bad); }
 .answer { padding: 0.6rem 0.9rem; border-left: 0.35rem solid var(--good);
@@ -57,7 +59,7 @@ td button { white-space: nowrap; }
 form + .answer { margin-top: 0.9rem; }
 form { margin: 0; }
 form + form { margin-top: 0.7rem; }
-dl.figures + form { margin-top: 0.9rem; }
+dl.figures + form, .scroll + form { margin-top: 0.9rem; }
 fieldset { border: 0; margin: 0 0 0.8rem; padding: 0; min-width: 0; }
 legend { padding: 0; font-weight: 600; font-size: 0.95rem; margin-bottom: 0.3rem; }
 .row { display: grid; grid-template-columns: repeat(auto-fit, minmax(9.5rem, 1fr));

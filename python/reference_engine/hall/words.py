@@ -107,7 +107,9 @@ def refused(reply: Reply) -> tuple[str, str]:
     if reply.number == 20:
         return "", "This seat has no right to that call."
     meaning = Refusal(reply.number).meaning
-    return _WORDS.get(reply.kind, {}).get(reply.number, ("", f"{meaning[:1].upper()}{meaning[1:]}."))
+    return _WORDS.get(reply.kind, {}).get(
+        reply.number, ("", f"{meaning[:1].upper()}{meaning[1:]}.")
+    )
 
 
 def step_in_words(step: Step) -> str:
