@@ -22,7 +22,7 @@ def _files() -> list[Path]:
     for path in native:
         if not path.is_file():
             raise RuntimeError(f"{path} is missing: run python/build in the checkout first")
-    return [*sorted(_PACKAGE.glob("*.py")), _PACKAGE / "py.typed", *native]
+    return [*sorted(_PACKAGE.rglob("*.py")), _PACKAGE / "py.typed", *native]
 
 
 def _version() -> str:

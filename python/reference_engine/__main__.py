@@ -16,6 +16,7 @@ from typing import Any
 
 from . import build, compare, explain, figures, fix, plain_record, report, show, table
 from .command import BadInput, in_words
+from .hall import command as hall
 from .library import NotBuilt, engine
 
 
@@ -39,7 +40,9 @@ def _parser() -> argparse.ArgumentParser:
     about = "say the version of the engine and the SHA-256 of its library"
     parser.add_argument("--version", action=_Version, nargs=0, help=about)
     commands = parser.add_subparsers(dest="command", required=True, metavar="COMMAND")
-    for command in (compare, report, table, figures, explain, show, build, fix, plain_record):
+    for command in (
+        compare, report, table, figures, explain, show, build, fix, plain_record, hall,
+    ):
         command.add_to(commands)
     return parser
 

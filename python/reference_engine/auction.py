@@ -121,7 +121,7 @@ def read_auction(record: Record | Bytes) -> Auction:
         settled=settled,
     )
     for line in lines:
-        _add(auction, line)
+        enter(auction, line)
     return auction
 
 
@@ -130,7 +130,7 @@ def _asks_settling(line: Line) -> bool:
     return line.reply.kind == 0x06 or line.text.replace(b"\0", b"").startswith(b"06")
 
 
-def _add(auction: Auction, line: Line) -> None:
+def enter(auction: Auction, line: Line) -> None:
     """Enters an accepted line where it belongs, a refused one among the refused."""
     call, reply = line.call, line.reply
     if reply.refusal:

@@ -8,7 +8,7 @@ import re
 # What XML forbids, and control characters that no reader sees.
 _UNSEEN = re.compile("[^\\t\\n\\x20-\\x7e\\xa0-\\ud7ff\\ue000-\\ufffd\\U00010000-\\U0010ffff]")
 # Elements without content; HTML reads any other one that closes itself as left open.
-_EMPTY = {"meta", "line", "path", "polyline", "rect", "circle"}
+_EMPTY = {"meta", "link", "input", "line", "path", "polyline", "rect", "circle"}
 
 
 class Markup(str):

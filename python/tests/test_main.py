@@ -20,7 +20,9 @@ from reference_engine.__main__ import main
 
 SAMPLE = str(ROOT / "crates/replay/stdin")
 LIBRARY = ROOT / "python/reference_engine/native/libreference_engine.so"
-COMMANDS = ("compare", "report", "table", "figure", "explain", "show", "build", "fix", "record")
+COMMANDS = (
+    "compare", "report", "table", "figure", "explain", "show", "build", "fix", "record", "hall",
+)
 
 
 def run(*arguments: str, **options: object) -> subprocess.CompletedProcess[str]:

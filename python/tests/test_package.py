@@ -103,7 +103,8 @@ class Wheel(unittest.TestCase):
                 found = base64.urlsafe_b64encode(hashlib.sha256(content).digest()).decode()
                 self.assertEqual(digest, "sha256=" + found.rstrip("="))
                 self.assertEqual(int(length), len(content))
-        sources = {f"reference_engine/{path.name}" for path in backend._PACKAGE.glob("*.py")}
+        sources = {path.relative_to(ROOT / "python").as_posix() for path in backend._PACKAGE.rglob("*.py")}
+        self.assertIn("reference_engine/hall/application.py", sources)
         self.assertLess({*sources, "reference_engine/py.typed"}, set(recorded))
 
     def test_console_command(self) -> None:
