@@ -54,6 +54,11 @@ def _scripts() -> str:
     return f"[console_scripts]\nreference-engine = {_stated()['reference-engine']}\n"
 
 
+def _mode(path: Path) -> int:
+    """As all may read and run it, whatever the mask was: the same files make the same wheel."""
+    return 0o100755 if path.stat().st_mode & 0o100 else 0o100644
+
+
 def _record(name: str, content: bytes) -> str:
     digest = base64.urlsafe_b64encode(hashlib.sha256(content).digest()).rstrip(b"=").decode()
     return f"{name},sha256={digest},{len(content)}\n"
@@ -72,7 +77,7 @@ def build_wheel(
     about = f"{stem}.dist-info"
     made = f"Wheel-Version: 1.0\nGenerator: backend\nRoot-Is-Purelib: false\nTag: {tag}\n"
     entries = [
-        (path.relative_to(_ROOT).as_posix(), path.stat().st_mode, path.read_bytes())
+        (path.relative_to(_ROOT).as_posix(), _mode(path), path.read_bytes())
         for path in files
     ]
     texts = {"METADATA": _metadata(), "WHEEL": made, "entry_points.txt": _scripts()}

@@ -1,4 +1,4 @@
-"""The commands and Python examples of README.md and python/README.md, run as they stand."""
+"""The commands and examples of the pages for users, run as they stand."""
 
 from __future__ import annotations
 
@@ -26,7 +26,8 @@ class Shown(unittest.TestCase):
         folder = tempfile.TemporaryDirectory()
         self.addCleanup(folder.cleanup)
         self.folder = Path(folder.name)
-        shutil.copytree(ROOT / "crates/replay", self.folder / "crates/replay")
+        for name in ("crates/replay", "calibration"):
+            shutil.copytree(ROOT / name, self.folder / name)
 
     def read(self, name: str) -> None:
         self.page = (ROOT / name).read_text(encoding="utf-8")
@@ -67,18 +68,46 @@ class Shown(unittest.TestCase):
             self.assertEqual(printed[-len(text) :], text)
 
 
-class Readme(Shown):
-    def setUp(self) -> None:
-        super().setUp()
-        self.read("README.md")
-
-    def test_blocks(self) -> None:
-        self.assertPrinted(1)
-
-    def test_lines_of_the_c_example(self) -> None:
+class C(Shown):
+    def test_lines_of_the_example(self) -> None:
+        self.read("docs/C.md")
         quoted = [content for language, content in self.blocks if language == "c"]
         self.assertEqual(len(quoted), 1)
         self.assertIn(textwrap.indent(quoted[0], "    "), (ROOT / "tests/c/example.c").read_text())
+
+    def test_every_call_is_named(self) -> None:
+        """By its name, or by that of its group."""
+        self.read("docs/C.md")
+        header = (ROOT / "include/reference_engine.h").read_text(encoding="utf-8")
+        groups = {"write_": "`write_set_up` to `write_cancellation`", "session_": "`session_*`"}
+        for name in re.findall(r"^uint64_t (\w+)\(", header, re.MULTILINE):
+            named = [said for start, said in groups.items() if name.startswith(start)]
+            self.assertTrue(any(said in self.page for said in [f"`{name}`", *named]), name)
+
+
+class Publishing(Shown):
+    def test_blocks(self) -> None:
+        self.read("docs/PUBLISHING.md")
+        self.assertPrinted(1)
+        self.assertIn("</svg>", (self.folder / "report.html").read_text(encoding="utf-8"))
+
+
+class Calibrating(Shown):
+    def setUp(self) -> None:
+        super().setUp()
+        self.read("docs/CALIBRATING.md")
+
+    def test_blocks(self) -> None:
+        self.assertPrinted(2)
+
+    def test_difference_in_words(self) -> None:
+        """The sentence that the page quotes, of a program that has -54."""
+        path = self.folder / "crates/replay/stdout"
+        path.write_text(path.read_text().replace("C900000000", "CA00000000"))
+        compare = next(content for _, content in self.blocks if " compare " in content)
+        quoted = re.search(r"`(line 10 \(close\): .*?)`", self.page)
+        self.assertIsNotNone(quoted)
+        self.assertIn(quoted[1], self.run_here(compare, status=1))
 
 
 class PythonReadme(Shown):
@@ -90,7 +119,6 @@ class PythonReadme(Shown):
         self.assertPrinted(7)
         sample = self.folder / "sample.record"
         self.assertEqual(sample.read_bytes(), (ROOT / "crates/replay/stdin").read_bytes())
-        self.assertIn("</svg>", (self.folder / "report.html").read_text(encoding="utf-8"))
         for name in ("book.record", "fixed.record"):
             self.assertEqual((self.folder / name).read_bytes(), sample.read_bytes())
 
@@ -105,19 +133,15 @@ class PythonReadme(Shown):
                 shown[name] = {**dict.fromkeys(listed[0], True), **dict.fromkeys(listed[1], False)}
         self.assertEqual(shown, _FIELDS)
 
-    def test_every_command_is_shown(self) -> None:
-        commands = "".join(content for language, content in self.blocks if language == "sh")
-        shown = re.findall(r"-m reference_engine (\w+)", commands)
-        self.assertEqual(set(shown), set(COMMANDS))
 
-    def test_difference_in_words(self) -> None:
-        """The sentence that the page quotes, of a program that has -54."""
-        path = self.folder / "crates/replay/stdout"
-        path.write_text(path.read_text().replace("C900000000", "CA00000000"))
-        compare = next(content for _, content in self.blocks if " compare " in content)
-        quoted = re.search(r"`(line 10 \(close\): .*?)`", self.page)
-        self.assertIsNotNone(quoted)
-        self.assertIn(quoted[1], self.run_here(compare, status=1))
+class Pages(Shown):
+    def test_every_command_is_shown(self) -> None:
+        shown = set()
+        for name in ("python/README.md", "docs/PUBLISHING.md", "docs/CALIBRATING.md"):
+            self.read(name)
+            commands = "".join(content for language, content in self.blocks if language == "sh")
+            shown |= set(re.findall(r"-m reference_engine (\w+)", commands))
+        self.assertEqual(shown, set(COMMANDS))
 
 
 if __name__ == "__main__":

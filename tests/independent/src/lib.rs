@@ -4,8 +4,10 @@
 //! Where the paper gives a rule and a formula for it, this one takes the rule.
 //!
 //! `model` is that implementation, `generators` make the inputs, `coverage` counts what they reach, and
-//! `comparisons` run the engine beside it. Each uses only those before it; unit tests use all.
+//! `comparisons` run the engine beside it; `calibration` chooses some of the inputs for other programs.
+//! Each uses only those before it; unit tests use all.
 
+pub mod calibration;
 pub mod comparisons;
 pub mod coverage;
 pub mod generators;

@@ -3,6 +3,7 @@
 
 mod agents;
 mod awards;
+mod calibration;
 mod cancelling;
 mod causes;
 mod checks;

@@ -174,7 +174,8 @@ pub const RECORD_LOOKS: &[Kind<Looked>] = &[
     ("lent buffers", |looked| call(looked).is_some(), BUFFERS),
 ];
 
-pub const SESSION_LOOKS: &[Kind<Looked>] = &[
+/// What the lines of a session show.
+pub const SESSION_LINES: &[Kind<Looked>] = &[
     ("lines", |looked| line(looked).is_some(), LINES),
     (
         "lines accepted",
@@ -191,6 +192,13 @@ pub const SESSION_LOOKS: &[Kind<Looked>] = &[
         |looked| line(looked).is_some(),
         LINES_REFUSED,
     ),
+];
+
+pub const SESSION_LOOKS: &[Kind<Looked>] = &[
+    SESSION_LINES[0],
+    SESSION_LINES[1],
+    SESSION_LINES[2],
+    SESSION_LINES[3],
     ("previews", looks::<PREVIEW>, PREVIEWS),
     ("curves", looks::<CURVE>, CURVES),
     ("settlements", looks::<SETTLEMENT>, SETTLEMENTS),

@@ -1,15 +1,13 @@
 //! What the generated records hold, so that a run beside the engine on them means something.
 //! The shares are printed: cargo test --lib --release shares -- --nocapture
 
-use super::{each_step, Step, RECORDS};
+use super::RECORDS;
 use crate::coverage::{
-    Cancellations, Closings, Features, Lodgings, Participation, Redrawn, Remainders,
+    Cancellations, Closings, Features, Lodgings, Participation, Redrawn, Remainders, Settled,
 };
-use crate::coverage::{CANCELLATIONS, CURVES, LODGINGS, PARTICIPATION};
+use crate::coverage::{CANCELLATIONS, CURVES, LODGINGS, PARTICIPATION, SETTLED};
 use crate::generators::records::DECISIVE;
-use crate::model::auction::Auction;
-use crate::model::replay::{always_fits, lines, replay, Accepted, Call};
-use crate::model::settling::{Award, Settlement};
+use crate::model::replay::{always_fits, lines, replay};
 use std::collections::BTreeMap;
 
 /// What the replies to the records say, counted.
@@ -104,7 +102,7 @@ impl Shares {
 
 /// Kind and answer of every reply that a frame can get. Refusal 11 is not among them: 192 bytes
 /// hold 32 awards.
-const REPLIES: &[(u8, &[u8])] = &[
+pub(super) const REPLIES: &[(u8, &[u8])] = &[
     (0x01, &[0, 2, 1]),
     (0x02, &[0, 2, 3, 4]),
     (0x03, &[0, 2, 5, 9]),
@@ -157,147 +155,12 @@ fn shares_of_replies() {
     }
 }
 
-/// A settled record: its auction at the end, the last settlement, and the rounds opened.
-struct Settled {
-    auction: Auction,
-    settlement: Settlement,
-    rounds: u64,
-}
-
-/// None if no settling is accepted.
-fn settled(record: &[u8]) -> Option<Settled> {
-    let (mut last, mut rounds) = (None, 0);
-    let auction = each_step(record, |step: Step| match (step.call, step.answer) {
-        (Some(Call::Open { .. }), Ok(_)) => rounds += 1,
-        (_, Ok(Accepted::Settled(settlement))) => last = Some(settlement.clone()),
-        _ => (),
-    });
-    last.map(|settlement| Settled {
-        auction,
-        settlement,
-        rounds,
-    })
-}
-
-impl Settled {
-    /// The choices of the award's total, listed only if there are not too many choices.
-    fn choices_of_the_total(&self) -> usize {
-        let Settlement {
-            choices,
-            price,
-            total,
-            ..
-        } = self.settlement;
-        if choices > 4_096 {
-            return 0;
-        }
-        let listed = super::choices(&self.auction, price);
-        let totals = listed.iter().map(|choice| choice.iter().sum::<u64>());
-        totals.filter(|&other| other == total).count()
-    }
-
-    /// Some award with so many developers having its level open, or more.
-    fn shared_by(&self, count: usize) -> bool {
-        self.settlement
-            .awards
-            .iter()
-            .any(|award| self.having(award).len() >= count)
-    }
-
-    /// Some award to another developer than the first by number.
-    fn contested(&self) -> bool {
-        let mut awards = self.settlement.awards.iter();
-        awards.any(|award| self.having(award)[0] != award.developer)
-    }
-
-    /// The developers to whom an awarded level is open, by rising number.
-    fn having(&self, award: &Award) -> Vec<u8> {
-        let developers = self.auction.projects().remove(&award.project);
-        let mut developers = developers.expect("an awarded project");
-        developers.retain(|d| d.has_open(award.quantity, self.settlement.price));
-        developers
-            .iter()
-            .map(|developer| developer.number)
-            .collect()
-    }
-
-    /// Supply less demand at the last C.
-    fn excess(&self) -> i64 {
-        let demand = self.auction.settings().demand(self.last_c());
-        self.auction.supply().cast_signed() - demand.cast_signed()
-    }
-
-    fn last_c(&self) -> u64 {
-        self.auction.last_c().expect("a closed round")
-    }
-
-    fn withdrawal_at(&self, price: u64) -> bool {
-        let developers = self.auction.developers().values();
-        let mut withdrawals = developers.flat_map(|developer| &developer.withdrawals);
-        withdrawals.any(|withdrawal| withdrawal.price == price)
-    }
-
-    /// Whether the highs at P are just the demand.
-    fn just_covered(&self) -> bool {
-        let p = self.settlement.price;
-        self.auction.sum_of_greatest(|developer| developer.high(p)) == self.settlement.demand
-    }
-
-    fn longest_history(&self) -> usize {
-        let developers = self.auction.developers().values();
-        let lengths = developers.map(|developer| developer.withdrawals.len());
-        lengths.max().expect("a developer")
-    }
-}
-
-/// What settled records should show, and the test of it.
-type Feature = (&'static str, fn(&Settled) -> bool);
-
-const FEATURES: &[Feature] = &[
-    ("2 rounds or more", |s| s.rounds >= 2),
-    ("4 rounds or more", |s| s.rounds >= 4),
-    ("2 choices or more", |s| s.settlement.choices >= 2),
-    ("16 or more", |s| s.settlement.choices >= 16),
-    ("256 or more", |s| s.settlement.choices >= 256),
-    ("4,096 or more", |s| s.settlement.choices >= 4_096),
-    ("65,536", |s| s.settlement.choices == 65_536),
-    ("not all choices cover", |s| {
-        s.settlement.covering < s.settlement.choices
-    }),
-    ("2 or more cover", |s| s.settlement.covering >= 2),
-    ("total is demand", |s| {
-        s.settlement.total == s.settlement.demand
-    }),
-    ("equal least totals", |s| s.choices_of_the_total() >= 2),
-    ("2 developers for a level", |s| s.shared_by(2)),
-    ("4 developers for a level", |s| s.shared_by(4)),
-    ("awarded by study or day", Settled::contested),
-    ("a project at 0", |s| {
-        s.settlement.awards.len() < s.auction.projects().len()
-    }),
-    ("32 awards", |s| s.settlement.awards.len() == 32),
-    ("closed with excess", |s| s.excess() > 0),
-    ("closed at excess 0", |s| s.excess() == 0),
-    ("closed at 999", |s| s.excess() == 999),
-    ("closed at 1,000, the floor", |s| s.excess() == 1_000),
-    ("highs at P are demand", Settled::just_covered),
-    ("P is A", |s| s.settlement.price == s.auction.settings().a),
-    ("P is the last C", |s| s.settlement.price == s.last_c()),
-    ("no withdrawal at P", |s| {
-        !s.withdrawal_at(s.settlement.price)
-    }),
-    ("missing in round 1", |s| {
-        s.withdrawal_at(s.auction.settings().a)
-    }),
-    ("8 withdrawals", |s| s.longest_history() == 8),
-];
-
 #[test]
 fn shares_of_features() {
     let records = RECORDS[..5_000].iter();
-    let settled: Vec<Settled> = records.filter_map(|record| settled(record)).collect();
+    let settled: Vec<Settled> = records.filter_map(|record| Settled::of(record)).collect();
     println!("of {} settled records", settled.len());
-    for (name, shows) in FEATURES {
+    for (name, shows) in SETTLED {
         let count = settled.iter().filter(|settled| shows(settled)).count();
         let percent = 100.0 * count as f64 / settled.len() as f64;
         println!("{percent:5.1}% {name}");
