@@ -116,7 +116,7 @@ class PythonReadme(Shown):
         self.read("python/README.md")
 
     def test_blocks(self) -> None:
-        self.assertPrinted(7)
+        self.assertPrinted(6)
         sample = self.folder / "sample.record"
         self.assertEqual(sample.read_bytes(), (ROOT / "crates/replay/stdin").read_bytes())
         for name in ("book.record", "fixed.record"):
