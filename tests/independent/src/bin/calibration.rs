@@ -39,8 +39,11 @@ fn main() -> ExitCode {
     }
 }
 
+/// The replies to a record or to a session.
+type Replay = fn(&[u8]) -> Vec<u8>;
+
 /// The sorts, each with the engine's replay of it.
-const SORTS: [(Sort, fn(&[u8]) -> Vec<u8>); 2] = [
+const SORTS: [(Sort, Replay); 2] = [
     (RECORDS, |record| {
         replies(record, |buffer| engine::replay(record, buffer))
     }),

@@ -21,13 +21,19 @@ pub const CURVES: &[Feature<Redrawn>] = &[
     ("closings", |_| true),
     ("empty", |closing| closing.curve.is_empty()),
     ("1 entry", |closing| closing.curve.len() == 1),
-    ("2 to 7", |closing| (2..8).contains(&closing.curve.len())),
-    ("8 to 31", |closing| (8..32).contains(&closing.curve.len())),
-    ("32 or more", |closing| closing.curve.len() >= 32),
-    ("32 or more after several rounds", |closing| {
+    ("2 to 7 entries", |closing| {
+        (2..8).contains(&closing.curve.len())
+    }),
+    ("8 to 31 entries", |closing| {
+        (8..32).contains(&closing.curve.len())
+    }),
+    ("32 entries or more", |closing| closing.curve.len() >= 32),
+    ("32 entries or more after several rounds", |closing| {
         closing.curve.len() >= 32 && closing.before.last_c().is_some()
     }),
-    ("256", |closing| closing.curve.len() == LONGEST_CURVE),
+    ("256 entries", |closing| {
+        closing.curve.len() == LONGEST_CURVE
+    }),
     ("entry of equal figures", |closing| {
         closing.makes(|entry| entry.before == entry.after)
     }),

@@ -27,14 +27,14 @@ pub const SETTLED: &[Feature<Settled>] = &[
         projects.any(|developers| developers.len() >= 4)
     }),
     ("2 choices or more", |s| s.settlement.choices >= 2),
-    ("16 or more", |s| s.settlement.choices >= 16),
-    ("256 or more", |s| s.settlement.choices >= 256),
-    ("4,096 or more", |s| s.settlement.choices >= 4_096),
-    ("65,536", |s| s.settlement.choices == 65_536),
+    ("16 choices or more", |s| s.settlement.choices >= 16),
+    ("256 choices or more", |s| s.settlement.choices >= 256),
+    ("4,096 choices or more", |s| s.settlement.choices >= 4_096),
+    ("65,536 choices", |s| s.settlement.choices == 65_536),
     ("not all choices cover", |s| {
         s.settlement.covering < s.settlement.choices
     }),
-    ("2 or more cover", |s| s.settlement.covering >= 2),
+    ("2 choices or more cover", |s| s.settlement.covering >= 2),
     ("total is demand", |s| {
         s.settlement.total == s.settlement.demand
     }),

@@ -148,7 +148,7 @@ fn shares_of_replies() {
     let participation: Vec<_> = shares.participation.counts().collect();
     let mut curves: Vec<_> = shares.curves.counts().collect();
     // The longest are fixed records.
-    curves.retain(|(name, _)| *name != "256");
+    curves.retain(|(name, _)| *name != "256 entries");
     for counts in [lodgings, cancellations, participation, curves] {
         assert!(counts[0].1 * 3 >= shares.records, "{counts:?}");
         assert!(counts.iter().all(|(_, count)| *count >= 500), "{counts:?}");
