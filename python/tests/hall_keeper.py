@@ -14,7 +14,7 @@ import resource
 import signal
 import sys
 
-from halls import CLASS
+from halls import CLASS, PATIENCE
 from reference_engine.hall.application import Application
 from reference_engine.hall.hall import Hall
 from reference_engine.hall.server import Server
@@ -25,7 +25,7 @@ def serve(path: str, limit: int, port_to: int) -> None:
     if limit:
         resource.setrlimit(resource.RLIMIT_FSIZE, (limit, limit))
     hall = Hall(path, CLASS)
-    server = Server(("127.0.0.1", 0), Application(hall))
+    server = Server(("127.0.0.1", 0), Application(hall), PATIENCE)
     dropped = len(hall._file.dropped)
     os.write(port_to, f"{server.server_address[1]} {dropped} {os.getpid()}\n".encode())
     os.close(port_to)

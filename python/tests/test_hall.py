@@ -20,7 +20,7 @@ from wsgiref.util import setup_testing_defaults
 from wsgiref.validate import validator
 
 from halls import CLASS, SETTINGS, Answer, Client, HallTest, Served, in_round
-from reference_engine import library
+from records import ROOT
 from reference_engine.command import BadInput
 from reference_engine.hall.application import Application, hall_of
 from reference_engine.hall.hall import Hall
@@ -249,8 +249,15 @@ class Refusals(HallTest):
 
     def test_every_refusal_of_a_call_has_words(self) -> None:
         """Those of docs/RULES.md's table of calls, by frame; each is about a field or the form."""
-        orders = {1: (2, 1), 2: (2, 3, 4), 3: (2, 5, 9), 4: (2, 3, 8, 6, 7), 5: (2,), 6: (2, 10)}
-        orders |= {7: (2, 15, 6, 7), 8: (2, 3, 4), 9: (2, 3, 16)}
+        rules = (ROOT / "docs/RULES.md").read_text(encoding="utf-8")
+        calls = {0x01: "set-up", 0x02: "registration", 0x03: "opening", 0x04: "offer"}
+        calls |= {0x05: "closing, preview", 0x06: "settling", 0x07: "lodging"}
+        calls |= {0x08: "registration", 0x09: "cancellation"}
+        orders = {}
+        for kind, call in calls.items():
+            (order,) = re.findall(rf"^\| {call} \| ([0-9, ]+) \|", rules, re.MULTILINE)
+            # 11 is no line's answer: the reply's buffer always holds the award.
+            orders[kind] = [number for number in map(int, order.split(", ")) if number != 11]
         self.assertEqual(
             {kind: {*numbers} for kind, numbers in orders.items()},
             {kind: {*words} for kind, words in _WORDS.items()},

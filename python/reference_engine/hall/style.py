@@ -126,14 +126,17 @@ SCRIPT = """
     const page = new DOMParser().parseFromString(await answer.text(), "text/html");
     const focused = document.activeElement && document.activeElement.id;
     const fresh = page.querySelector("main");
+    const said = [];
     for (const part of fresh.querySelectorAll("section[data-part]")) {
       const old = document.getElementById(part.id);
       if (old && old.dataset.part !== part.dataset.part) {
         old.replaceChildren(...part.childNodes);
         old.className = part.className;
+        said.push(part.dataset.said || "");
         old.dataset.part = part.dataset.part;
       }
     }
+    document.getElementById("said").textContent = said.join(" ");
     main.dataset.shown = fresh.dataset.shown;
     document.title = page.title;
     const again = focused && document.getElementById(focused);
