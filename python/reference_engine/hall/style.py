@@ -152,7 +152,7 @@ SCRIPT = """
         const asked = main.dataset.page + "/changes?shown=" + main.dataset.shown;
         const answer = await fetch(asked, { cache: "no-store", signal: stop.signal });
         if (answer.status === 404) { location.replace(main.dataset.page); return; }
-        if (answer.status === 200) { await refresh(); }
+        if (answer.status === 200) { await refresh(); await pause(250); }
         offline.hidden = answer.status < 400;
         if (answer.status >= 400) { await pause(3000); }
       } catch (error) {
