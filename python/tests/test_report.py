@@ -172,7 +172,7 @@ class SamplePage(unittest.TestCase):
         self.assertNotIn("second price", " ".join(words))
 
     def test_curves_are_the_librarys(self) -> None:
-        """Read back by the axis ticks, both curves have the numbers of library and trace."""
+        """Read back by the axis ticks, both curves have the numbers of the library."""
         (picture,) = self.page.pictures()
         boxes = {box[4]: box for box in _boxes(picture)}
         x = {1_000: _middle(boxes["1,000"]), 1_200: _middle(boxes["1,200"])}
