@@ -22,6 +22,7 @@ from wsgiref.validate import validator
 from halls import CLASS, SETTINGS, Answer, Client, HallTest, Served, in_round
 from records import ROOT
 from reference_engine.command import BadInput
+from reference_engine.hall import roster
 from reference_engine.hall.application import Application, hall_of
 from reference_engine.hall.hall import Hall
 from reference_engine.hall.roster import Listed, Plant, read_roster
@@ -562,6 +563,30 @@ class Wsgi(HallTest):
         self.assertNotIn("secret", answer.text)
         self.assertIn("RuntimeError", said.getvalue())
         self.assertNotIn(served.at(AUDITOR).key, said.getvalue())
+
+
+class Manual(HallTest):
+    """docs/HALL.md, held to what it says."""
+
+    def setUp(self) -> None:
+        super().setUp()
+        self.page = (ROOT / "docs/HALL.md").read_text(encoding="utf-8")
+
+    def test_the_class_of_the_manual(self) -> None:
+        """Its list and its settings make an auction whose first round opens as it says."""
+        (listed,) = re.findall(r"^```text\n(.*?)^```$", self.page, re.MULTILINE | re.DOTALL)
+        served = self.served(read_roster(listed.encode(), "class.csv"))
+        (said,) = re.findall(r"\(with the list above: (.*?)\)", self.page)
+        settings = {name.lower(): value for name, value in re.findall(r"(\w+) (\d+)", said)}
+        (c,) = re.findall(r"down to a closing price, such as (\d+)", self.page)
+        auctioneer = served.at(AUCTIONEER)
+        for form, fields in (("set_up", settings), ("listed", {}), ("open", {"c": c})):
+            self.assertEqual(auctioneer.post(form, fields).reply[2:], "00")
+        self.assertIn("Your standing offer", words_of(served.at(DEVELOPER[4]).get()))
+
+    def test_columns(self) -> None:
+        cells = re.findall(r"^\| (`.*?`) \|", self.page, re.MULTILINE)
+        self.assertEqual(tuple(re.findall("`([a-z]+)`", " ".join(cells))), roster._COLUMNS)
 
 
 class ClassLists(unittest.TestCase):
