@@ -3,8 +3,9 @@
     python3 hall_keeper.py SESSION
 
 Each line on standard input is a command, answered by a line: `start LIMIT` forks a process that
-serves the session, whose files may grow to LIMIT bytes (0: as they like), and says its port, how
-many bytes of an unfinished line it dropped and its process; `kill` ends it by SIGKILL.
+serves the session, whose files may grow to LIMIT bytes (0: as they like), and says its port and how
+many bytes of an unfinished line it dropped; `kill` ends it by SIGKILL. At the end of the input the
+last one is ended too.
 """
 
 from __future__ import annotations
@@ -14,7 +15,7 @@ import resource
 import signal
 import sys
 
-from halls import CLASS
+from halls import CLASS, PATIENCE
 from reference_engine.hall.application import Application
 from reference_engine.hall.hall import Hall
 from reference_engine.hall.server import Server
@@ -25,11 +26,17 @@ def serve(path: str, limit: int, port_to: int) -> None:
     if limit:
         resource.setrlimit(resource.RLIMIT_FSIZE, (limit, limit))
     hall = Hall(path, CLASS)
-    server = Server(("127.0.0.1", 0), Application(hall))
+    server = Server(("127.0.0.1", 0), Application(hall), PATIENCE)
     dropped = len(hall._file.dropped)
-    os.write(port_to, f"{server.server_address[1]} {dropped} {os.getpid()}\n".encode())
+    os.write(port_to, f"{server.server_address[1]} {dropped}\n".encode())
     os.close(port_to)
     server.serve_forever()
+
+
+def ended(child: int) -> int:
+    """Kills a process, and gives its exit status."""
+    os.kill(child, signal.SIGKILL)
+    return os.waitstatus_to_exitcode(os.waitpid(child, 0)[1])
 
 
 def main(path: str) -> None:
@@ -37,8 +44,8 @@ def main(path: str) -> None:
     for command in sys.stdin:
         words = command.split()
         if words[0] == "kill":
-            os.kill(child, signal.SIGKILL)
-            print(os.waitstatus_to_exitcode(os.waitpid(child, 0)[1]), flush=True)
+            print(ended(child), flush=True)
+            child = 0
             continue
         port_from, port_to = os.pipe()
         child = os.fork()
@@ -51,6 +58,8 @@ def main(path: str) -> None:
         os.close(port_to)
         with os.fdopen(port_from) as said:
             print(said.readline().strip(), flush=True)
+    if child:
+        ended(child)
 
 
 if __name__ == "__main__":

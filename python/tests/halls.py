@@ -72,7 +72,11 @@ class Served:
     """A hall, served on a free port of this machine until it is ended."""
 
     def __init__(
-        self, path: Path, listed: Iterable[Listed] = (), wait: float = 20.0, patience: float = 60.0
+        self,
+        path: Path,
+        listed: Iterable[Listed] = (),
+        wait: float = 20.0,
+        patience: float = PATIENCE,
     ) -> None:
         self.said: list[str] = []
         self.hall = Hall(path, listed, self.said.append, "http://hall")

@@ -20,8 +20,9 @@ from wsgiref.util import setup_testing_defaults
 from wsgiref.validate import validator
 
 from halls import CLASS, SETTINGS, Answer, Client, HallTest, Served, in_round
-from reference_engine import library
+from records import ROOT
 from reference_engine.command import BadInput
+from reference_engine.hall import roster
 from reference_engine.hall.application import Application, hall_of
 from reference_engine.hall.hall import Hall
 from reference_engine.hall.roster import Listed, Plant, read_roster
@@ -249,8 +250,15 @@ class Refusals(HallTest):
 
     def test_every_refusal_of_a_call_has_words(self) -> None:
         """Those of docs/RULES.md's table of calls, by frame; each is about a field or the form."""
-        orders = {1: (2, 1), 2: (2, 3, 4), 3: (2, 5, 9), 4: (2, 3, 8, 6, 7), 5: (2,), 6: (2, 10)}
-        orders |= {7: (2, 15, 6, 7), 8: (2, 3, 4), 9: (2, 3, 16)}
+        rules = (ROOT / "docs/RULES.md").read_text(encoding="utf-8")
+        calls = {0x01: "set-up", 0x02: "registration", 0x03: "opening", 0x04: "offer"}
+        calls |= {0x05: "closing, preview", 0x06: "settling", 0x07: "lodging"}
+        calls |= {0x08: "registration", 0x09: "cancellation"}
+        orders = {}
+        for kind, call in calls.items():
+            (order,) = re.findall(rf"^\| {call} \| ([0-9, ]+) \|", rules, re.MULTILINE)
+            # 11 is no line's answer: the reply's buffer always holds the award.
+            orders[kind] = [number for number in map(int, order.split(", ")) if number != 11]
         self.assertEqual(
             {kind: {*numbers} for kind, numbers in orders.items()},
             {kind: {*words} for kind, words in _WORDS.items()},
@@ -555,6 +563,30 @@ class Wsgi(HallTest):
         self.assertNotIn("secret", answer.text)
         self.assertIn("RuntimeError", said.getvalue())
         self.assertNotIn(served.at(AUDITOR).key, said.getvalue())
+
+
+class Manual(HallTest):
+    """docs/HALL.md, held to what it says."""
+
+    def setUp(self) -> None:
+        super().setUp()
+        self.page = (ROOT / "docs/HALL.md").read_text(encoding="utf-8")
+
+    def test_the_class_of_the_manual(self) -> None:
+        """Its list and its settings make an auction whose first round opens as it says."""
+        (listed,) = re.findall(r"^```text\n(.*?)^```$", self.page, re.MULTILINE | re.DOTALL)
+        served = self.served(read_roster(listed.encode(), "class.csv"))
+        (said,) = re.findall(r"\(with the list above: (.*?)\)", self.page)
+        settings = {name.lower(): value for name, value in re.findall(r"(\w+) (\d+)", said)}
+        (c,) = re.findall(r"down to a closing price, such as (\d+)", self.page)
+        auctioneer = served.at(AUCTIONEER)
+        for form, fields in (("set_up", settings), ("listed", {}), ("open", {"c": c})):
+            self.assertEqual(auctioneer.post(form, fields).reply[2:], "00")
+        self.assertIn("Your standing offer", words_of(served.at(DEVELOPER[4]).get()))
+
+    def test_columns(self) -> None:
+        cells = re.findall(r"^\| (`.*?`) \|", self.page, re.MULTILINE)
+        self.assertEqual(tuple(re.findall("`([a-z]+)`", " ".join(cells))), roster._COLUMNS)
 
 
 class ClassLists(unittest.TestCase):

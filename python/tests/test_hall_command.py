@@ -13,6 +13,14 @@ from pathlib import Path
 from halls import SETTINGS, Client, HallTest
 from records import ROOT
 
+# A shell that starts the tests in the background lets them ignore Ctrl-C; a teacher's does not.
+PROGRAM = """\
+import signal
+import sys
+from reference_engine.__main__ import main
+signal.signal(signal.SIGINT, signal.default_int_handler)
+sys.exit(main())
+"""
 CLASS = """\
 name,developer,project,kind,levels
 Ana Gómez,1,1,existing,500000
@@ -27,7 +35,7 @@ class Command(HallTest):
         (self.folder / "class.csv").write_text(CLASS, encoding="utf-8")
 
     def started(self, *arguments: str) -> subprocess.Popen[str]:
-        command = [sys.executable, "-m", "reference_engine", "hall", "class.session", *arguments]
+        command = [sys.executable, "-c", PROGRAM, "hall", "class.session", *arguments]
         process = subprocess.Popen(
             command,
             cwd=self.folder,

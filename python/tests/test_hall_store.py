@@ -40,7 +40,7 @@ class Keeper:
 
     def start(self, limit: int = 0) -> tuple[int, int]:
         """Starts a hall: its port, and how many bytes it dropped."""
-        port, dropped, _ = self._ask(f"start {limit}").split()
+        port, dropped = self._ask(f"start {limit}").split()
         return int(port), int(dropped)
 
     def kill(self) -> int:
@@ -107,7 +107,7 @@ class _Load:
                 if self._ended:
                     return
                 life, port = self._life, self._port
-            while self._call(seat, port):
+            while not self._ended and self._call(seat, port):
                 pass
 
     def _call(self, seat: Seat, port: int) -> bool:
@@ -304,6 +304,28 @@ class FullDisk(HallTest):
             self.assertReplies(auctioneer.post("set_up", SETTINGS), "0100")
             self.assertEqual(auctioneer.post("open", c="30").status, 503)
             self.assertIn("at most 60 bytes", auctioneer.post("open", c="30").text)
+
+
+class Synced(HallTest):
+    def test_synced_before_the_answer(self) -> None:
+        """Each line, a refused one too, is whole in the file when it is synced, once."""
+        hall = Hall(self.path)
+        self.addCleanup(hall.close)
+        seen: list[bytes] = []
+        sync = os.fsync
+
+        def synced(file: int) -> None:
+            seen.append(self.path.read_bytes())
+            sync(file)
+
+        expected = b""
+        with mock.patch.object(store.os, "fsync", synced):
+            for form, fields in (("open", {"c": "1"}), ("set_up", SETTINGS), ("close", {})):
+                line = line_of(form, AUCTIONEER, fields)
+                expected += line
+                hall.ask(AUCTIONEER, line)
+                self.assertEqual(seen[-1], expected)
+        self.assertEqual(len(seen), 3)
 
 
 class Files(HallTest):

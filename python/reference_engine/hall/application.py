@@ -142,7 +142,7 @@ class _Request:
         drawn = plain
         if typed or game:
             drawn = parts(self._seated, known, self._place, seats, typed, game)
-        return Response(status, page(self._seated, self._place, plain, drawn))
+        return Response(status, page(self._seated, known, self._place, plain, drawn))
 
     def changes(self, shown: str, wait: float) -> Response:
         """200 as soon as the seat's page is another than the one shown; 204 if it stays so long."""

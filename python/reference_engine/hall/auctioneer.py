@@ -227,7 +227,7 @@ def _closing(view: View) -> Part:
         ),
         given.drawn(buttons(button("Close the round"))),
         whole=True,
-        live=True,
+        said=f"Preview: excess {quantity(preview.excess)}; then the auction {outcome}.",
     )
 
 
@@ -265,7 +265,7 @@ def _forcing(view: View, game: Game | None) -> Part:
         "Two new plants of different projects move in turn down the prices; each stays or leaves."
         " The first wants a high price, the second a low one."
     )
-    return part("forcing", "Who can force the price", note(words), drawn, said, live=True)
+    return part("forcing", "Who can force the price", note(words), drawn, said)
 
 
 # ---- the supply curve

@@ -35,7 +35,18 @@ def state(view: View) -> Part:
                 ]
             )
         )
-    return part("state", "Published", *shown, whole=True, live=True)
+    return part("state", "Published", *shown, whole=True, said=_said(view))
+
+
+def _said(view: View) -> str:
+    """The published values in a sentence or two."""
+    reading = view.known.reading
+    words = PHASES[reading.phase][1]
+    if reading.phase < Phase.ROUND:
+        return words
+    excess = " ".join(_excess(view)).strip()
+    prices = f"from {price(reading.opening)} down to {price(reading.closing)} {PRICE}"
+    return f"{words} The round goes {prices}. Excess at the latest closing: {excess}."
 
 
 def _excess(view: View) -> tuple[str, str]:
@@ -54,15 +65,16 @@ def answer(view: View) -> Part:
             " ".join(view.typed.faults.values()),
             class_="answer refused",
         )
-        return part("answer", "Your latest call", faults, whole=True, live=True)
+        return part("answer", "Your latest call", faults, whole=True)
     latest = view.latest
     if latest is None:
-        return Part("answer", whole=True, live=True)
+        return Part("answer", whole=True)
     looks = "answer refused" if latest.reply.number else "answer"
     words = element(
         "p", element("b", call_in_words(latest.call)), answer_in_words(latest.reply), class_=looks
     )
-    return part("answer", "Your latest call", words, whole=True, live=True)
+    said = f"{call_in_words(latest.call)}. {answer_in_words(latest.reply)}"
+    return part("answer", "Your latest call", words, whole=True, said=said)
 
 
 def calls(view: View) -> Part:

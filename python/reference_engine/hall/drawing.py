@@ -15,12 +15,12 @@ class Part:
     name: str
     content: Markup = Markup()
     whole: bool = False  # over the page's whole width
-    live: bool = False  # a screen reader tells its changes
+    said: str = ""  # what a screen reader says where the part has changed
 
 
-def part(name: str, heading: str, *content: str, whole: bool = False, live: bool = False) -> Part:
+def part(name: str, heading: str, *content: str, whole: bool = False, said: str = "") -> Part:
     """A part with its heading."""
-    return Part(name, joined(element("h2", heading), *content), whole, live)
+    return Part(name, joined(element("h2", heading), *content), whole, said)
 
 
 def figures(items: Iterable[tuple[str, str, str]]) -> Markup:

@@ -92,12 +92,12 @@ class Hall:
             self._file.append(line)
             asked = self._note(line.rstrip(b"\n"), text)
         registered = _registers(asked)
-        if asked.reply.number == 0 and asked.reply.kind in _PUBLISHING:
-            self._stir(list(self._watchers))
-        else:
-            self._stir([seat, AUCTIONEER, *(Seat.developer(number) for number in registered)])
         for number in registered:
             self._seat(number)
+        if asked.reply.number == 0 and asked.reply.kind in _PUBLISHING:
+            self._stir()
+        else:
+            self._stir([seat, AUCTIONEER, *(Seat.developer(number) for number in registered)])
         return asked
 
     def _note(self, line: bytes, text: str) -> Asked:
@@ -166,8 +166,10 @@ class Hall:
                 with self._turn:
                     watchers.remove(event)
 
-    def _stir(self, seats: Iterable[Seat]) -> None:
+    def _stir(self, seats: Iterable[Seat] | None = None) -> None:
+        """Wakes the pages of these seats, or all pages, to see whether they have changed."""
         with self._turn:
+            seats = list(self._watchers) if seats is None else seats
             stirred = [
                 event for seat in dict.fromkeys(seats) for event in self._watchers.get(seat, ())
             ]
@@ -177,8 +179,9 @@ class Hall:
 
 def _registers(asked: Asked) -> list[int]:
     """The developer that a call has registered, if it has."""
-    accepted = asked.reply.number == 0 and isinstance(asked.call, Registration)
-    return [asked.call.developer] if accepted and isinstance(asked.call, Registration) else []
+    if asked.reply.number == 0 and isinstance(asked.call, Registration):
+        return [asked.call.developer]
+    return []
 
 
 def _dropped(rest: bytes) -> str:

@@ -15,6 +15,7 @@ from .hall import Known
 from .seats import Seated
 from .style import SCRIPT, STYLE
 from .views import View
+from .words import PHASES
 
 
 def _hashed(text: str) -> str:
@@ -57,9 +58,12 @@ def fingerprint(drawn: Sequence[Part]) -> str:
     return hashlib.sha256(text.encode("utf-8", "replace")).hexdigest()[:32]
 
 
-def page(seated: Seated, place: str, plain: Sequence[Part], drawn: Sequence[Part]) -> str:
+def page(
+    seated: Seated, known: Known, place: str, plain: Sequence[Part], drawn: Sequence[Part]
+) -> str:
     """A seat's page. Its fingerprints are of the plain parts, those without anything typed."""
     title = str(seated.seat).capitalize()
+    phase = PHASES[known.reading.phase][0]
     name = element("p", seated.name) if seated.name else Markup()
     header = element(
         "header",
@@ -73,16 +77,17 @@ def page(seated: Seated, place: str, plain: Sequence[Part], drawn: Sequence[Part
         "body",
         header,
         element("p", offline, class_="offline", id="offline", role="status", hidden="hidden"),
+        element("p", class_="unseen", id="said", aria_live="polite"),
         element("main", *sections, data_page=place, data_shown=fingerprint(plain)),
         element("script", Markup(SCRIPT)),
     )
-    return _document(f"{title} · Auction hall", body)
+    return _document(f"{title} · {phase} · Auction hall", body)
 
 
 def _section(drawn: Part, known: str) -> Markup:
     attributes = {"class_": "whole"} if drawn.whole else {}
-    if drawn.live:
-        attributes["aria_live"] = "polite"
+    if drawn.said:
+        attributes["data_said"] = drawn.said
     return element(
         "section", drawn.content, id=drawn.name, tabindex="-1", data_part=known, **attributes
     )

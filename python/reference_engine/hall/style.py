@@ -126,14 +126,17 @@ SCRIPT = """
     const page = new DOMParser().parseFromString(await answer.text(), "text/html");
     const focused = document.activeElement && document.activeElement.id;
     const fresh = page.querySelector("main");
+    const said = [];
     for (const part of fresh.querySelectorAll("section[data-part]")) {
       const old = document.getElementById(part.id);
       if (old && old.dataset.part !== part.dataset.part) {
         old.replaceChildren(...part.childNodes);
         old.className = part.className;
+        said.push(part.dataset.said || "");
         old.dataset.part = part.dataset.part;
       }
     }
+    document.getElementById("said").textContent = said.join(" ");
     main.dataset.shown = fresh.dataset.shown;
     document.title = page.title;
     const again = focused && document.getElementById(focused);
@@ -149,7 +152,7 @@ SCRIPT = """
         const asked = main.dataset.page + "/changes?shown=" + main.dataset.shown;
         const answer = await fetch(asked, { cache: "no-store", signal: stop.signal });
         if (answer.status === 404) { location.replace(main.dataset.page); return; }
-        if (answer.status === 200) { await refresh(); }
+        if (answer.status === 200) { await refresh(); await pause(250); }
         offline.hidden = answer.status < 400;
         if (answer.status >= 400) { await pause(3000); }
       } catch (error) {

@@ -5,6 +5,7 @@ from __future__ import annotations
 from collections.abc import Mapping
 from dataclasses import dataclass
 
+from .. import library
 from ..calls import (
     Call,
     Cancellation,
@@ -19,8 +20,7 @@ from ..calls import (
 from ..live import CurvePoint, Preview, Settlement
 from ..markup import pointed
 from ..refusals import Refused
-from ..replies import Reply
-from ..session import Seat, Session
+from ..session import Seat
 from .forms import Typed
 from .hall import Asked, Known
 from .words import refused
@@ -83,15 +83,16 @@ class View:
     def _faults(self, asked: Asked) -> dict[str, str]:
         field, words = refused(asked.reply)
         if field in ("price", "level") and isinstance(asked.call, (Offer, Lodging)):
-            field += str(self._step_at_fault(asked.call, asked.reply))
+            field += str(self._step_at_fault(asked.call, asked.reply_text))
         return {field: words}
 
-    def _step_at_fault(self, call: Offer | Lodging, reply: Reply) -> int:
+    def _step_at_fault(self, call: Offer | Lodging, reply: str) -> int:
         """The first step with which the library refuses the call so."""
         for count in range(1, len(call.steps)):
-            calls = Session(bytes(self.known.session)).at(self.seat)
+            calls = self.known.session.copy().at(self.seat)
             ask = calls.offer if isinstance(call, Offer) else calls.lodge
-            if ask(call.developer, call.steps[:count]).replies()[-1] == reply:
+            asked = bytes(ask(call.developer, call.steps[:count]))
+            if library.session_replay(asked).split()[-1].decode("ascii") == reply:
                 return count
         return max(len(call.steps), 1)
 
