@@ -4,15 +4,13 @@
 //! Where the paper gives a rule and a formula for it, this one takes the rule.
 //!
 //! `model` is that implementation, `generators` make the inputs, `coverage` counts what they reach, and
-//! `comparisons` run the engine beside it. Each uses only those before it; unit tests use all.
+//! `comparisons` run the engine beside it. Each uses only those before it; the unit tests, `tests`, use all.
 
 pub mod comparisons;
 pub mod coverage;
 pub mod generators;
 pub mod model;
 pub mod parts;
-#[cfg(test)]
-mod tests;
 
 /// An accepted call's number, or the number of its refusal.
 pub type Answer = Result<u64, u8>;

@@ -1,15 +1,15 @@
 //! What the generated records hold, so that a run beside the engine on them means something.
-//! The shares are printed: cargo test --lib --release shares -- --nocapture
+//! The shares are printed: cargo test --example unit_tests --release shares -- --nocapture
 
 use super::{each_step, Step, RECORDS};
-use crate::coverage::{
+use independent::coverage::{
     Cancellations, Closings, Features, Lodgings, Participation, Redrawn, Remainders,
 };
-use crate::coverage::{CANCELLATIONS, CURVES, LODGINGS, PARTICIPATION};
-use crate::generators::records::DECISIVE;
-use crate::model::auction::Auction;
-use crate::model::replay::{always_fits, lines, replay, Accepted, Call};
-use crate::model::settling::{Award, Settlement};
+use independent::coverage::{CANCELLATIONS, CURVES, LODGINGS, PARTICIPATION};
+use independent::generators::records::DECISIVE;
+use independent::model::auction::Auction;
+use independent::model::replay::{always_fits, lines, replay, Accepted, Call};
+use independent::model::settling::{Award, Settlement};
 use std::collections::BTreeMap;
 
 /// What the replies to the records say, counted.
