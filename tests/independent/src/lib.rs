@@ -5,7 +5,7 @@
 //!
 //! `model` is that implementation, `generators` make the inputs, `coverage` counts what they reach, and
 //! `comparisons` run the engine beside it; `calibration` chooses some of the inputs for other programs.
-//! Each uses only those before it; unit tests use all.
+//! Each uses only those before it; the unit tests, `tests`, use all.
 
 pub mod calibration;
 pub mod comparisons;
@@ -13,8 +13,6 @@ pub mod coverage;
 pub mod generators;
 pub mod model;
 pub mod parts;
-#[cfg(test)]
-mod tests;
 
 /// An accepted call's number, or the number of its refusal.
 pub type Answer = Result<u64, u8>;

@@ -17,16 +17,3 @@ pub fn in_parts<T: Sync, R: Send>(inputs: &[T], work: impl Fn(&[T]) -> R + Sync)
         results.map(|result| result.expect("no panic")).collect()
     })
 }
-
-#[cfg(test)]
-mod tests {
-    use super::*;
-
-    #[test]
-    fn parts_keep_their_order() {
-        for length in [0, 1, 2, 3, 100] {
-            let inputs: Vec<u64> = (0..length).collect();
-            assert_eq!(in_parts(&inputs, <[u64]>::to_vec).concat(), inputs);
-        }
-    }
-}

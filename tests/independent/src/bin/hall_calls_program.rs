@@ -33,18 +33,20 @@ fn main() -> ExitCode {
         eprintln!("hall_calls_program: the program's path is missing");
         return ExitCode::FAILURE;
     };
-    let stated = stated_runs(&program);
+    // Each group is reported when it is done: where few inputs are enough, the first that differs is the last.
+    let stated = stated_runs(&program).report();
     let runs = Compared::new("runs through seats", SEATS).counting("lines");
     let runs = runs.with(BATCHES, |lines, batch| {
         compare_runs(lines, &program, batch);
     });
+    let runs_agree = runs.report();
     let pairs = Compared::new("runs of one view", PAIRS).counting("pairs");
     let pairs = pairs.with(BATCHES, |pairs, batch| {
         compare_pairs(pairs, &program, batch);
     });
     verdict(&[
-        stated.report(),
-        runs.report(),
+        stated,
+        runs_agree,
         pairs.report(),
         few() || runs.holds_enough(FEWEST_LINES),
         few() || pairs.holds_enough(FEWEST_PAIRS),
@@ -97,7 +99,8 @@ fn compare_pairs(pairs: &mut Compared<Pair>, program: &OsStr, batch: u64) {
     compare(pairs, program, &runs, |printed| {
         let both = printed.chunks(2).map(|two| [&two[0][..], &two[1][..]]);
         let mut pairs = zip(&compared, both);
-        pairs.find_map(|(pair, printed)| pair_difference(pair, printed))
+        let difference = pairs.find_map(|(pair, printed)| pair_difference(pair, printed));
+        difference.map(|text| text())
     });
 }
 
@@ -115,6 +118,7 @@ fn compare<T>(
     }
     let mut both = zip(runs, &printed);
     let differing = both.find_map(|(run, printed)| difference(run, printed));
+    let differing = differing.map(|text| text());
     if let Some(why) = differing.or_else(|| further(&printed)) {
         compared.differ(|| why);
     }

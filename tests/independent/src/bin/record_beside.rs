@@ -30,12 +30,13 @@ const RANDOM: u64 = 2_000;
 const FEWEST: u64 = 200;
 
 fn main() -> ExitCode {
-    let stated = stated();
-    let fixed = fixed_records();
+    // Each group is reported when it is done: where few inputs are enough, the first that differs is the last.
+    let stated = stated().report();
+    let fixed = fixed_records().report();
     let random = Compared::new("random records", RECORD_LOOKS).with(RANDOM, compare_record);
     verdict(&[
-        stated.report(),
-        fixed.report(),
+        stated,
+        fixed,
         random.report(),
         few() || random.holds_enough(FEWEST),
     ])

@@ -42,16 +42,18 @@ const FEWEST: u64 = 200;
 const FEWEST_PAIRS: u64 = 200;
 
 fn main() -> ExitCode {
-    let stated = stated();
-    let long = long_sessions();
+    // Each group is reported when it is done: where few inputs are enough, the first that differs is the last.
+    let stated = stated().report();
+    let long = long_sessions().report();
     let random = Compared::new("random sessions", SESSION_LOOKS).counting("lines and calls");
     let random = random.with(SESSIONS, compare_session);
+    let random_agrees = random.report();
     let pairs = Compared::new("sessions of one view", VIEWS).counting("pairs");
     let pairs = pairs.with(PAIRS, compare_pair);
     verdict(&[
-        stated.report(),
-        long.report(),
-        random.report(),
+        stated,
+        long,
+        random_agrees,
         pairs.report(),
         few() || random.holds_enough(FEWEST),
         few() || pairs.holds_enough(FEWEST_PAIRS),

@@ -43,29 +43,29 @@ pub fn parts(runs: &[&[Event]], printed: &str) -> Vec<Vec<String>> {
     parts
 }
 
-/// The first line of a run that is not printed as it has to be, with all lines up to it.
-pub fn difference(run: &[Event], printed: &[String]) -> Option<String> {
+/// The first line of a run that is not printed as it has to be; its text, with all lines up to it.
+pub fn difference<'a>(
+    run: &'a [Event],
+    printed: &'a [String],
+) -> Option<impl FnOnce() -> String + 'a> {
     let expected: Vec<String> = run.iter().map(Event::printed).collect();
-    let at = |place: usize| {
-        let at = |lines: &[String]| lines.get(place).cloned().unwrap_or("none".into());
-        (at(printed), at(&expected))
-    };
-    let differs = |place: &usize| {
-        let (printed, expected) = at(*place);
-        printed != expected
-    };
+    let differs = |place: &usize| printed.get(*place) != expected.get(*place);
     let place = (0..expected.len().max(printed.len())).find(differs)?;
-    let lines = run.iter().take(place + 1);
-    let lines: String = lines.map(|event| format!("  {}\n", event.line)).collect();
-    let (printed, expected) = at(place);
-    Some(format!(
-        "differs in the last of\n{lines}program:     {printed}\nindependent: {expected}"
-    ))
+    Some(move || {
+        let lines = run.iter().take(place + 1);
+        let lines: String = lines.map(|event| format!("  {}\n", event.line)).collect();
+        let at = |lines: &[String]| lines.get(place).cloned().unwrap_or("none".into());
+        let (printed, expected) = (at(printed), at(&expected));
+        format!("differs in the last of\n{lines}program:     {printed}\nindependent: {expected}")
+    })
 }
 
 /// The first event at which the runs of a pair gave the developer two answers or readings, or a call
-/// that shows it nothing changed its reading.
-pub fn pair_difference(pair: &Pair, printed: [&[String]; 2]) -> Option<String> {
+/// that shows it nothing changed its reading; its text, with both runs.
+pub fn pair_difference<'a>(
+    pair: &'a Pair,
+    printed: [&'a [String]; 2],
+) -> Option<impl FnOnce() -> String + 'a> {
     let [one, other] = &pair.runs;
     let both = given(one, printed[0]).and_then(|one| Ok((one, given(other, printed[1])?)));
     let why = match both {
@@ -82,11 +82,13 @@ pub fn pair_difference(pair: &Pair, printed: [&[String]; 2]) -> Option<String> {
             .map(|event| format!("  {}\n", event.line));
         lines.collect::<String>()
     };
-    let (first, second) = (lines(one), lines(other));
-    Some(format!(
-        "differs for developer {}: {why}\nfirst run:\n{first}second run:\n{second}",
-        pair.developer
-    ))
+    Some(move || {
+        let (first, second) = (lines(one), lines(other));
+        let developer = pair.developer;
+        format!(
+            "differs for developer {developer}: {why}\nfirst run:\n{first}second run:\n{second}"
+        )
+    })
 }
 
 /// What a run gave the developer before it and at each of its events: what was printed for its own

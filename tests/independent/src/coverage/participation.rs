@@ -115,14 +115,14 @@ impl Participation {
 
     /// Makes a call that is not a settling.
     fn make(&mut self, call: &Call) {
-        let before = self.auction.clone();
-        let answer = make(&mut self.auction, call);
         let &Call::Register {
             developer, agent, ..
         } = call
         else {
-            return;
+            return drop(make(&mut self.auction, call));
         };
+        let before = self.auction.clone();
+        let answer = make(&mut self.auction, call);
         if answer.is_ok() {
             self.registered.push((developer, agent));
         } else if answer == Err(BAD_NUMBER) && !refused_for_another(before, call) {

@@ -42,9 +42,9 @@ pub struct Forced {
 }
 
 /// The rival who begins, and who wants the outcome high.
-const FIRST: usize = 0;
+pub const FIRST: usize = 0;
 /// The rival who wants it low.
-const SECOND: usize = 1;
+pub const SECOND: usize = 1;
 
 /// The place among the rivals of the one who moves after so many moves: they move in turn.
 fn mover(moves: usize) -> usize {

@@ -78,7 +78,7 @@ impl Developer {
     }
 
     /// Whether the level is open to it: declared, or 0, and from its own low to its own high.
-    pub(crate) fn has_open(&self, level: u64, p: u64) -> bool {
+    pub fn has_open(&self, level: u64, p: u64) -> bool {
         let known = self.levels_and_0().any(|known| known == level);
         known && self.low(p) <= level && level <= self.high(p)
     }

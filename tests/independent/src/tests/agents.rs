@@ -2,11 +2,11 @@
 //! other sums, wrong readings of the rule, and what does not go by agents.
 
 use super::{each_step, RECORDS, SETTLINGS};
-use crate::generators::cutting::refused;
-use crate::generators::records::with_agent;
-use crate::model::auction::{Auction, Developer, EXISTING, NEW};
-use crate::model::replay::{kind_of, lines, make, read_call, replay, write_call, Call};
-use crate::model::settling::Settlement;
+use independent::generators::cutting::refused;
+use independent::generators::records::with_agent;
+use independent::model::auction::{Auction, Developer, EXISTING, NEW};
+use independent::model::replay::{kind_of, lines, make, read_call, replay, write_call, Call};
+use independent::model::settling::Settlement;
 use std::collections::BTreeMap;
 
 /// With sums agent by agent: less for small agents than for others.

@@ -1,10 +1,10 @@
 //! What document 01's rules imply for settlings, on those of generated records.
 
 use super::{choices, each_step, RECORDS, SETTLINGS};
-use crate::generators::cutting::{refused, without};
-use crate::model::auction::{Auction, Developer};
-use crate::model::replay::replay;
-use crate::model::settling::{Award, Settlement};
+use independent::generators::cutting::{refused, without};
+use independent::model::auction::{Auction, Developer};
+use independent::model::replay::replay;
+use independent::model::settling::{Award, Settlement};
 use std::cmp::Reverse;
 
 fn each_settling(mut visit: impl FnMut(&Auction, &Settlement)) {

@@ -2,9 +2,9 @@
 //! every call, and the sample reaches what its paper says of it.
 
 use super::shares::REPLIES;
-use crate::calibration::{Sort, RECORDS, SESSIONS};
-use crate::coverage::{goals, reached, session_reached, Goal};
-use crate::generators::sample;
+use independent::calibration::{Sort, RECORDS, SESSIONS};
+use independent::coverage::{goals, reached, session_reached, Goal};
+use independent::generators::sample;
 use std::collections::BTreeSet;
 
 #[test]

@@ -1,11 +1,11 @@
 //! Cancellations (document 02, request 7) by calls, and records cut of cancelled offers.
 
 use super::{close, each_step, sample_closed, sample_opened, sample_registered, RECORDS};
-use crate::generators::cutting::{cancelled, without};
-use crate::generators::records::fixed;
-use crate::generators::sample::{CANCELLED, RECORD, REPLY};
-use crate::model::auction::{Auction, EXISTING};
-use crate::model::replay::{lines, read_call, replay, Call};
+use independent::generators::cutting::{cancelled, without};
+use independent::generators::records::fixed;
+use independent::generators::sample::{CANCELLED, RECORD, REPLY};
+use independent::model::auction::{Auction, EXISTING};
+use independent::model::replay::{lines, read_call, replay, Call};
 
 #[test]
 fn while_a_round_is_open() {

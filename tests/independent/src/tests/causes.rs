@@ -2,10 +2,10 @@
 //! others say, and the answer has to be the first in the paper's order that fails.
 
 use super::{each_step, Step, RECORDS};
-use crate::model::auction::{Auction, Developer, Phase, EXISTING, NEW};
-use crate::model::demand::demand;
-use crate::model::replay::{kind_of, Call};
-use crate::model::settling::number_of_choices;
+use independent::model::auction::{Auction, Developer, Phase, EXISTING, NEW};
+use independent::model::demand::demand;
+use independent::model::replay::{kind_of, Call};
+use independent::model::settling::number_of_choices;
 use std::collections::BTreeMap;
 
 /// The checks of each call in order, with whether each one fails.

@@ -2,8 +2,8 @@
 //! where two causes meet.
 
 use super::{close, sample_closed, sample_opened, sample_registered, sample_set_up};
-use crate::model::auction::{Auction, EXISTING, HIGHEST_LEVEL, NEW};
-use crate::model::replay::replay;
+use independent::model::auction::{Auction, EXISTING, HIGHEST_LEVEL, NEW};
+use independent::model::replay::replay;
 
 /// Each row's example, in the table's words.
 #[test]

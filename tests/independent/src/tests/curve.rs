@@ -4,11 +4,11 @@
 use super::{
     close, each_step, sample_closed, sample_opened, sample_registered, sample_set_up, RECORDS,
 };
-use crate::coverage::{Redrawn, LONGEST_CURVE};
-use crate::generators::records::fixed;
-use crate::model::auction::{Auction, Phase, EXISTING, NEW};
-use crate::model::curve::Entry;
-use crate::model::replay::{Accepted, PROGRAM_BYTES};
+use independent::coverage::{Redrawn, LONGEST_CURVE};
+use independent::generators::records::fixed;
+use independent::model::auction::{Auction, Phase, EXISTING, NEW};
+use independent::model::curve::Entry;
+use independent::model::replay::{Accepted, PROGRAM_BYTES};
 
 /// The curve as (price, before, after).
 fn curve(auction: &Auction) -> Vec<(u64, u64, u64)> {

@@ -2,14 +2,14 @@
 //! generated records; and the order of the checks.
 
 use super::RECORDS;
-use crate::generators::sample;
-use crate::model::auction::Phase;
-use crate::model::figures::{
+use independent::generators::sample;
+use independent::model::auction::Phase;
+use independent::model::figures::{
     hall_after, limited, record_curve, record_preview, record_settlement, record_state, settled,
     settlement, settling, state,
 };
-use crate::model::replay::{lines, replay};
-use crate::{host_number, ABOVE_THE_LIMIT, BUFFER_TOO_SHORT, NOT_IN_THIS_PHASE};
+use independent::model::replay::{lines, replay};
+use independent::{host_number, ABOVE_THE_LIMIT, BUFFER_TOO_SHORT, NOT_IN_THIS_PHASE};
 
 const UNTOUCHED: u64 = 0xEEEE;
 

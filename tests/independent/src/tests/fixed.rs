@@ -1,7 +1,7 @@
 //! The fixed records: each group meets the refusals that it is about, and no others.
 
-use crate::generators::records::fixed;
-use crate::model::replay::{lines, replay};
+use independent::generators::records::fixed;
+use independent::model::replay::{lines, replay};
 use std::collections::BTreeSet;
 
 /// The refusals of each group, by kind and number.

@@ -1,15 +1,15 @@
 //! Who can force the price (document 02, request 11): each sentence of it in games worked out by hand,
 //! and what the rules imply for it on generated ones. The stated games say what demand and supply are.
 
-use crate::coverage::Asked;
-use crate::generators::games::question;
-use crate::generators::games::stated::{between_rounds, questions, written, TEN};
-use crate::generators::lent::lend;
-use crate::model::auction::{Auction, Developer, Phase};
-use crate::model::forcing::Move::{self, Keep, Withdraw};
-use crate::model::forcing::{who_can_force, Forced, Game, MOST_PRICES_TRIED};
-use crate::model::replay::{auction_after, make, write_call, Call};
-use crate::{host_number, BUFFER_TOO_SHORT, NOT_IN_THIS_PHASE, NO_SUCH_GAME};
+use independent::coverage::Asked;
+use independent::generators::games::question;
+use independent::generators::games::stated::{between_rounds, questions, written, TEN};
+use independent::generators::lent::lend;
+use independent::model::auction::{Auction, Developer, Phase};
+use independent::model::forcing::Move::{self, Keep, Withdraw};
+use independent::model::forcing::{who_can_force, Forced, Game, MOST_PRICES_TRIED};
+use independent::model::replay::{auction_after, make, write_call, Call};
+use independent::{host_number, BUFFER_TOO_SHORT, NOT_IN_THIS_PHASE, NO_SUCH_GAME};
 use std::sync::LazyLock;
 
 /// Generated questions, each with its auction and its game, if it is one.

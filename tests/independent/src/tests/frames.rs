@@ -1,8 +1,8 @@
 //! Frames by bytes: what is a line, what is a frame, and which calls frames make.
 
-use crate::generators::records::with_agent;
-use crate::generators::sample::{RECORD, REPLY};
-use crate::model::replay::{lines, next_line, read_call, replay, write_call, Call};
+use independent::generators::records::with_agent;
+use independent::generators::sample::{RECORD, REPLY};
+use independent::model::replay::{lines, next_line, read_call, replay, write_call, Call};
 
 /// The sample's lines up to and with its opening; registrations stand second to fifth.
 const REGISTERED: usize = 5;

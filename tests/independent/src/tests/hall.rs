@@ -1,16 +1,16 @@
 //! Seats in the auction hall (document 02, request 14): each sentence of it in runs worked out by hand,
 //! what it says of all runs on generated ones, and that the comparisons report what differs.
 
-use crate::comparisons::hall::{difference, groups, input, pair_difference, parts};
-use crate::generators::hall::pairs::{pair, Pair};
-use crate::generators::hall::runs::run;
-use crate::generators::hall::stated::runs;
-use crate::model::auction::Withdrawal;
-use crate::model::hall::lines::{events, printed, Event, Line};
-use crate::model::hall::views::{view, Run, Shown};
-use crate::model::hall::{Answer, Call, Hall, Published, Reading, Seat};
-use crate::model::replay::{self, PROGRAM_BYTES};
-use crate::NO_RIGHT;
+use independent::comparisons::hall::{difference, groups, input, pair_difference, parts};
+use independent::generators::hall::pairs::{pair, Pair};
+use independent::generators::hall::runs::run;
+use independent::generators::hall::stated::runs;
+use independent::model::auction::Withdrawal;
+use independent::model::hall::lines::{events, printed, Event, Line};
+use independent::model::hall::views::{view, Run, Shown};
+use independent::model::hall::{Answer, Call, Hall, Published, Reading, Seat};
+use independent::model::replay::{self, PROGRAM_BYTES};
+use independent::NO_RIGHT;
 use std::collections::BTreeMap;
 use std::iter::zip;
 use std::sync::LazyLock;
@@ -337,7 +337,8 @@ fn pairs_agree() {
         });
         assert_ne!(one, other);
         let [one, other] = pair.runs.each_ref().map(|run| lines(&run.events));
-        assert_eq!(pair_difference(pair, [&one, &other]), None);
+        let difference = pair_difference(pair, [&one, &other]);
+        assert_eq!(difference.map(|text| text()), None);
     }
 }
 

@@ -4,9 +4,9 @@
 use super::{
     close, each_step, sample_opened, sample_registered, sample_set_up, RECORDS, SETTLINGS,
 };
-use crate::model::auction::{Auction, Developer, Phase, Withdrawal, EXISTING, NEW};
-use crate::model::replay::Call;
-use crate::model::settling::Settlement;
+use independent::model::auction::{Auction, Developer, Phase, Withdrawal, EXISTING, NEW};
+use independent::model::replay::Call;
+use independent::model::settling::Settlement;
 
 /// The sample's settings with existing plants of these levels, each of the project of its number.
 fn existing(plants: &[&[u32]]) -> Auction {

@@ -2,11 +2,11 @@
 //! small, when participation is sufficient, and what existing plants are paid.
 
 use super::{close, sample_closed, sample_opened, sample_set_up};
-use crate::generators::records::fixed;
-use crate::model::auction::{Auction, EXISTING, HIGHEST_LEVEL, NEW};
-use crate::model::direct::printed;
-use crate::model::replay::replay;
-use crate::model::settling::{Award, Settlement};
+use independent::generators::records::fixed;
+use independent::model::auction::{Auction, EXISTING, HIGHEST_LEVEL, NEW};
+use independent::model::direct::printed;
+use independent::model::replay::replay;
+use independent::model::settling::{Award, Settlement};
 
 /// A plant: developer, which is also its project, kind, agent and level.
 type Plant = (u8, u8, u8, u32);

@@ -1,10 +1,10 @@
 //! What document 01's rules imply for the ledger and the replies, on generated records.
 
 use super::{each_step, Step, RECORDS};
-use crate::generators::records::{edges, record};
-use crate::model::auction::{Auction, Closing, Phase, EXISTING};
-use crate::model::replay::{lines, replay, replay_into, Accepted, Call, PROGRAM_BYTES};
-use crate::{host_number, BUFFER_TOO_SHORT};
+use independent::generators::records::{edges, record};
+use independent::model::auction::{Auction, Closing, Phase, EXISTING};
+use independent::model::replay::{lines, replay, replay_into, Accepted, Call, PROGRAM_BYTES};
+use independent::{host_number, BUFFER_TOO_SHORT};
 
 /// How many of the records are looked at.
 const LOOKED_AT: usize = 3_000;

@@ -1,7 +1,7 @@
 //! Rounds by calls: phases, offers, missing offers, the excess and when the auction closes.
 
 use super::{close, sample_closed, sample_opened, sample_registered, sample_set_up};
-use crate::model::auction::{Auction, Phase, Withdrawal, EXISTING, NEW};
+use independent::model::auction::{Auction, Phase, Withdrawal, EXISTING, NEW};
 
 /// The withdrawals of a developer, as (price, level).
 fn history(auction: &Auction, developer: u8) -> Vec<(u64, u64)> {

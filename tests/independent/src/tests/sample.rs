@@ -2,9 +2,9 @@
 //! the records with lodged lists, with cancellations and with agents.
 
 use super::sample_closed;
-use crate::generators::sample::{CANCELLED, LODGED, PARTICIPATION, RECORD, REPLY};
-use crate::model::replay::{lines, replay, replay_into};
-use crate::model::settling::Award;
+use independent::generators::sample::{CANCELLED, LODGED, PARTICIPATION, RECORD, REPLY};
+use independent::model::replay::{lines, replay, replay_into};
+use independent::model::settling::Award;
 
 #[test]
 fn whole_reply() {

@@ -1,13 +1,13 @@
 //! The sealed auction (document 02, request 13): each sentence of it in auctions worked out by hand,
 //! and what it says of all auctions on generated ones.
 
-use crate::coverage::Opened;
-use crate::generators::lent::lend;
-use crate::generators::random::Random;
-use crate::generators::sealed::generated;
-use crate::generators::sealed::stated::{auctions, FOUR};
-use crate::model::sealed::{sealed_auction, Offer, Sealed};
-use crate::{host_number, ABOVE_THE_CEILING, BUFFER_TOO_SHORT, SEALED_OUT_OF_BOUNDS};
+use independent::coverage::Opened;
+use independent::generators::lent::lend;
+use independent::generators::random::Random;
+use independent::generators::sealed::generated;
+use independent::generators::sealed::stated::{auctions, FOUR};
+use independent::model::sealed::{sealed_auction, Offer, Sealed};
+use independent::{host_number, ABOVE_THE_CEILING, BUFFER_TOO_SHORT, SEALED_OUT_OF_BOUNDS};
 use std::sync::LazyLock;
 
 /// Generated auctions.

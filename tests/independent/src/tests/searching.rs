@@ -2,9 +2,9 @@
 //! books that are written out, and beside searches that are wrong in one thing.
 
 use super::{sample_closed, SETTLINGS};
-use crate::generators::records::{easy_book, hard_book};
-use crate::model::settling::{kept, Settlement};
-use crate::model::trace::traced_with_settlement;
+use independent::generators::records::{easy_book, hard_book};
+use independent::model::settling::{kept, Settlement};
+use independent::model::trace::traced_with_settlement;
 use std::cmp::Reverse;
 use std::collections::BTreeMap;
 

@@ -1,19 +1,19 @@
 //! Sessions: the one of docs/FORMAT.md, written out; lines of no seat; what the words imply on generated
 //! sessions and pairs of one view.
 
-use crate::generators::sample::{SESSION, SESSION_RECORD, SESSION_REPLIES};
-use crate::generators::sessions::pairs::pair;
-use crate::generators::sessions::session;
-use crate::model::figures::record_state;
-use crate::model::hall::Seat;
-use crate::model::replay::{lines, replay};
-use crate::model::sessions::views::{view, Shown};
-use crate::model::sessions::{
+use independent::generators::sample::{SESSION, SESSION_RECORD, SESSION_REPLIES};
+use independent::generators::sessions::pairs::pair;
+use independent::generators::sessions::session;
+use independent::model::figures::record_state;
+use independent::model::hall::Seat;
+use independent::model::replay::{lines, replay};
+use independent::model::sessions::views::{view, Shown};
+use independent::model::sessions::{
     asked, hall_after, plain_record, read_seat, reading, replies, seat_digits, session_curve,
     session_forcing, session_preview, session_reading, session_record, session_replay,
     session_settlement, write_seat, Asked,
 };
-use crate::{
+use independent::{
     host_number, BUFFER_TOO_SHORT, FRAME_BUFFER_TOO_SHORT, NOT_IN_THIS_PHASE, NOT_WRITABLE,
     NO_RIGHT,
 };

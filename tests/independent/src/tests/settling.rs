@@ -2,8 +2,8 @@
 //! awarded levels, limits and buffers. The paper's plausible errors among them.
 
 use super::{close, sample_closed, sample_opened, sample_registered, sample_set_up};
-use crate::model::auction::{Auction, EXISTING, NEW};
-use crate::model::settling::{number_of_choices, Award, Settlement};
+use independent::model::auction::{Auction, EXISTING, NEW};
+use independent::model::settling::{number_of_choices, Award, Settlement};
 
 /// A developer's fall: project, number, study value, start day, levels, new level.
 type Fall<'a> = (u8, u8, u32, u32, &'a [u32], u32);

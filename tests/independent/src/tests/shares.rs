@@ -1,13 +1,13 @@
 //! What the generated records hold, so that a run beside the engine on them means something.
-//! The shares are printed: cargo test --lib --release shares -- --nocapture
+//! The shares are printed: cargo test --example unit_tests --release shares -- --nocapture
 
 use super::RECORDS;
-use crate::coverage::{
+use independent::coverage::{
     Cancellations, Closings, Features, Lodgings, Participation, Redrawn, Remainders, Settled,
 };
-use crate::coverage::{CANCELLATIONS, CURVES, LODGINGS, PARTICIPATION, SETTLED};
-use crate::generators::records::DECISIVE;
-use crate::model::replay::{always_fits, lines, replay};
+use independent::coverage::{CANCELLATIONS, CURVES, LODGINGS, PARTICIPATION, SETTLED};
+use independent::generators::records::DECISIVE;
+use independent::model::replay::{always_fits, lines, replay};
 use std::collections::BTreeMap;
 
 /// What the replies to the records say, counted.

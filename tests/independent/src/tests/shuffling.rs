@@ -2,12 +2,12 @@
 //! what the rules imply for it.
 
 use super::{each_step, Step, RECORDS};
-use crate::coverage::{Features, PASSAGES};
-use crate::generators::records::fixed;
-use crate::generators::sample::{RECORD, REPLY};
-use crate::generators::shuffling::Order;
-use crate::model::auction::{Auction, Phase};
-use crate::model::replay::{lines, replay, Call};
+use independent::coverage::{Features, PASSAGES};
+use independent::generators::records::fixed;
+use independent::generators::sample::{RECORD, REPLY};
+use independent::generators::shuffling::Order;
+use independent::model::auction::{Auction, Phase};
+use independent::model::replay::{lines, replay, Call};
 use std::collections::{BTreeMap, BTreeSet};
 
 /// The sample with these lines in place of its offers.

@@ -1,9 +1,9 @@
 //! What the program `trace` prints, written out.
 
-use crate::generators::records::edges;
-use crate::generators::sample::{LODGED, PARTICIPATION, RECORD, TRACE};
-use crate::model::replay::{lines, replay, PROGRAM_BYTES};
-use crate::model::trace::traced;
+use independent::generators::records::edges;
+use independent::generators::sample::{LODGED, PARTICIPATION, RECORD, TRACE};
+use independent::model::replay::{lines, replay, PROGRAM_BYTES};
+use independent::model::trace::traced;
 
 #[test]
 fn sample() {

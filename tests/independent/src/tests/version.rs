@@ -1,6 +1,6 @@
 //! The version that a header says.
 
-use crate::model::version::{version_number, HEADER};
+use independent::model::version::{version_number, HEADER};
 
 fn said(version: &str) -> Option<u64> {
     version_number(&format!(

@@ -1,10 +1,12 @@
 //! Calls to frames (document 02, request 2): which calls are writable, and what each gives.
 
 use super::RECORDS;
-use crate::generators::calls::{behaviour, buffer, call, kinds};
-use crate::generators::random::Random;
-use crate::generators::sample::RECORD;
-use crate::model::replay::{causes, fields, frame, lines, read_call, write_frame, Cause, Fields};
+use independent::generators::calls::{behaviour, buffer, call, kinds};
+use independent::generators::random::Random;
+use independent::generators::sample::RECORD;
+use independent::model::replay::{
+    causes, fields, frame, lines, read_call, write_frame, Cause, Fields,
+};
 use std::collections::BTreeMap;
 
 fn of(kind: u8, numbers: &[u64], lists: &[&[u64]]) -> Fields {

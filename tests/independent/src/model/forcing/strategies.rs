@@ -6,7 +6,7 @@ use super::{mover, Forced, Game, Move, FIRST, SECOND};
 use std::collections::BTreeMap;
 
 /// A rival's strategy: a legal move for each position in which it is to move.
-type Strategy = BTreeMap<Vec<Move>, Move>;
+pub type Strategy = BTreeMap<Vec<Move>, Move>;
 
 impl Game {
     pub fn by_strategies(&self) -> Forced {
@@ -32,7 +32,7 @@ impl Game {
     }
 
     /// All strategies of a rival.
-    fn strategies(&self, rival: usize) -> Vec<Strategy> {
+    pub fn strategies(&self, rival: usize) -> Vec<Strategy> {
         let lengths = (0..self.prices.len()).filter(|&moves| mover(moves) == rival);
         let mut strategies = vec![Strategy::new()];
         for position in lengths.flat_map(|moves| self.positions(moves)) {
@@ -58,34 +58,5 @@ impl Game {
             made.push(strategy[&made]);
         }
         self.outcomes[&made]
-    }
-}
-
-#[cfg(test)]
-mod tests {
-    use super::*;
-    use crate::generators::games::stated::{between_rounds, written, TEN};
-    use crate::model::replay::auction_after;
-
-    /// In four prices the first moves in one position at the first price and, if it has kept, in two
-    /// at the third: 2 × 2 × 2. The second moves in two at the second price and, if it has kept, in
-    /// three at the fourth: 4 × 8.
-    #[test]
-    fn all_strategies() {
-        let auction = auction_after(&written(&between_rounds()));
-        for (first, second, prices, counts) in [
-            (2, 3, 1, [2, 1]),
-            (2, 3, 2, [2, 4]),
-            (2, 3, 3, [8, 4]),
-            (2, 3, 4, [8, 32]),
-            (5, 3, 4, [1, 4]),
-            (2, 5, 4, [4, 1]),
-            (5, 6, 4, [1, 1]),
-        ] {
-            let game = auction.game(first, second, &TEN[..prices]);
-            let game = game.expect("a game");
-            let strategies = [FIRST, SECOND].map(|rival| game.strategies(rival).len());
-            assert_eq!(strategies, counts);
-        }
     }
 }
