@@ -113,7 +113,7 @@ impl Sort {
     }
 
     /// The one with this number, chosen for the goal.
-    pub(crate) fn case(&self, number: usize, input: &[u8], goal: &Goal) -> Case {
+    pub fn case(&self, number: usize, input: &[u8], goal: &Goal) -> Case {
         Case {
             name: format!("{number:03}-{}", goal.slug()),
             input: input.to_vec(),
