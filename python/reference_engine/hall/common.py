@@ -147,7 +147,7 @@ def _settled(found: Settlement) -> Markup:
     return figures(
         [
             ("Closing price", price(found.price), PRICE),
-            ("Price for new plants", price(found.second_price), f"{PRICE}{short}"),
+            ("Second price, for new plants", price(found.second_price), f"{PRICE}{short}"),
             ("Paid to existing plants", price(found.price_paid), PRICE),
             ("Demand at that price", quantity(found.demand), QUANTITY),
             ("Award's total", quantity(found.total), QUANTITY),
