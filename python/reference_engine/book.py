@@ -1,6 +1,6 @@
 """An auction's calls as JSON and as CSV, and a record built of either: a book.
 
-python/README.md has both forms. A call has the name and the fields of the method of Record that
+docs/PYTHON.md has both forms. A call has the name and the fields of the method of Record that
 writes it; a malformed line is the call `malformed`, with its bytes in hexadecimal digits.
 """
 

@@ -10,7 +10,7 @@ from .command import BadInput, Commands, add_output, parser_of, read, write_new
 
 _DESCRIPTION = """\
 Builds a record of a book: calls in JSON or CSV, in the forms that show --json and show --csv write
-(python/README.md). Each call is written by the library, also one that the auction refuses; that is
+(docs/PYTHON.md). Each call is written by the library, also one that the auction refuses; that is
 said. The record must not be there before. Exit status: 0, or 2 for bad usage and a bad book.
 """
 

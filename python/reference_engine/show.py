@@ -12,7 +12,7 @@ from .markup import price, quantity
 _DESCRIPTION = """\
 Says what came out of an auction: prices, total, rounds, participation, and the source of these
 figures. With --json it writes the whole auction, with --csv its calls; build makes a record of
-either (python/README.md).
+either (docs/PYTHON.md).
 
 """
 

@@ -134,7 +134,7 @@ class Demand(Untouched):
 
 
     def test_thread_with_a_small_stack(self) -> None:
-        """What python/README.md says of a thread's stack, with as much for Python itself."""
+        """What docs/PYTHON.md says of a thread's stack, with as much for Python itself."""
         content = (ROOT / "crates/replay/stdin").read_bytes()
         before = threading.stack_size(2 * 128 * 1_024)
         try:
@@ -146,7 +146,7 @@ class Demand(Untouched):
 
 
 class Sealed(Untouched):
-    # python/README.md's example.
+    # docs/PYTHON.md's example.
     offers = (
         SealedOffer(21_000, 400, 100, 2),
         SealedOffer(19_000, 500, 500, 5),

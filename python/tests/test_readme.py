@@ -110,10 +110,10 @@ class Calibrating(Shown):
         self.assertIn(quoted[1], self.run_here(compare, status=1))
 
 
-class PythonReadme(Shown):
+class PythonPage(Shown):
     def setUp(self) -> None:
         super().setUp()
-        self.read("python/README.md")
+        self.read("docs/PYTHON.md")
 
     def test_blocks(self) -> None:
         self.assertPrinted(6)
@@ -137,7 +137,7 @@ class PythonReadme(Shown):
 class Pages(Shown):
     def test_every_command_is_shown(self) -> None:
         shown = set()
-        for name in ("python/README.md", "docs/PUBLISHING.md", "docs/CALIBRATING.md"):
+        for name in ("docs/PYTHON.md", "docs/PUBLISHING.md", "docs/CALIBRATING.md"):
             self.read(name)
             commands = "".join(content for language, content in self.blocks if language == "sh")
             shown |= set(re.findall(r"-m reference_engine (\w+)", commands))

@@ -40,7 +40,7 @@ struct check {
 };
 
 static const struct check checks[] = {
-    {"python/README.md's example", 30000, 1130,
+    {"docs/PYTHON.md's example", 30000, 1130,
      {{5, {21000, 19000, 18000, 18000, 17000}}, {5, {400, 500, 300, 250, 60}},
       {5, {100, 500, 200, 50, 50}}, {5, {2, 5, 2, 2, 0}}}, 0, 20, {0, 500, 300, 250, 60}},
     {"more than is offered", 500, 250, {THREE}, 0, 10, {100, 80, 60}},
