@@ -1,4 +1,4 @@
--- The engine's version, as in 0.39.0, and the one number that C gets of it. That the header has the same one is tested.
+-- The engine's version, three numbers with points between them, and the one number that C gets of it. That the header has the same one is tested.
 use Prim.Native.Nat.{ℕ, _+_, _*_}
 
 -- a version in one number: a million times the first of its three, a thousand times the second, and the third
