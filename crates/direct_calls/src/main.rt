@@ -91,7 +91,7 @@ fn settle(auction: Auction, limit: u32, lent: u32) -> Auction {
 
 // The numbers of a line as they are read: in decimal, a comma behind each but the last, which stands at place `at`. What is no digit is passed
 // over.
-#[derive(Drop)]
+#[derive(Clone, Copy)]
 struct Line {
     numbers: [u64; 6],
     at: usize,

@@ -22,7 +22,7 @@ use engine_moves::moves::Moved;
 use engine_moves::{closing_entries, moves};
 
 // Developer n stands at place n - 1 of each array; a place that is not used is zero. The curve is that of the histories (document 02, 9).
-#[derive(Drop)]
+#[derive(Clone, Copy)]
 pub struct Auction {
     pub phase: u8,
     pub settings: Settings,
@@ -40,14 +40,14 @@ pub struct Auction {
 }
 
 // The answer of a call: 0 or a refusal's number, and the next auction.
-#[derive(Drop)]
+#[derive(Clone, Copy)]
 pub struct Answer {
     pub number: u8,
     pub auction: Auction,
 }
 
 // The same with the excess of a closing, and the remainder of Dem(C).
-#[derive(Drop)]
+#[derive(Clone, Copy)]
 pub struct Closing {
     pub number: u8,
     pub excess: i64,
@@ -56,7 +56,7 @@ pub struct Closing {
 }
 
 // What a call of the clock answers: 0 or a refusal's number, and the clock behind it, the same where the call is refused.
-#[derive(Drop)]
+#[derive(Clone, Copy)]
 pub struct ClockAnswer {
     pub number: u8,
     pub phase: u8,
@@ -66,7 +66,7 @@ pub struct ClockAnswer {
 }
 
 // What a registration answers: 0 or a refusal's number, and what it stores at which place where it is accepted.
-#[derive(Drop)]
+#[derive(Clone, Copy)]
 pub struct Entered {
     pub number: u8,
     pub place: usize,
@@ -80,7 +80,7 @@ pub struct Entered {
 }
 
 // What the closing of an open round answers, and what it changes.
-#[derive(Drop)]
+#[derive(Clone, Copy)]
 pub struct Rounded {
     pub excess: i64,
     pub remainder: u32,

@@ -22,7 +22,7 @@ pub const BETWEEN: u8 = 3;
 pub const CLOSED: u8 = 4;
 
 // The settings that set-up stores: CE, D, M1, M2 and A (document 01, Demand).
-#[derive(Drop)]
+#[derive(Clone, Copy)]
 pub struct Settings {
     pub ce: u32,
     pub d: u64,

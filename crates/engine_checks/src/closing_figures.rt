@@ -6,7 +6,7 @@ use crate::{clock, closing_checks};
 use engine_held::supply;
 
 // The excess, the remainder of Dem(C) (document 02, 4) and the number of the phase after the closing.
-#[derive(Drop)]
+#[derive(Clone, Copy)]
 pub struct Figures {
     pub excess: i64,
     pub remainder: u32,

@@ -4,14 +4,14 @@ ghost use Rattle.std.specs.Prelude.{◌≡◌, [], ◌<◌};
 ghost use Rattle.engine_curve.specs.kept_curve.Held.{lent_curve, held_curve, Trimmed, WithPoint, supply_before, PointAt, SuppliedAt};
 
 // The first `count` words are points: the price times 2^40, and the supply after it. Zeros stand behind them.
-#[derive(Drop)]
+#[derive(Clone, Copy)]
 pub struct SupplyCurve {
     pub words: [u64; 256],
     pub count: usize,
 }
 
 // A point as it is read: a withdrawal price, and total supply before it and after it.
-#[derive(Drop)]
+#[derive(Clone, Copy)]
 pub struct CurvePoint {
     pub price: u32,
     pub before: u64,

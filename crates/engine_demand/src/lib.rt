@@ -1,12 +1,14 @@
 // The demand call: Dem(p) for CE, D, M1, M2 and p, by the formulas of document 01, Demand, and its remainder (document 02, 4).
 // Its contract is an equation with the definitions of the crate `rules_demand`, which holds the laws of Dem and of the remainder too.
+#![tactic(auto)]
+
 ghost use Rattle.std.specs.Prelude.{◌≡◌, ◌+◌, ◌-◌, ◌*◌, ◌≤◌, ◌<◌};
 ghost use Rattle.rules_demand.specs.Demand.{InBounds, InRange, in_bounds, in_range};
 ghost use Rattle.rules_demand.specs.Remainder.{exact_times_ce};
 ghost use Rattle.rules_demand.specs.Answer.{demand_answer};
 ghost use Rattle.engine_demand.specs.Answers.{demanded_in};
 
-#[derive(Drop)]
+#[derive(Clone, Copy)]
 pub enum Demanded {
     // Dem(p) in kWh, and its remainder in CE-ths of a kWh.
     Quantity(u64, u32),

@@ -5,7 +5,7 @@ ghost use Rattle.engine_held.specs.history.Held.{held_history, Offered, Cancelle
 
 // A developer's withdrawals, behind them the steps of its standing offer, then its lodged steps that no closing has reached, with zeros behind
 // them. `offered` is 0 for no offer, else 1 more than its steps.
-#[derive(Drop)]
+#[derive(Clone, Copy)]
 pub struct History {
     pub prices: [u32; 8],
     pub levels: [u32; 8],

@@ -5,7 +5,7 @@ ghost use Rattle.rules_auction.specs.Refusals.{levels_ok, lowering};
 ghost use Rattle.engine_held.specs.levels.Held.{held_levels, levels_in};
 
 // The levels that a developer declares, rising, with zeros behind them.
-#[derive(Drop)]
+#[derive(Clone, Copy)]
 pub struct Levels {
     pub values: [u32; 8],
     pub count: usize,

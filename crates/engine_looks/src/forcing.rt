@@ -11,7 +11,7 @@ use engine_checks::clock::Settings;
 use engine_held::supply;
 
 // 0 or a refusal's number; the outcome that the first can force and the second can hold it to; whether the first's best move is to withdraw.
-#[derive(Drop)]
+#[derive(Clone, Copy)]
 pub struct Forced {
     pub number: u8,
     pub outcome: u32,

@@ -8,7 +8,7 @@ use engine_curve::highs_and_lows;
 use engine_held::supply;
 
 // What a closing would answer, and whether the auction would then be closed. It holds no auction.
-#[derive(Drop)]
+#[derive(Clone, Copy)]
 pub struct Preview {
     pub number: u8,
     pub excess: i64,
@@ -17,7 +17,7 @@ pub struct Preview {
 }
 
 // The number of points of the supply curve, and the one at a place, zero past the end. It holds no auction.
-#[derive(Drop)]
+#[derive(Clone, Copy)]
 pub struct SupplyPoint {
     pub entries: usize,
     pub price: u32,

@@ -4,14 +4,14 @@ ghost use Rattle.std.specs.Prelude.{◌≡◌, cond, min, ◌≤◌};
 ghost use Rattle.engine_looks.specs.rivals.Plain.{Held, supply_at, outcome_in, high_in, low_in, withdraws_in};
 
 // A rival: the price at which it left, 0 while it has not, and whether it may withdraw.
-#[derive(Drop)]
+#[derive(Clone, Copy)]
 pub struct Rival {
     pub left: u32,
     pub able: bool,
 }
 
 // Supply with the quantities of both rivals, of one alone, of neither; 0 stands for the other's.
-#[derive(Drop)]
+#[derive(Clone, Copy)]
 pub struct Supplies {
     pub both: u64,
     pub first: u64,
@@ -20,7 +20,7 @@ pub struct Supplies {
 }
 
 // At most 10 listed prices (document 02, 11) with Dem at each, zeros behind them, and the standing price.
-#[derive(Drop)]
+#[derive(Clone, Copy)]
 pub struct Game {
     pub count: usize,
     pub prices: [u32; 10],

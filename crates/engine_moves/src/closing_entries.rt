@@ -7,7 +7,7 @@ use engine_held::history::History;
 use engine_held::withdrawals;
 
 // All developers', and whether any of them was not passed over.
-#[derive(Drop)]
+#[derive(Clone, Copy)]
 pub struct Courses {
     pub moved: bool,
     pub quantities: [u32; 32],
@@ -15,7 +15,7 @@ pub struct Courses {
 }
 
 // One developer's.
-#[derive(Drop)]
+#[derive(Clone, Copy)]
 pub struct Course {
     pub quantity: u32,
     pub history: History,

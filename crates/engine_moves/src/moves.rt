@@ -17,7 +17,7 @@ use engine_held::levels::Levels;
 use engine_held::supply;
 
 // What a move answers: 0 or a refusal's number, and the developer's next history, the same where the move is refused.
-#[derive(Drop)]
+#[derive(Clone, Copy)]
 pub struct Moved {
     pub number: u8,
     pub history: History,

@@ -8,7 +8,7 @@ use engine_held::supply;
 
 // What a closed auction clears at: every developer's highest level, P, Dem(P) with its remainder (document 02, 4), each developer's low and
 // high at P, and the second price with its mark (document 02, 5).
-#[derive(Drop)]
+#[derive(Clone, Copy)]
 pub struct Cleared {
     pub highest: [u32; 32],
     pub price: u32,

@@ -9,7 +9,7 @@ use engine_held::history::History;
 use engine_held::supply;
 
 // The prices among which the lowest covered one lies: hi is covered or A, nothing below lo is covered.
-#[derive(Drop)]
+#[derive(Clone, Copy)]
 struct Bracket {
     lo: u32,
     hi: u32,

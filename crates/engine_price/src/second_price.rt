@@ -9,7 +9,7 @@ use engine_checks::clock::Settings;
 use engine_held::history::History;
 
 // The second price, and whether it is short: A is then not covered.
-#[derive(Drop)]
+#[derive(Clone, Copy)]
 pub struct Second {
     pub price: u32,
     pub short: bool,

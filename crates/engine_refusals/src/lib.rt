@@ -2,6 +2,8 @@
 
 // Document 01, The twelve numbers.
 // Settings or price beyond the bounds under Demand.
+#![tactic(auto)]
+
 pub const BEYOND_BOUNDS: u8 = 1;
 
 // Call not accepted in this phase.

@@ -1,4 +1,6 @@
 // The sealed auction: checks, order, awards, answer.
+#![tactic(auto)]
+
 pub mod sealed_auction;
 pub mod sealed_awards;
 pub mod sealed_checks;

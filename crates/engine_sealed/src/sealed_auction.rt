@@ -8,7 +8,7 @@ use crate::{sealed_awards, sealed_checks, sealed_order};
 
 // The answer: 0 or a refusal's number, the award of each offer in list order with 0 behind them, what is left. A refusal has 0 in every other
 // place.
-#[derive(Drop)]
+#[derive(Clone, Copy)]
 pub struct Sealed {
     pub number: u8,
     pub awards: [u64; MOST_OFFERS],
@@ -47,7 +47,7 @@ pub fn clear(
 }
 
 // What is told of awards in a lent buffer: a refusal's number and 0, or 0 and what is left.
-#[derive(Drop)]
+#[derive(Clone, Copy)]
 pub struct Lent {
     pub number: u8,
     pub left: u64,

@@ -8,7 +8,7 @@ ghost use Rattle.engine_sealed.specs.sealed_awards.Shares.{Shares, Awards};
 use crate::sealed_checks::MOST_OFFERS;
 
 // The award of each offer in list order, and what is left.
-#[derive(Drop)]
+#[derive(Clone, Copy)]
 pub struct Shared {
     pub awards: [u64; MOST_OFFERS],
     pub left: u64,

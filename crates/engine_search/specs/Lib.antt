@@ -1,5 +1,5 @@
 pub mod ordering
-pub mod rows_behind_lem
+pub mod rows_behind
 pub mod tally
 pub mod searching
 pub mod selection

@@ -14,7 +14,7 @@ use crate::{ordering, rows_behind, tally};
 
 // A place of the search: that of a row in the order, that of its level in the table, the total of the rows before, and the place among all choices of
 // the levels so far with the first levels of all rows behind.
-#[derive(Drop)]
+#[derive(Clone, Copy)]
 struct Place {
     row: usize,
     at: usize,
@@ -63,7 +63,7 @@ fn explore(
 }
 
 // Where going into the rows begins: a place of the order, and the total of the rows before it.
-#[derive(Drop)]
+#[derive(Clone, Copy)]
 struct Start {
     place: usize,
     base: u64,

@@ -12,7 +12,7 @@ use engine_table::counting;
 use engine_table::table::Table;
 
 // What settling a table comes to.
-#[derive(Drop)]
+#[derive(Clone, Copy)]
 pub struct Selected {
     // 0, or 10: more choices than the limit; 2: no table that holds 32 rows of open levels, which no auction reached by calls has.
     pub number: u8,

@@ -4,7 +4,7 @@ ghost use Rattle.engine_search.specs.tally.Tally.{only_counted, more};
 
 // What is found so far: how many choices cover, how many of these were not set aside, and the best of them, by its total and its place among all
 // choices. They are listed in the tie rule's order, so that at an equal total the later one is better.
-#[derive(Drop)]
+#[derive(Clone, Copy)]
 pub struct Tally {
     pub covering: u64,
     pub kept: u64,

@@ -16,7 +16,7 @@ use engine_table::open_levels;
 // covering ones and of those that the search keeps (document 02, 3), the second price and whether it is short (document 02, 5), whether
 // participation is insufficient and the price paid to existing plants (document 02, 10), and the number of award records. A refusal has 0 in every
 // other place.
-#[derive(Drop)]
+#[derive(Clone, Copy)]
 pub struct Settled {
     pub number: u8,
     pub price: u32,

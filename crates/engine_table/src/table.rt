@@ -1,6 +1,6 @@
 // The open levels of the 32 projects in one flat array: row k ends where the next one starts.
 
-#[derive(Drop)]
+#[derive(Clone, Copy)]
 pub struct Table {
     pub levels: [u32; 288],
     pub ends: [usize; 32],

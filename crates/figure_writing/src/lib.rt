@@ -17,7 +17,7 @@ pub mod reading_figures;
 pub mod settlement_figures;
 
 // 0 or a refusal's number, and how many points or numbers were written, 0 in a refusal.
-#[derive(Drop)]
+#[derive(Clone, Copy)]
 pub struct Counted {
     pub number: u8,
     pub count: u64,

@@ -27,7 +27,7 @@ pub const LISTED: usize = 8;
 pub const LONGEST_LINE: usize = 160;
 
 // What the table has of a kind; where it has none, the kind is 0, and there are no fields.
-#[derive(Drop)]
+#[derive(Clone, Copy)]
 pub struct Row {
     pub kind: usize,
     pub widths: [u8; 8],
@@ -53,7 +53,7 @@ pub fn row_of(kind: usize) -> Row
 }
 
 // How many fixed fields a row has, how many digits they have in all, and the widths of 32 fields: those of the fixed ones, then `LISTED` to the end.
-#[derive(Drop)]
+#[derive(Clone, Copy)]
 pub struct Shape {
     pub fixed: usize,
     pub span: usize,

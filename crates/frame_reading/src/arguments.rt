@@ -62,7 +62,7 @@ fn column(fields: &[u64; 32], count: usize, from: usize, apart: usize, n: usize)
 }
 
 // The developer and the steps of a move, in two columns.
-#[derive(Drop)]
+#[derive(Clone, Copy)]
 pub struct Steps {
     pub developer: u8,
     pub count: usize,
@@ -85,7 +85,7 @@ pub fn steps_in(frame: Frame) -> Steps
 }
 
 // The numbers of a registration but for its agent, its levels in a column.
-#[derive(Drop)]
+#[derive(Clone, Copy)]
 pub struct Registration {
     pub project: u8,
     pub developer: u8,

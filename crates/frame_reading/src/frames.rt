@@ -12,7 +12,7 @@ use frame_bytes::field_table::{LISTED, LONGEST_LINE, Row};
 use frame_bytes::{field_reading, field_table};
 
 // A frame that was read: its kind, or 0 of a malformed line, and its fields, of which there are `count`.
-#[derive(Drop)]
+#[derive(Clone, Copy)]
 pub struct Frame {
     pub kind: usize,
     pub count: usize,
@@ -36,7 +36,7 @@ fn malformed() -> Frame
 }
 
 // How far the fixed fields of a line reach: how many there are and where they end; the end is 0 where the line is too short for them.
-#[derive(Drop)]
+#[derive(Clone, Copy)]
 struct FixedFields {
     count: usize,
     end: usize,

@@ -12,7 +12,7 @@ pub mod each_call;
 pub mod frame_sizes;
 
 // What writing answers: 0 and how many bytes were written, or a refusal's number and 0.
-#[derive(Drop)]
+#[derive(Clone, Copy)]
 pub struct Written {
     pub number: u8,
     pub bytes: usize,

@@ -12,7 +12,7 @@ use engine_settling::Settled;
 use seats::Seat;
 
 // 0 or a refusal's number, and the fields of `readings::SupplyPoint`, all 0 in a refusal.
-#[derive(Drop)]
+#[derive(Clone, Copy)]
 pub struct SupplyPointThrough {
     pub number: u8,
     pub entries: usize,

@@ -14,21 +14,21 @@ use seats::Seat;
 pub mod hall_readings;
 pub mod seat_readings;
 
-#[derive(Drop)]
+#[derive(Clone, Copy)]
 pub struct Hall {
     pub auction: Auction,
     pub excess: i64,
 }
 
 // The answer of a call: 0 or a refusal's number, and the next hall.
-#[derive(Drop)]
+#[derive(Clone, Copy)]
 pub struct HallAnswer {
     pub number: u8,
     pub hall: Hall,
 }
 
 // The same with the excess of a closing, and the remainder of Dem(C).
-#[derive(Drop)]
+#[derive(Clone, Copy)]
 pub struct HallClosing {
     pub number: u8,
     pub excess: i64,

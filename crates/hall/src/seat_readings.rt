@@ -13,7 +13,7 @@ use engine_held::levels::Levels;
 use seats::Seat;
 
 // Whether an offer stands, and its steps, zeros behind them. One of no steps is an offer too.
-#[derive(Drop)]
+#[derive(Clone, Copy)]
 pub struct StandingOffer {
     pub made: bool,
     pub count: usize,
@@ -23,7 +23,7 @@ pub struct StandingOffer {
 
 // Both prices of the open or else the latest round, the excess of the latest closing and the phase, and of a developer its declared levels and
 // standing offer; the other seats read none there.
-#[derive(Drop)]
+#[derive(Clone, Copy)]
 pub struct Reading {
     pub opening: u32,
     pub closing: u32,

@@ -1,7 +1,7 @@
 // A line as it is read: numbers in decimal with a comma between. What is no digit is passed over, and so are the numbers past the fortieth.
 ghost use Rattle.std.specs.Prelude.{◌≤◌};
 
-#[derive(Drop)]
+#[derive(Clone, Copy)]
 pub struct Line {
     pub numbers: [u64; 40],
     // The same modulo two to the power of thirty-two.

@@ -12,7 +12,7 @@ mod output;
 const MOST_BUFFERS: usize = 64;
 
 // The hall and the line behind some of the input, and whether the input has ended.
-#[derive(Drop)]
+#[derive(Clone, Copy)]
 struct Session {
     hall: Hall,
     line: Line,

@@ -14,7 +14,7 @@ use frame_bytes::{field_reading, lines};
 const SET_UP_LINE: usize = 48;
 
 // What a line asks to set up, if it asks that.
-#[derive(Drop)]
+#[derive(Clone, Copy)]
 struct Asked {
     asks: bool,
     ce: u64,
@@ -56,7 +56,7 @@ fn set_up_in(line: &[u8]) -> Asked
 
 // Where the lines behind the first one start, the place behind its reply, above the limit where it has more, and the clock that it leaves; where it is no
 // accepted set-up, all lines are left, and the clock is that of a fresh auction.
-#[derive(Drop)]
+#[derive(Clone, Copy)]
 pub struct Begun {
     pub read: usize,
     pub written: usize,

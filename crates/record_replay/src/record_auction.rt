@@ -5,7 +5,7 @@ ghost use Rattle.record_replay.specs.record_auction.Leaves.{Leaves};
 use engine_auction::Auction;
 
 // The auction, the excess of the latest closing that was accepted, 0 before there is any, and how many were.
-#[derive(Drop)]
+#[derive(Clone, Copy)]
 pub struct Left {
     pub auction: Auction,
     pub excess: i64,

@@ -7,7 +7,7 @@ use crate::record_auction;
 use engine_looks::forcing;
 
 // What is told: a refusal's number and 0, or 0 and the outcome.
-#[derive(Drop)]
+#[derive(Clone, Copy)]
 pub struct Told {
     pub number: u8,
     pub outcome: u32,

@@ -13,7 +13,7 @@ use record_lines::{line_calls, line_seats};
 
 // The auction behind the lines; the place behind their replies, above the limit where they have more; the excess of the latest closing that was accepted, 0
 // before there is any, and how many were; and the settlement with the bytes of the award records, if one was kept.
-#[derive(Drop)]
+#[derive(Clone, Copy)]
 pub struct Ran {
     pub auction: Auction,
     pub written: usize,

@@ -6,7 +6,7 @@ ghost use Rattle.reply_writing.specs.reply_sizes.Texts.{FormOf, size_of, text_of
 use frame_bytes::field_writing;
 
 // The values of the fields that an accepted reply adds before its award records and behind them.
-#[derive(Drop)]
+#[derive(Clone, Copy)]
 pub struct Values {
     pub head: [u64; 8],
     pub tail: [u64; 8],
@@ -16,7 +16,7 @@ pub struct Values {
 pub const AWARD_ROOM: usize = 192;
 
 // The kind (255 for a malformed line) and the answer; what an accepted reply adds, with so many bytes of award records.
-#[derive(Drop)]
+#[derive(Clone, Copy)]
 pub struct Reply {
     pub kind: u8,
     pub number: u8,
@@ -27,7 +27,7 @@ pub struct Reply {
 
 // What a reply of a kind can add: the widths of its fields before its award records, the most bytes of those, and the widths behind them. A
 // place of width 0 is none.
-#[derive(Drop)]
+#[derive(Clone, Copy)]
 pub struct Form {
     pub head: [usize; 8],
     pub room: usize,

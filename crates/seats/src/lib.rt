@@ -1,4 +1,6 @@
 // The seats of the auction hall, and who may make which call (document 02, 14); seats by their numbers, and in the lines of a session.
+#![tactic(auto)]
+
 ghost use Rattle.std.specs.Prelude.{◌≡◌};
 ghost use Rattle.rules_seats.specs.Seats.{may_conduct, may_offer_for, may_settle};
 ghost use Rattle.seats.specs.Rights.{seat_in};
@@ -6,7 +8,7 @@ ghost use Rattle.seats.specs.Rights.{seat_in};
 pub mod seat_numbers;
 pub mod session_lines;
 
-#[derive(Drop)]
+#[derive(Clone, Copy)]
 pub enum Seat {
     Auctioneer,
     Auditor,

@@ -20,7 +20,7 @@ fn put_closed(out: &mut [u8], at: usize, excess: u64, remainder: u32) -> usize
 }
 
 // What the preview of a closing says, its excess in two's complement.
-#[derive(Drop)]
+#[derive(Clone, Copy)]
 pub struct PreviewShown {
     pub number: u8,
     pub excess: u64,

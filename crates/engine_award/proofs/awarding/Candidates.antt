@@ -35,7 +35,7 @@ module _ (l : Ledger) where
   most_above : (m : ℕ) (ms : List ℕ) → Each (λ x. 1 ≤ x) (m ∷ ms) → 1 ≤ most_preferred l m ms
   unfolding most_preferred
   most_above m [] h = h m (Memᴰ.head refl)
-  most_above m (x ∷ ms) h = most_above _ ms (each_of (preferred (l.developers x) (l.developers m)) m x ms h)
+  most_above m (x ∷ ms) h = most_above (cond (preferred (l.developers x) (l.developers m)) x m) ms (each_of (preferred (l.developers x) (l.developers m)) m x ms h)
 
   first_more : (ms : List ℕ) (n : ℕ) → Each (λ x. 1 ≤ x) ms → first_preferred l (ms ++ (n ∷ [])) ≡ better l (first_preferred l ms) n
   unfolding first_preferred better most_preferred

@@ -15,8 +15,8 @@ use Rattle.rules_choices.specs.Between.{lowest_total_cons, highest_total_cons}
 use Rattle.rules_choices.specs.Numbered.{count, count_row}
 use Rattle.engine_table.specs.table.Places.{ValidTable, start_of, row_in}
 use Rattle.engine_table.specs.table.PlaceLaws.{row_ends, row_length, row_low, row_high}
-use Rattle.engine_search.specs.rows_behind_lem.Behind.{Orders, rows_behind, row_at, RowsFrom, Looks}
-use Rattle.engine_search.specs.rows_behind_lem.InOrder.{number_at, from_cons, from_none, from_few, from_fits}
+use Rattle.engine_search.specs.rows_behind.Behind.{Orders, rows_behind, row_at, RowsFrom, Looks}
+use Rattle.engine_search.specs.rows_behind.InOrder.{number_at, from_cons, from_none, from_few, from_fits}
 
 -- one more is stored at place k
 pub stored : {A : Type 0} (f : ℕ → A) (d : A) (out : List A) (k : ℕ) (x : A) → length out ≡ 32 → k < 32 → x ≡ f k →

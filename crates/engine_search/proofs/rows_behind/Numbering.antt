@@ -10,10 +10,10 @@ use Rattle.rules_choices.specs.Numbered.{count}
 use Rattle.rules_choices.specs.insertion.Numbers.{numbers_from}
 use Rattle.engine_table.specs.table.Places.{start_of, row_in}
 use Rattle.engine_table.specs.table.PlaceLaws.{row_ends}
-use Rattle.engine_search.specs.rows_behind_lem.Behind.{Orders, rows_behind, EachBehind}
-use Rattle.engine_search.specs.rows_behind_lem.InOrder.{from_none, from_few}
-use Rattle.engine_search.specs.rows_behind_lem.ByNumber.{FewChoices, Numbers, number_is, by_number}
-use Rattle.engine_search.proofs.rows_behind_lem.Looking.{stored, count_here}
+use Rattle.engine_search.specs.rows_behind.Behind.{Orders, rows_behind, EachBehind}
+use Rattle.engine_search.specs.rows_behind.InOrder.{from_none, from_few}
+use Rattle.engine_search.specs.rows_behind.ByNumber.{FewChoices, Numbers, number_is, by_number}
+use Rattle.engine_search.proofs.rows_behind.Looking.{stored, count_here}
 
 -- the loop below row i: n is the number of choices of the rows from i on
 pub record Numbering (ends strides : List ℕ) (n i : ℕ) : Type 0 where

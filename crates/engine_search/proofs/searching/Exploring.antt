@@ -17,11 +17,11 @@ use Rattle.rules_choices.specs.EachChoice.{Strided, row_of, each_level, each_cho
 use Rattle.engine_table.specs.table.Places.{ValidRow, start_of, row_in}
 use Rattle.engine_table.specs.table.PlaceLaws.{part_cons, row_ends, row_valid}
 use Rattle.engine_search.specs.declared.tally.Tally.{Tally}
-use Rattle.engine_search.specs.rows_behind_lem.Behind.{rows_behind, row_at, row_number}
+use Rattle.engine_search.specs.rows_behind.Behind.{rows_behind, row_at, row_number}
 use Rattle.engine_search.specs.tally.Tally.{more}
 use Rattle.engine_search.specs.searching.Going.{offered, left, Goes}
 use Rattle.engine_search.proofs.searching.Rows.{strided_in, left_in, left_is}
-use Rattle.engine_search.specs.rows_behind_lem.InOrder.{number_at, order_cons, from_cons, from_none, from_levels, from_fits}
+use Rattle.engine_search.specs.rows_behind.InOrder.{number_at, order_cons, from_cons, from_none, from_levels, from_fits}
 use Rattle.engine_search.proofs.searching.Tallying.{count_cons, each_choice_none, each_choice_all, each_choice_covers, each_choice_fewer}
 
 module _ {levels ends order strides : List ℕ} {rows : List (List ℕ)} {i at base ix : ℕ} {f : Tally}

@@ -27,14 +27,14 @@ use Rattle.engine_table.specs.table.Rows.{rows_in}
 use Rattle.engine_table.specs.table.Places.{start_of, row_in}
 use Rattle.engine_table.specs.table.PlaceLaws.{rows_numbered, row_ends, row_some, row_valid}
 use Rattle.engine_search.specs.ordering.Ranks.{search_order}
-use Rattle.engine_search.specs.rows_behind_lem.Behind.{Orders, Looks}
+use Rattle.engine_search.specs.rows_behind.Behind.{Orders, Looks}
 use Rattle.engine_search.specs.tally.Tally.{more}
 use Rattle.engine_search.specs.tally.TallyLaws.{keeping, more_case, more_above}
 use Rattle.engine_search.specs.searching.Going.{offered, left, Passed, Ready}
 use Rattle.engine_search.specs.declared.searching.Place.{Place}
 use Rattle.engine_search.proofs.searching.Rows.{strided_in, left_is}
 use Rattle.engine_search.specs.searching.Searches.{Searchable, Searches}
-use Rattle.engine_search.specs.rows_behind_lem.InOrder.{high_fits, number_at, from_cons, from_each, from_levels, from_few, from_fits}
+use Rattle.engine_search.specs.rows_behind.InOrder.{high_fits, number_at, from_cons, from_each, from_levels, from_few, from_fits}
 use Rattle.engine_search.proofs.searching.Orders.{top, numbers_order, strides_small, in_order_lem, ordered, ordered_rows_are, same_choices}
 use Rattle.engine_search.proofs.searching.Tallying.{each_choice_covers}
 use Rattle.engine_search.proofs.searching.Passing.{passed_choices}

@@ -17,11 +17,11 @@ use Rattle.engine_table.specs.table.Rows.{rows_in}
 use Rattle.engine_table.specs.table.Places.{row_in}
 use Rattle.engine_table.specs.table.PlaceLaws.{rows_numbered}
 use Rattle.engine_search.specs.ordering.Ranks.{rank_in, search_order}
-use Rattle.engine_search.specs.rows_behind_lem.Behind.{Orders}
-use Rattle.engine_search.specs.rows_behind_lem.ByNumber.{by_number}
+use Rattle.engine_search.specs.rows_behind.Behind.{Orders}
+use Rattle.engine_search.specs.rows_behind.ByNumber.{by_number}
 use Rattle.engine_search.specs.searching.Searches.{Searchable}
 use Rattle.engine_search.proofs.searching.Rows.{strided_in}
-use Rattle.engine_search.specs.rows_behind_lem.InOrder.{from_few}
+use Rattle.engine_search.specs.rows_behind.InOrder.{from_few}
 
 -- above all highs
 abbrev pub top : ℕ

@@ -15,8 +15,8 @@ use Rattle.rules_choices.specs.Search.{low_of, lowest_total}
 use Rattle.rules_choices.specs.EachChoice.{Strided, row_of, each_level, each_choice}
 use Rattle.engine_table.specs.table.Places.{ValidTable, start_of, row_in}
 use Rattle.engine_table.specs.table.PlaceLaws.{row_ends, row_length, row_low, row_valid}
-use Rattle.engine_search.specs.rows_behind_lem.Behind.{Orders}
-use Rattle.engine_search.specs.rows_behind_lem.InOrder.{number_at, order_cons, low_fits}
+use Rattle.engine_search.specs.rows_behind.Behind.{Orders}
+use Rattle.engine_search.specs.rows_behind.InOrder.{number_at, order_cons, low_fits}
 use Rattle.engine_search.specs.searching.Going.{Passed}
 use Rattle.engine_search.proofs.searching.Rows.{strided_in, left_in}
 

@@ -8,7 +8,7 @@ use lib.Seq.{get_or-drop}
 use Rattle.rules_numbers.specs.Lists.{part}
 use Rattle.rules_choices.specs.EachChoice.{Strided}
 use Rattle.engine_table.specs.table.Places.{row_in}
-use Rattle.engine_search.specs.rows_behind_lem.Behind.{Orders, row_at, Looks}
+use Rattle.engine_search.specs.rows_behind.Behind.{Orders, row_at, Looks}
 use Rattle.engine_search.specs.searching.Going.{strided, left}
 
 -- row k of the table, with its stride

@@ -14,9 +14,9 @@ use Rattle.engine_table.specs.table.Rows.{rows_in}
 use Rattle.engine_table.specs.table.Places.{start_of, row_in}
 use Rattle.engine_table.specs.table.PlaceLaws.{rows_numbered, row_ends, row_length}
 use Rattle.engine_search.specs.searching.Searches.{Searchable}
-use Rattle.engine_search.specs.rows_behind_lem.Behind.{Orders}
-use Rattle.engine_search.specs.rows_behind_lem.ByNumber.{number_is, by_number}
-use Rattle.engine_search.specs.rows_behind_lem.InOrder.{from_cons, from_none, from_levels}
+use Rattle.engine_search.specs.rows_behind.Behind.{Orders}
+use Rattle.engine_search.specs.rows_behind.ByNumber.{number_is, by_number}
+use Rattle.engine_search.specs.rows_behind.InOrder.{from_cons, from_none, from_levels}
 
 -- the rows from row i on
 abbrev pub rows_from : List ℕ → List ℕ → ℕ → List (List ℕ)

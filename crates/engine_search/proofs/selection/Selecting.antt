@@ -14,7 +14,7 @@ use Rattle.engine_table.specs.table.Rows.{rows_in, HoldsRows}
 use Rattle.engine_table.specs.table.Places.{ValidFrom, ValidTable}
 use Rattle.engine_table.specs.declared.table.Table.{Table}
 use Rattle.engine_table.specs.counting.Counted.{Tells, CountedTo}
-use Rattle.engine_search.specs.rows_behind_lem.ByNumber.{FewChoices, Numbers}
+use Rattle.engine_search.specs.rows_behind.ByNumber.{FewChoices, Numbers}
 use Rattle.engine_search.specs.searching.Searches.{Searchable, Searches}
 use Rattle.engine_search.specs.declared.tally.Tally.{Tally}
 use Rattle.engine_search.specs.declared.selection.Selected.{Selected}

@@ -6,7 +6,7 @@ use Rattle.rules_choices.specs.insertion.Numbers.{numbers_from, in_numbers}
 use Rattle.engine_table.specs.table.Rows.{rows_in}
 use Rattle.engine_table.specs.table.Places.{ValidTable}
 use Rattle.engine_table.specs.table.PlaceLaws.{rows_numbered}
-use Rattle.engine_search.specs.rows_behind_lem.Behind.{Orders, EachBehind}
+use Rattle.engine_search.specs.rows_behind.Behind.{Orders, EachBehind}
 
 -- a table that is valid and has few enough choices
 abbrev pub FewChoices : List ℕ → List ℕ → Type 0

@@ -11,7 +11,7 @@ use Rattle.rules_choices.specs.EachChoice.{nth_in}
 use Rattle.rules_choices.specs.Numbered.{count, count_row}
 use Rattle.engine_table.specs.table.Places.{ValidRow, ValidTable, row_in}
 use Rattle.engine_table.specs.table.PlaceLaws.{row_some, row_valid}
-use Rattle.engine_search.specs.rows_behind_lem.Behind.{Orders}
+use Rattle.engine_search.specs.rows_behind.Behind.{Orders}
 
 -- ---- sums of rows whose levels are at most 10^9
 

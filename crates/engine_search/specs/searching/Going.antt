@@ -6,7 +6,7 @@ use Rattle.rules_choices.specs.Search.{lowest_total}
 use Rattle.rules_choices.specs.Numbered.{count}
 use Rattle.rules_choices.specs.EachChoice.{Strided}
 use Rattle.engine_table.specs.table.Places.{ValidRow, ValidTable, row_in}
-use Rattle.engine_search.specs.rows_behind_lem.Behind.{Orders, rows_behind, Looks, row_number}
+use Rattle.engine_search.specs.rows_behind.Behind.{Orders, rows_behind, Looks, row_number}
 use Rattle.engine_search.specs.tally.Tally.{more}
 use Rattle.engine_search.specs.declared.tally.Tally.{Tally}
 use Rattle.engine_search.specs.declared.searching.Place.{Place}

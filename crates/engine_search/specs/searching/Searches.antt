@@ -7,7 +7,7 @@ use Rattle.rules_choices.specs.Numbered.{count}
 use Rattle.rules_choices.specs.insertion.Numbers.{numbers_from}
 use Rattle.engine_table.specs.table.Rows.{rows_in}
 use Rattle.engine_table.specs.table.Places.{ValidTable}
-use Rattle.engine_search.specs.rows_behind_lem.Behind.{EachBehind}
+use Rattle.engine_search.specs.rows_behind.Behind.{EachBehind}
 use Rattle.engine_search.specs.declared.tally.Tally.{Tally}
 
 -- a table with few enough choices, and strides that number them as they are listed

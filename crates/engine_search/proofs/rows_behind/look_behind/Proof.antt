@@ -4,9 +4,9 @@ use mathlib.Core.Path.{refl}
 use native.Mathlib.Omega.{arith}
 use lib.ListN.{get_or}
 use Rattle.engine_table.specs.table.Places.{start_of}
-use Rattle.engine_search.proofs.rows_behind_lem.Looking.{Looking, looking_first, looking_down, looking_row, looking_fits, looking_again, looking_end}
-use Rattle.engine_search.proofs.rows_behind_lem.look_behind.Statement.{statement}
-use Rattle.engine_search.proofs.rows_behind_lem.look_behind.Tie as tie
+use Rattle.engine_search.proofs.rows_behind.Looking.{Looking, looking_first, looking_down, looking_row, looking_fits, looking_again, looking_end}
+use Rattle.engine_search.proofs.rows_behind.look_behind.Statement.{statement}
+use Rattle.engine_search.proofs.rows_behind.look_behind.Tie as tie
 
 abbrev invariant_loop : tie.invariant_loop
 invariant_loop levels ends order strides rows₀ n₀ low₀ high₀ i₀ rows n low high i = Looking levels ends order strides rows n low high i

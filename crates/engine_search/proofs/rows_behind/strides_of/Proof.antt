@@ -2,10 +2,10 @@
 use Prim.Native.Nat.{◌+◌, ◌-◌}
 use mathlib.Core.Path.{refl}
 use native.Mathlib.Omega.{arith}
-use Rattle.engine_search.proofs.rows_behind_lem.Numbering.{Numbering, numbering_first, numbering_down, row, row_inside, number_fits, numbering_again}
-use Rattle.engine_search.proofs.rows_behind_lem.Numbering.{numbering_end}
-use Rattle.engine_search.proofs.rows_behind_lem.strides_of.Statement.{statement}
-use Rattle.engine_search.proofs.rows_behind_lem.strides_of.Tie as tie
+use Rattle.engine_search.proofs.rows_behind.Numbering.{Numbering, numbering_first, numbering_down, row, row_inside, number_fits, numbering_again}
+use Rattle.engine_search.proofs.rows_behind.Numbering.{numbering_end}
+use Rattle.engine_search.proofs.rows_behind.strides_of.Statement.{statement}
+use Rattle.engine_search.proofs.rows_behind.strides_of.Tie as tie
 
 abbrev invariant_loop : tie.invariant_loop
 invariant_loop ends strides₀ n₀ i₀ strides n i = Numbering ends strides n i

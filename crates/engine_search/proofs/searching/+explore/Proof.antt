@@ -7,7 +7,7 @@ use native.Mathlib.Omega.{arith}
 use lib.ListN.{get_or}
 use borrow.Fn.Kinds.{In}
 use borrow.Fn.PlainCycle.{Measures, is, falls, and}
-use Rattle.engine_search.specs.rows_behind_lem.Behind.{row_number}
+use Rattle.engine_search.specs.rows_behind.Behind.{row_number}
 use Rattle.engine_search.proofs.searching.Exploring.{With, within, small_level, sums_fit, room_here, stride_fits, none_covers, all_cover, next_place}
 use Rattle.engine_search.proofs.searching.Exploring.{rest_ready, rest_with, row_done, next_ready, go_on}
 use Rattle.engine_search.proofs.searching.explore.Reads as explore

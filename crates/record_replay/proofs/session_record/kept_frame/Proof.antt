@@ -7,8 +7,8 @@ use Rattle.rules_format.specs.Hex.{hex_number}
 use Rattle.frame_reading.specs.frames.KindsRead.{kind_in}
 use Rattle.seats.specs.session_lines.FrameParts.{frame_behind}
 use Rattle.record_replay.proofs.session_record.Keeping.{nothing_kept, barred_dropped, frame_stays}
-use Rattle.record_replay.proofs.session_record.kept_frame_lem.Statement.{statement}
-use Rattle.record_replay.proofs.session_record.kept_frame_lem.Tie as tie
+use Rattle.record_replay.proofs.session_record.kept_frame.Statement.{statement}
+use Rattle.record_replay.proofs.session_record.kept_frame.Tie as tie
 
 -- the kind is that of the frame behind the line's seat, and so is the developer
 kinded : (c : tie.After-kind-in) → c.kind_in_lem.result ≡ kind_in (frame_behind c.before.before.before.args.line.now)

@@ -1,0 +1,13 @@
+-- `reached_count` goes through the lodged steps: the first whose price is below c ends those that are reached.
+use Prim.Native.Nat.{◌-◌}
+use mathlib.Core.Logic.{inl, inr}
+use Rattle.std.proofs.Common.{arith}
+use Rattle.std.proofs.Common.{rules}
+use Rattle.engine_held.proofs.withdrawals.Reaching.{ReachedSoFar, reached_none, reached_more, reached_stop, reached_room, reached_all}
+use Rattle.engine_held.proofs.withdrawals.reached_count.Given as goal
+
+abbrev pub invariant-loop-i : goal.invariant-loop-i
+invariant-loop-i l = ReachedSoFar l.history l.c l.i
+
+abbrev pub decreases-loop-i : goal.decreases-loop-i
+decreases-loop-i l = l.history.lodged - l.i

@@ -1,0 +1,11 @@
+-- The digits are written from the low end; the loop keeps `Writing`.
+use Prim.Native.Nat.{◌-◌}
+use Rattle.std.proofs.Common.{arith}
+use Rattle.frame_bytes.proofs.field_writing.Writing.{Writing, writing_first, writing_next, writing_end}
+use Rattle.frame_bytes.proofs.field_writing.put_hex.Given as goal
+
+abbrev pub invariant-loop-i : goal.invariant-loop-i
+invariant-loop-i l = Writing l.initial.out l.value l.width l.out l.v l.i
+
+abbrev pub decreases-loop-i : goal.decreases-loop-i
+decreases-loop-i l = l.width - l.i
