@@ -4,7 +4,7 @@ use Rattle.std.specs.Prelude.{ℕ, ◌<◌, ◌≡◌, pos, ◌+ℤ◌}
 use Rattle.std.proofs.Math.Path.{refl}
 use mathlib.Core.List.{List, [], ◌∷◌, ◌++◌}
 use Rattle.std.proofs.Common.{arith, ne_eqb}
-use Rattle.std.proofs.Math.IntN.{-ℤ-+ℤ_cancel}
+use Rattle.std.proofs.Math.IntN.{ -ℤ-+ℤ_cancel}
 use Rattle.rules_auction.specs.Ledger.{Step, Close, none, made, Ledger}
 use Rattle.rules_auction.specs.Clearing.{demand_at}
 use Rattle.rules_auction.specs.Refusals.{refusal}

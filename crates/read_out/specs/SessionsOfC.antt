@@ -374,7 +374,7 @@ module _ {session : List ℕ} {kind number : ℕ} {old new : List ℕ} {r : ℕ}
   published_read k z = w.published k z
 
   pub developer_read : kind ≡ 2 →
-      let figures = published_numbers (plain_ledger session) w.excess ++ own_numbers (plain_ledger session .developers number) in
+      let figures = published_numbers (plain_ledger session) w.excess ++ own_numbers ((plain_ledger session).developers number) in
       Lent (length figures) figures old new r
   developer_read k = w.own k
 
