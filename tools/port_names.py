@@ -47,6 +47,18 @@ def declared(root):
     """Names that the .antt files declare: at the margin, as fields and constructors, and locally."""
     found = collections.defaultdict(set)
     for path in files(os.path.join(root, "crates"), ".antt"):
+        if os.path.basename(path) in ("Answers.antt", "Invariants.antt", "Proof.antt") and "/proofs/" in path:
+            continue
+        text = re.sub(r"(?m)(^|\s)--.*$", "", read(path))
+        for group in re.findall(r"(?m)^ *(?:(?:pub|abbrev) )*((?:[a-z][\w'-]* )+)[:] ", text):
+            for name in group.split():
+                if name not in WORDS:
+                    found[name].add(path)
+        for group in re.findall(r"\bas ([a-z][\w'-]*)|\blet ([a-z][\w'-]*) [:=]|[({]((?:[a-z][\w'-]* )+):|λ ((?:[a-z][\w'-]* ?)+)\.", text):
+            for name in " ".join(group).split():
+                if name not in WORDS:
+                    found[name].add(path)
+    for path in files(os.path.join(root, "crates"), ".antt"):
         for line in read(path).split("\n"):
             match = DECLARED.match(line)
             if match and match[4] not in WORDS and not line.lstrip().startswith("--"):

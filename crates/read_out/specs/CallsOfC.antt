@@ -23,31 +23,31 @@ use Rattle.record_replay.specs.record_forcing.Chosen.{move_byte}
 use Rattle.rules_sealed.specs.Sealed.{Book, book_of, awards, left_over, lent_refusal}
 use Rattle.rules_sealed.specs.InWords.{InWords}
 use Rattle.engine_settling.specs.declared.Settled.{Settled}
-use Rattle.engine_settling.specs.contracts.settle.{signature as settle-signature}
-use Rattle.engine_settling.proofs.settle.Kinds as settle-kinds
+use Rattle.engine_settling.specs.contracts.settle.{signature as settle_signature}
+use Rattle.engine_settling.proofs.settle.Kinds as settle_kinds
 use Rattle.engine_settling.proofs.settle.Reads as settle
 use Rattle.host.specs.Version.{engine_version}
-use Rattle.host.specs.contracts.engine_version.{signature as version-signature}
-use Rattle.host.proofs.engine_version.Reads as asking-version
-use Rattle.host.proofs.engine_version.Statement as version-states
-use Rattle.host.specs.contracts.demand.{signature as demand-signature}
+use Rattle.host.specs.contracts.engine_version.{signature as version_signature}
+use Rattle.host.proofs.engine_version.Reads as asking_version
+use Rattle.host.proofs.engine_version.Statement as version_states
+use Rattle.host.specs.contracts.demand.{signature as demand_signature}
 use Rattle.host.proofs.demand.Reads as demanding
-use Rattle.host.proofs.demand.Statement as demand-states
-use Rattle.host.specs.contracts.demand_remainder.{signature as remainder-signature}
+use Rattle.host.proofs.demand.Statement as demand_states
+use Rattle.host.specs.contracts.demand_remainder.{signature as remainder_signature}
 use Rattle.host.proofs.demand_remainder.Reads as remaining
-use Rattle.host.proofs.demand_remainder.Statement as remainder-states
-use Rattle.host.specs.contracts.replay.{signature as replay-signature}
-use Rattle.host.proofs.replay.Kinds as replay-kinds
+use Rattle.host.proofs.demand_remainder.Statement as remainder_states
+use Rattle.host.specs.contracts.replay.{signature as replay_signature}
+use Rattle.host.proofs.replay.Kinds as replay_kinds
 use Rattle.host.proofs.replay.Reads as replaying
-use Rattle.host.proofs.replay.Statement as replay-states
-use Rattle.host.specs.contracts.who_can_force.{signature as forcing-signature}
-use Rattle.host.proofs.who_can_force.Kinds as forcing-kinds
+use Rattle.host.proofs.replay.Statement as replay_states
+use Rattle.host.specs.contracts.who_can_force.{signature as forcing_signature}
+use Rattle.host.proofs.who_can_force.Kinds as forcing_kinds
 use Rattle.host.proofs.who_can_force.Reads as forcing
-use Rattle.host.proofs.who_can_force.Statement as forcing-states
-use Rattle.host.specs.contracts.sealed_auction.{signature as sealing-signature}
-use Rattle.host.proofs.sealed_auction.Kinds as sealing-kinds
+use Rattle.host.proofs.who_can_force.Statement as forcing_states
+use Rattle.host.specs.contracts.sealed_auction.{signature as sealing_signature}
+use Rattle.host.proofs.sealed_auction.Kinds as sealing_kinds
 use Rattle.host.proofs.sealed_auction.Reads as sealing
-use Rattle.host.proofs.sealed_auction.Statement as sealing-states
+use Rattle.host.proofs.sealed_auction.Statement as sealing_states
 use Rattle.statement.specs.calls_of_c.Version.{VersionExported}
 use Rattle.statement.specs.calls_of_c.Demand.{Inside, Demanded, Remains, DemandReturned, RemainderReturned, DemandExported}
 use Rattle.statement.specs.calls_of_c.Replay.{called_text, settled_text, SettlingReplied, LineReplied, Replied, line_first, Replayed, ReplayExported}
@@ -61,7 +61,7 @@ use Rattle.statement.specs.EngineCorrect.{EngineCorrect}
 
 -- the call for the version gave r
 abbrev pub Versions : ℕ → Type 0
-Versions r = asking-version.Post tt tt r tt
+Versions r = asking_version.Post tt tt r tt
 
 -- to these numbers the call gave r
 abbrev pub Demands : ℕ → ℕ → ℕ → ℕ → ℕ → ℕ → Type 0
@@ -73,19 +73,19 @@ DemandsRemainder ce d m1 m2 p r = remaining.Post tt (ce, (d, (m1, (m2, (p, tt)))
 -- given this record and a lent buffer of the bytes `old`, the call gave r and left the bytes `new`
 pub data Replays : (bytes old new : List ℕ) → ℕ → Type 0 where
   replays :
-      (κs : Lfts 2) (x : ArgsD replay-signature κs) (r : ℕ) (y : AtExit (ended_of 2 replay-kinds.ps replay-kinds.r) κs) → replaying.Post κs x r y →
+      (κs : Lfts 2) (x : ArgsD replay_signature κs) (r : ℕ) (y : AtExit (ended_of 2 replay_kinds.ps replay_kinds.r) κs) → replaying.Post κs x r y →
       Replays x.0.now x.1.0.now y.1.0.now r
 
 -- given this record, two developers, prices and a buffer
 pub data Forces : (bytes : List ℕ) (m n : ℕ) (ps old new : List ℕ) → ℕ → Type 0 where
   forces :
-      (κs : Lfts 3) (x : ArgsD forcing-signature κs) (r : ℕ) (y : AtExit (ended_of 3 forcing-kinds.ps forcing-kinds.r) κs) → forcing.Post κs x r y →
+      (κs : Lfts 3) (x : ArgsD forcing_signature κs) (r : ℕ) (y : AtExit (ended_of 3 forcing_kinds.ps forcing_kinds.r) κs) → forcing.Post κs x r y →
       Forces x.0.now x.1.0 x.1.1.0 x.1.1.1.0.now x.1.1.1.1.0.now y.1.1.1.1.0.now r
 
 -- given a ceiling, demand, the offers of a book and a buffer
 pub data Seals : (ceiling demand : ℕ) (b : Book) (old new : List ℕ) → ℕ → Type 0 where
   seals :
-      (κs : Lfts 5) (x : ArgsD sealing-signature κs) (r : ℕ) (y : AtExit (ended_of 5 sealing-kinds.ps sealing-kinds.r) κs) → sealing.Post κs x r y →
+      (κs : Lfts 5) (x : ArgsD sealing_signature κs) (r : ℕ) (y : AtExit (ended_of 5 sealing_kinds.ps sealing_kinds.r) κs) → sealing.Post κs x r y →
       Seals x.0 x.1.0 (book_of x.1.1.0.now x.1.1.1.0.now x.1.1.1.1.0.now x.1.1.1.1.1.0.now)
       x.1.1.1.1.1.1.0.now y.1.1.1.1.1.1.0.now r
 
@@ -110,10 +110,10 @@ module _ {M : Type 1} (s : EngineCorrect M) where
 -- ---- the engine's version
 
 module _ {M : Type 1} (e : VersionExported M) where
-  pub version_meets : version-states.statement M
+  pub version_meets : version_states.statement M
   version_meets = e.meets
 
-  pub version_asks_nothing : (κs : Lfts 0) (x : ArgsD version-signature κs) → asking-version.Pre κs x × asking-version.Asked κs x
+  pub version_asks_nothing : (κs : Lfts 0) (x : ArgsD version_signature κs) → asking_version.Pre κs x × asking_version.Asked κs x
   version_asks_nothing κs x = e.asks κs x
 
   pub version_returned : (r : ℕ) → Versions r → r ≡ engine_version
@@ -126,10 +126,10 @@ module _ {M : Type 1} (s : EngineCorrect M) where
 -- ---- demand (document 01; document 02, 4)
 
 module _ {M : Type 1} (e : DemandExported M) where
-  pub demand_meets : demand-states.statement M
+  pub demand_meets : demand_states.statement M
   demand_meets = e.demand_meets
 
-  pub demand_asks_nothing : (κs : Lfts 0) (x : ArgsD demand-signature κs) → demanding.Pre κs x × demanding.Asked κs x
+  pub demand_asks_nothing : (κs : Lfts 0) (x : ArgsD demand_signature κs) → demanding.Pre κs x × demanding.Asked κs x
   demand_asks_nothing κs x = e.demand_asks κs x
 
   pub demand_returned : (ce d m1 m2 p r : ℕ) → Demands ce d m1 m2 p r → DemandReturned ce d m1 m2 p r
@@ -138,10 +138,10 @@ module _ {M : Type 1} (e : DemandExported M) where
   pub demand_decided : (ce d m1 m2 p r r' : ℕ) → DemandReturned ce d m1 m2 p r → DemandReturned ce d m1 m2 p r' → r ≡ r'
   demand_decided ce d m1 m2 p r r' w v = e.demand_determined ce d m1 m2 p r r' w v
 
-  pub remainder_meets : remainder-states.statement M
+  pub remainder_meets : remainder_states.statement M
   remainder_meets = e.remainder_meets
 
-  pub remainder_asks_nothing : (κs : Lfts 0) (x : ArgsD remainder-signature κs) → remaining.Pre κs x × remaining.Asked κs x
+  pub remainder_asks_nothing : (κs : Lfts 0) (x : ArgsD remainder_signature κs) → remaining.Pre κs x × remaining.Asked κs x
   remainder_asks_nothing κs x = e.remainder_asks κs x
 
   pub remainder_returned : (ce d m1 m2 p r : ℕ) → DemandsRemainder ce d m1 m2 p r → RemainderReturned ce d m1 m2 p r
@@ -201,10 +201,10 @@ module _ {M : Type 1} (s : EngineCorrect M) (ce d m1 m2 p : ℕ) where
 -- ---- a record replayed (document 01, Frames)
 
 module _ {M : Type 1} (e : ReplayExported M) where
-  pub replay_meets : replay-states.statement M
+  pub replay_meets : replay_states.statement M
   replay_meets = e.meets
 
-  pub replay_asks_nothing : (κs : Lfts 2) (x : ArgsD replay-signature κs) → replaying.Pre κs x × replaying.Asked κs x
+  pub replay_asks_nothing : (κs : Lfts 2) (x : ArgsD replay_signature κs) → replaying.Pre κs x × replaying.Asked κs x
   replay_asks_nothing κs x = e.asks κs x
 
   pub replay_returned : {bytes old new : List ℕ} {r : ℕ} → Replays bytes old new r → Replayed bytes old new r
@@ -261,18 +261,18 @@ module _ {M : Type 1} (s : EngineCorrect M) where
 
   -- the reply to a settling is the text of what the settling call itself answers after the same list of calls, and leaves in 192 lent bytes
   pub settling_text_lem :
-      {cs : List Call} {rs : List Answered} (κs : Lfts 1) (x : ArgsD settle-signature κs) (r : Settled)
-      (y : AtExit (ended_of 1 settle-kinds.ps settle-kinds.r) κs) → Run cs rs x.0 → settle.Post κs x r y → length x.1.1.0.now ≡ award_room →
+      {cs : List Call} {rs : List Answered} (κs : Lfts 1) (x : ArgsD settle_signature κs) (r : Settled)
+      (y : AtExit (ended_of 1 settle_kinds.ps settle_kinds.r) κs) → Run cs rs x.0 → settle.Post κs x r y → length x.1.1.0.now ≡ award_room →
       (t : List ℕ) → SettlingReplied (ledger cs) x.1.0 t → t ≡ settled_text r y.1.1.0.now
   settling_text_lem κs x r y w q e t v = v.text _ _ r e (s.statement κs x r y w q)
 
 -- ---- who can force the price (document 02, 11)
 
 module _ {M : Type 1} (e : ForcingExported M) where
-  pub forcing_meets : forcing-states.statement M
+  pub forcing_meets : forcing_states.statement M
   forcing_meets = e.meets
 
-  pub forcing_asks_nothing : (κs : Lfts 3) (x : ArgsD forcing-signature κs) → forcing.Pre κs x × forcing.Asked κs x
+  pub forcing_asks_nothing : (κs : Lfts 3) (x : ArgsD forcing_signature κs) → forcing.Pre κs x × forcing.Asked κs x
   forcing_asks_nothing κs x = e.asks κs x
 
   pub forcing_returned :
@@ -306,10 +306,10 @@ module _ {M : Type 1} (s : EngineCorrect M) where
 -- ---- the sealed auction for long builds (document 02, 13)
 
 module _ {M : Type 1} (e : SealedExported M) where
-  pub sealed_meets : sealing-states.statement M
+  pub sealed_meets : sealing_states.statement M
   sealed_meets = e.meets
 
-  pub sealed_asks_nothing : (κs : Lfts 5) (x : ArgsD sealing-signature κs) → sealing.Pre κs x × sealing.Asked κs x
+  pub sealed_asks_nothing : (κs : Lfts 5) (x : ArgsD sealing_signature κs) → sealing.Pre κs x × sealing.Asked κs x
   sealed_asks_nothing κs x = e.asks κs x
 
   pub sealed_returned :

@@ -16,25 +16,25 @@ use Rattle.rules_replies.specs.Replies.{twos_complement}
 use Rattle.rules_replies.specs.record_calls.Calls.{calls_in}
 use Rattle.rules_seats.specs.figures.Figures.{one_if, closings_from, curve_figures}
 use Rattle.engine_settling.specs.declared.Settled.{Settled}
-use Rattle.engine_settling.specs.contracts.settle.{signature as settle-signature}
-use Rattle.engine_settling.proofs.settle.Kinds as settle-kinds
+use Rattle.engine_settling.specs.contracts.settle.{signature as settle_signature}
+use Rattle.engine_settling.proofs.settle.Kinds as settle_kinds
 use Rattle.engine_settling.proofs.settle.Reads as settle
-use Rattle.host.specs.contracts.record_state.{signature as state-signature}
-use Rattle.host.specs.contracts.record_preview.{signature as preview-signature}
-use Rattle.host.specs.contracts.record_curve.{signature as curve-signature}
-use Rattle.host.specs.contracts.record_settlement.{signature as settlement-signature}
-use Rattle.host.proofs.record_state.Kinds as state-kinds
-use Rattle.host.proofs.record_preview.Kinds as preview-kinds
-use Rattle.host.proofs.record_curve.Kinds as curve-kinds
-use Rattle.host.proofs.record_settlement.Kinds as settlement-kinds
-use Rattle.host.proofs.record_state.Reads as state-reads
-use Rattle.host.proofs.record_preview.Reads as preview-reads
-use Rattle.host.proofs.record_curve.Reads as curve-reads
-use Rattle.host.proofs.record_settlement.Reads as settlement-reads
-use Rattle.host.proofs.record_state.Statement as state-states
-use Rattle.host.proofs.record_preview.Statement as preview-states
-use Rattle.host.proofs.record_curve.Statement as curve-states
-use Rattle.host.proofs.record_settlement.Statement as settlement-states
+use Rattle.host.specs.contracts.record_state.{signature as state_signature}
+use Rattle.host.specs.contracts.record_preview.{signature as preview_signature}
+use Rattle.host.specs.contracts.record_curve.{signature as curve_signature}
+use Rattle.host.specs.contracts.record_settlement.{signature as settlement_signature}
+use Rattle.host.proofs.record_state.Kinds as state_kinds
+use Rattle.host.proofs.record_preview.Kinds as preview_kinds
+use Rattle.host.proofs.record_curve.Kinds as curve_kinds
+use Rattle.host.proofs.record_settlement.Kinds as settlement_kinds
+use Rattle.host.proofs.record_state.Reads as state_reads
+use Rattle.host.proofs.record_preview.Reads as preview_reads
+use Rattle.host.proofs.record_curve.Reads as curve_reads
+use Rattle.host.proofs.record_settlement.Reads as settlement_reads
+use Rattle.host.proofs.record_state.Statement as state_states
+use Rattle.host.proofs.record_preview.Statement as preview_states
+use Rattle.host.proofs.record_curve.Statement as curve_states
+use Rattle.host.proofs.record_settlement.Statement as settlement_states
 use Rattle.statement.specs.settling.Stated.{Within, Stated}
 use Rattle.statement.specs.calls_of_c.HostValues.{Given, Lent}
 use Rattle.statement.specs.calls_of_c.LatestExcess.{LatestExcess}
@@ -48,24 +48,24 @@ use Rattle.statement.specs.EngineCorrect.{EngineCorrect}
 
 pub data States : (bytes old new : List ℕ) → ℕ → Type 0 where
   states :
-      (κs : Lfts 2) (x : ArgsD state-signature κs) (r : ℕ) (y : AtExit (ended_of 2 state-kinds.ps state-kinds.r) κs) → state-reads.Post κs x r y →
+      (κs : Lfts 2) (x : ArgsD state_signature κs) (r : ℕ) (y : AtExit (ended_of 2 state_kinds.ps state_kinds.r) κs) → state_reads.Post κs x r y →
       States x.0.now x.1.0.now y.1.0.now r
 
 pub data Previews : (bytes old new : List ℕ) → ℕ → Type 0 where
   previews :
-      (κs : Lfts 2) (x : ArgsD preview-signature κs) (r : ℕ) (y : AtExit (ended_of 2 preview-kinds.ps preview-kinds.r) κs) → preview-reads.Post κs x r y →
+      (κs : Lfts 2) (x : ArgsD preview_signature κs) (r : ℕ) (y : AtExit (ended_of 2 preview_kinds.ps preview_kinds.r) κs) → preview_reads.Post κs x r y →
       Previews x.0.now x.1.0.now y.1.0.now r
 
 pub data Curves : (bytes old new : List ℕ) → ℕ → Type 0 where
   curves :
-      (κs : Lfts 2) (x : ArgsD curve-signature κs) (r : ℕ) (y : AtExit (ended_of 2 curve-kinds.ps curve-kinds.r) κs) → curve-reads.Post κs x r y →
+      (κs : Lfts 2) (x : ArgsD curve_signature κs) (r : ℕ) (y : AtExit (ended_of 2 curve_kinds.ps curve_kinds.r) κs) → curve_reads.Post κs x r y →
       Curves x.0.now x.1.0.now y.1.0.now r
 
 -- given a limit too, and lent bytes
-pub data Settlements : (bytes : List ℕ) (limit : ℕ) (oldF newF oldA newA : List ℕ) → ℕ → Type 0 where
+pub data Settlements : (bytes : List ℕ) (limit : ℕ) (old_f new_f old_a new_a : List ℕ) → ℕ → Type 0 where
   settlements :
-      (κs : Lfts 3) (x : ArgsD settlement-signature κs) (r : ℕ) (y : AtExit (ended_of 3 settlement-kinds.ps settlement-kinds.r) κs) →
-      settlement-reads.Post κs x r y →
+      (κs : Lfts 3) (x : ArgsD settlement_signature κs) (r : ℕ) (y : AtExit (ended_of 3 settlement_kinds.ps settlement_kinds.r) κs) →
+      settlement_reads.Post κs x r y →
       Settlements x.0.now x.1.0 x.1.1.0.now y.1.1.0.now x.1.1.1.0.now y.1.1.1.0.now r
 
 -- ---- the parts of the statement
@@ -96,36 +96,36 @@ module _ {M : Type 1} (e : RecordFiguresExported M) where
   curve_decided l old new new' r r' w v = e.curve_determined l old new new' r r' w v
 
   pub settlement_decided :
-      (l : Ledger) (limit : ℕ) (oldF newF newF' oldA newA newA' : List ℕ) (r r' : ℕ) → SettlementReturned l limit oldF newF oldA newA r →
-      SettlementReturned l limit oldF newF' oldA newA' r' → (r ≡ r') × (newF ≡ newF') × (newA ≡ newA')
-  settlement_decided l limit oldF newF newF' oldA newA newA' r r' w v = e.settlement_determined l limit oldF newF newF' oldA newA newA' r r' w v
+      (l : Ledger) (limit : ℕ) (old_f new_f new_f' old_a new_a new_a' : List ℕ) (r r' : ℕ) → SettlementReturned l limit old_f new_f old_a new_a r →
+      SettlementReturned l limit old_f new_f' old_a new_a' r' → (r ≡ r') × (new_f ≡ new_f') × (new_a ≡ new_a')
+  settlement_decided l limit old_f new_f new_f' old_a new_a new_a' r r' w v = e.settlement_determined l limit old_f new_f new_f' old_a new_a new_a' r r' w v
 
 -- ---- each meets its contract, and asks nothing
 
 module _ {M : Type 1} (e : FiguresMeet M) where
-  pub state_meets : state-states.statement M
+  pub state_meets : state_states.statement M
   state_meets = e.record_state_lem
 
-  pub preview_meets : preview-states.statement M
+  pub preview_meets : preview_states.statement M
   preview_meets = e.record_preview_lem
 
-  pub curve_meets : curve-states.statement M
+  pub curve_meets : curve_states.statement M
   curve_meets = e.record_curve_lem
 
-  pub settlement_meets : settlement-states.statement M
+  pub settlement_meets : settlement_states.statement M
   settlement_meets = e.record_settlement_lem
 
 module _ (e : FiguresAsk) where
-  pub state_asks_nothing : (κs : Lfts 2) (x : ArgsD state-signature κs) → state-reads.Pre κs x × state-reads.Asked κs x
+  pub state_asks_nothing : (κs : Lfts 2) (x : ArgsD state_signature κs) → state_reads.Pre κs x × state_reads.Asked κs x
   state_asks_nothing κs x = e.record_state_lem κs x
 
-  pub preview_asks_nothing : (κs : Lfts 2) (x : ArgsD preview-signature κs) → preview-reads.Pre κs x × preview-reads.Asked κs x
+  pub preview_asks_nothing : (κs : Lfts 2) (x : ArgsD preview_signature κs) → preview_reads.Pre κs x × preview_reads.Asked κs x
   preview_asks_nothing κs x = e.record_preview_lem κs x
 
-  pub curve_asks_nothing : (κs : Lfts 2) (x : ArgsD curve-signature κs) → curve-reads.Pre κs x × curve-reads.Asked κs x
+  pub curve_asks_nothing : (κs : Lfts 2) (x : ArgsD curve_signature κs) → curve_reads.Pre κs x × curve_reads.Asked κs x
   curve_asks_nothing κs x = e.record_curve_lem κs x
 
-  pub settlement_asks_nothing : (κs : Lfts 3) (x : ArgsD settlement-signature κs) → settlement-reads.Pre κs x × settlement-reads.Asked κs x
+  pub settlement_asks_nothing : (κs : Lfts 3) (x : ArgsD settlement_signature κs) → settlement_reads.Pre κs x × settlement_reads.Asked κs x
   settlement_asks_nothing κs x = e.record_settlement_lem κs x
 
 -- ---- what it returns
@@ -141,8 +141,8 @@ module _ (e : FiguresReturn) where
   curve_returned (curves κs x r y q) = e.record_curve_lem κs x r y q
 
   pub settlement_returned :
-      {bytes : List ℕ} {limit : ℕ} {oldF newF oldA newA : List ℕ} {r : ℕ} → Settlements bytes limit oldF newF oldA newA r →
-      SettlementReturned (ledger (calls_in bytes)) limit oldF newF oldA newA r
+      {bytes : List ℕ} {limit : ℕ} {old_f new_f old_a new_a : List ℕ} {r : ℕ} → Settlements bytes limit old_f new_f old_a new_a r →
+      SettlementReturned (ledger (calls_in bytes)) limit old_f new_f old_a new_a r
   settlement_returned (settlements κs x r y q) = e.record_settlement_lem κs x r y q
 
 -- figures, or a text, that fit what was lent, and those that do not
@@ -192,21 +192,21 @@ points_given w = w.points
 
 -- ---- the settlement (demand 3)
 
-module _ {l : Ledger} {limit : ℕ} {oldF newF oldA newA : List ℕ} {r : ℕ} where
-  pub settlement_given : SettlementReturned l limit oldF newF oldA newA r → 12 ≤ length oldF → SettlementGiven l limit oldF newF oldA newA r
+module _ {l : Ledger} {limit : ℕ} {old_f new_f old_a new_a : List ℕ} {r : ℕ} where
+  pub settlement_given : SettlementReturned l limit old_f new_f old_a new_a r → 12 ≤ length old_f → SettlementGiven l limit old_f new_f old_a new_a r
   settlement_given w h = w.fit h
 
-  pub settlement_without_room : SettlementReturned l limit oldF newF oldA newA r → length oldF < 12 → SettlementUnwritten l limit oldF newF oldA newA r
+  pub settlement_without_room : SettlementReturned l limit old_f new_f old_a new_a r → length old_f < 12 → SettlementUnwritten l limit old_f new_f old_a new_a r
   settlement_without_room w h = w.too_short h
 
-  module _ (w : SettlementGiven l limit oldF newF oldA newA r) where
-    pub given_as_stated : Stated l limit oldA newA w.settled
+  module _ (w : SettlementGiven l limit old_f new_f old_a new_a r) where
+    pub given_as_stated : Stated l limit old_a new_a w.settled
     given_as_stated = w.as_stated
 
-    pub given_figures : Given w.settled.number 0 (settled_figures w.settled) oldF newF r
+    pub given_figures : Given w.settled.number 0 (settled_figures w.settled) old_f new_f r
     given_figures = w.figures
 
-  module _ (w : SettlementUnwritten l limit oldF newF oldA newA r) where
+  module _ (w : SettlementUnwritten l limit old_f new_f old_a new_a r) where
     pub unwritten_open : is_closed l.phase ≡ false → r ≡ 2 ^ 64 - 2
     unwritten_open c = w.not_closed c
 
@@ -216,7 +216,7 @@ module _ {l : Ledger} {limit : ℕ} {oldF newF oldA newA : List ℕ} {r : ℕ} w
     pub unwritten_last : is_closed l.phase ≡ true → Within l limit → r ≡ 2 ^ 64 - 11
     unwritten_last c z = w.by_11 c z
 
-    pub unwritten_stays : (newF ≡ oldF) × (newA ≡ oldA)
+    pub unwritten_stays : (new_f ≡ old_f) × (new_a ≡ old_a)
     unwritten_stays = w.untouched
 
 module _ {n v : ℕ} {figures old new : List ℕ} {r : ℕ} (w : Given n v figures old new r) where
@@ -239,8 +239,8 @@ module _ {M : Type 1} (s : EngineCorrect M) where
   same_curve w v = let e = of_figures s in let f = figures_return e in curve_decided e _ _ _ _ _ _ (curve_returned f w) (curve_returned f v)
 
   pub same_settlement :
-      {bytes : List ℕ} {limit : ℕ} {oldF newF newF' oldA newA newA' : List ℕ} {r r' : ℕ} → Settlements bytes limit oldF newF oldA newA r →
-      Settlements bytes limit oldF newF' oldA newA' r' → (r ≡ r') × (newF ≡ newF') × (newA ≡ newA')
+      {bytes : List ℕ} {limit : ℕ} {old_f new_f new_f' old_a new_a new_a' : List ℕ} {r r' : ℕ} → Settlements bytes limit old_f new_f old_a new_a r →
+      Settlements bytes limit old_f new_f' old_a new_a' r' → (r ≡ r') × (new_f ≡ new_f') × (new_a ≡ new_a')
   same_settlement w v =
       let e = of_figures s in
       let f = figures_return e in
@@ -248,8 +248,8 @@ module _ {M : Type 1} (s : EngineCorrect M) where
 
   -- the settlement given is what the settling call itself answers after the same list of calls, and the lent bytes are what it leaves
   pub as_settled :
-      {cs : List Call} {rs : List Answered} {oldF newF newA : List ℕ} {r : ℕ} (κs : Lfts 1) (x : ArgsD settle-signature κs) (a : Settled)
-      (y : AtExit (ended_of 1 settle-kinds.ps settle-kinds.r) κs) → Run cs rs x.0 → settle.Post κs x a y →
-      (w : SettlementGiven (ledger cs) x.1.0 oldF newF x.1.1.0.now newA r) →
-      (w.settled ≡ a) × (newA ≡ y.1.1.0.now)
+      {cs : List Call} {rs : List Answered} {old_f new_f new_a : List ℕ} {r : ℕ} (κs : Lfts 1) (x : ArgsD settle_signature κs) (a : Settled)
+      (y : AtExit (ended_of 1 settle_kinds.ps settle_kinds.r) κs) → Run cs rs x.0 → settle.Post κs x a y →
+      (w : SettlementGiven (ledger cs) x.1.0 old_f new_f x.1.1.0.now new_a r) →
+      (w.settled ≡ a) × (new_a ≡ y.1.1.0.now)
   as_settled κs x a y run q w = s.determines _ _ _ _ _ _ _ (given_as_stated w) (s.statement κs x a y run q)

@@ -13,18 +13,18 @@ use Rattle.rules_replies.specs.WrittenOrders.{raw_of, writable_order, frame_of_o
 use Rattle.engine_auction.specs.Called.{sets_up, registers, registers_for}
 use Rattle.frame_writing.specs.declared.Written.{Written}
 use Rattle.frame_writing.specs.each_call.Writes.{Writes}
-use Rattle.frame_writing.specs.contracts.each_call.write_set_up.{signature as set-up-signature}
-use Rattle.frame_writing.specs.contracts.each_call.write_registration.{signature as registration-signature}
-use Rattle.frame_writing.specs.contracts.each_call.write_registration_for.{signature as registration-for-signature}
-use Rattle.frame_writing.specs.contracts.each_call.write_opening.{signature as opening-signature}
-use Rattle.frame_writing.specs.contracts.each_call.write_offer.{signature as offer-signature}
-use Rattle.frame_writing.specs.contracts.each_call.write_lodging.{signature as lodging-signature}
-use Rattle.frame_writing.specs.contracts.each_call.write_cancellation.{signature as cancellation-signature}
-use Rattle.frame_writing.specs.contracts.each_call.write_closing.{signature as closing-signature}
-use Rattle.frame_writing.specs.contracts.each_call.write_settling.{signature as settling-signature}
+use Rattle.frame_writing.specs.contracts.each_call.write_set_up.{signature as set_up_signature}
+use Rattle.frame_writing.specs.contracts.each_call.write_registration.{signature as registration_signature}
+use Rattle.frame_writing.specs.contracts.each_call.write_registration_for.{signature as registration_for_signature}
+use Rattle.frame_writing.specs.contracts.each_call.write_opening.{signature as opening_signature}
+use Rattle.frame_writing.specs.contracts.each_call.write_offer.{signature as offer_signature}
+use Rattle.frame_writing.specs.contracts.each_call.write_lodging.{signature as lodging_signature}
+use Rattle.frame_writing.specs.contracts.each_call.write_cancellation.{signature as cancellation_signature}
+use Rattle.frame_writing.specs.contracts.each_call.write_closing.{signature as closing_signature}
+use Rattle.frame_writing.specs.contracts.each_call.write_settling.{signature as settling_signature}
 use Rattle.frame_writing.proofs.each_call.write_set_up.Reads as set_up_lem
 use Rattle.frame_writing.proofs.each_call.write_registration.Reads as registration
-use Rattle.frame_writing.proofs.each_call.write_registration_for.Reads as registration-for
+use Rattle.frame_writing.proofs.each_call.write_registration_for.Reads as registration_for_lem
 use Rattle.frame_writing.proofs.each_call.write_opening.Reads as opening
 use Rattle.frame_writing.proofs.each_call.write_offer.Reads as offer
 use Rattle.frame_writing.proofs.each_call.write_lodging.Reads as lodging
@@ -86,50 +86,50 @@ module _ {M : Type 1} (s : EngineCorrect M) where
   -- ---- the nine writing calls, in the order of an auction's life; `laid_or_left` and `one_frame` conclude of each
 
   -- CE, D, M1, M2, A
-  pub set_up_frame : (κs : Lfts 1) (x : ArgsD set-up-signature κs) →
+  pub set_up_frame : (κs : Lfts 1) (x : ArgsD set_up_signature κs) →
       WritesFrame (set_up_lem.Post κs x) (Asks (sets_up x.0 x.1.0 x.1.1.0 x.1.1.1.0 x.1.1.1.1.0))
       x.1.1.1.1.1.0.now (λ y. y.1.1.1.1.1.0.now)
   set_up_frame κs x = s.frames.by_arguments.set_up_written κs x
 
   -- project, developer, kind, study value, start day, levels
-  pub registration_frame : (κs : Lfts 2) (x : ArgsD registration-signature κs) →
+  pub registration_frame : (κs : Lfts 2) (x : ArgsD registration_signature κs) →
       WritesFrame (registration.Post κs x) (Asks (registers x.0 x.1.0 x.1.1.0 x.1.1.1.0 x.1.1.1.1.0 x.1.1.1.1.1.0.now))
       x.1.1.1.1.1.1.0.now (λ y. y.1.1.1.1.1.1.0.now)
   registration_frame κs x = s.frames.by_arguments.registration_written κs x
 
   -- the same with the agent behind the kind (document 02, 10)
-  pub registration_for_frame : (κs : Lfts 2) (x : ArgsD registration-for-signature κs) →
-      WritesFrame (registration-for.Post κs x)
+  pub registration_for_frame : (κs : Lfts 2) (x : ArgsD registration_for_signature κs) →
+      WritesFrame (registration_for_lem.Post κs x)
       (Asks (registers_for x.0 x.1.0 x.1.1.0 x.1.1.1.0 x.1.1.1.1.0 x.1.1.1.1.1.0 x.1.1.1.1.1.1.0.now))
       x.1.1.1.1.1.1.1.0.now (λ y. y.1.1.1.1.1.1.1.0.now)
   registration_for_frame κs x = s.frames.by_arguments.registration_for_written κs x
 
   -- C
-  pub opening_frame : (κs : Lfts 1) (x : ArgsD opening-signature κs) →
+  pub opening_frame : (κs : Lfts 1) (x : ArgsD opening_signature κs) →
       WritesFrame (opening.Post κs x) (Asks (Open x.0)) x.1.0.now (λ y. y.1.0.now)
   opening_frame κs x = s.frames.by_arguments.opening_written κs x
 
   -- developer, prices, levels
-  pub offer_frame : (κs : Lfts 3) (x : ArgsD offer-signature κs) →
+  pub offer_frame : (κs : Lfts 3) (x : ArgsD offer_signature κs) →
       WritesFrame (offer.Post κs x) (Asks (By x.0 (Offer x.1.0.now x.1.1.0.now))) x.1.1.1.0.now (λ y. y.1.1.1.0.now)
   offer_frame κs x = s.frames.by_arguments.offer_written κs x
 
   -- the same, lodged (document 02, 5)
-  pub lodging_frame : (κs : Lfts 3) (x : ArgsD lodging-signature κs) →
+  pub lodging_frame : (κs : Lfts 3) (x : ArgsD lodging_signature κs) →
       WritesFrame (lodging.Post κs x) (Asks (By x.0 (Lodge x.1.0.now x.1.1.0.now))) x.1.1.1.0.now (λ y. y.1.1.1.0.now)
   lodging_frame κs x = s.frames.by_arguments.lodging_written κs x
 
   -- developer (document 02, 7)
-  pub cancellation_frame : (κs : Lfts 1) (x : ArgsD cancellation-signature κs) →
+  pub cancellation_frame : (κs : Lfts 1) (x : ArgsD cancellation_signature κs) →
       WritesFrame (cancellation.Post κs x) (Asks (By x.0 Cancel)) x.1.0.now (λ y. y.1.0.now)
   cancellation_frame κs x = s.frames.by_arguments.cancellation_written κs x
 
   -- the buffer alone
-  pub closing_frame : (κs : Lfts 1) (x : ArgsD closing-signature κs) → WritesFrame (closing.Post κs x) (Asks Close) x.0.now (λ y. y.0.now)
+  pub closing_frame : (κs : Lfts 1) (x : ArgsD closing_signature κs) → WritesFrame (closing.Post κs x) (Asks Close) x.0.now (λ y. y.0.now)
   closing_frame κs x = s.frames.by_arguments.closing_written κs x
 
   -- limit
-  pub settling_frame : (κs : Lfts 1) (x : ArgsD settling-signature κs) → WritesFrame (settling.Post κs x) (Settle x.0) x.1.0.now (λ y. y.1.0.now)
+  pub settling_frame : (κs : Lfts 1) (x : ArgsD settling_signature κs) → WritesFrame (settling.Post κs x) (Settle x.0) x.1.0.now (λ y. y.1.0.now)
   settling_frame κs x = s.frames.by_arguments.settling_written κs x
 
   -- whatever writes an order as all nine contracts say writes its frame

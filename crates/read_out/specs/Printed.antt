@@ -17,26 +17,26 @@ use Rattle.trace_text.specs.declared.PreviewShown.{PreviewShown}
 use Rattle.record_replay.specs.Replayed.{printed}
 use Rattle.frame_reading.specs.frames.Decoded.{call_in, Zero}
 use Rattle.frame_reading.specs.declared.frames.Frame.{Frame}
-use Rattle.record_replay.specs.contracts.print.{signature as print-signature}
-use Rattle.record_replay.proofs.print.Kinds as print-kinds
+use Rattle.record_replay.specs.contracts.print.{signature as print_signature}
+use Rattle.record_replay.proofs.print.Kinds as print_kinds
 use Rattle.record_replay.proofs.print.Reads as printing
-use Rattle.record_replay.proofs.print.Statement as print-states
-use Rattle.trace_text.specs.contracts.put_before.{signature as before-signature}
-use Rattle.trace_text.proofs.put_before.Kinds as before-kinds
-use Rattle.trace_text.proofs.put_before.Reads as before-reads
-use Rattle.trace_text.proofs.put_before.Statement as before-states
-use Rattle.trace_text.specs.contracts.put_below.{signature as below-signature}
-use Rattle.trace_text.proofs.put_below.Kinds as below-kinds
-use Rattle.trace_text.proofs.put_below.Reads as below-reads
-use Rattle.trace_text.proofs.put_below.Statement as below-states
-use Rattle.trace_text.specs.contracts.put_point.{signature as point-signature}
-use Rattle.trace_text.proofs.put_point.Kinds as point-kinds
-use Rattle.trace_text.proofs.put_point.Reads as point-reads
-use Rattle.trace_text.proofs.put_point.Statement as point-states
-use Rattle.frame_reading.specs.contracts.frames.decode.{signature as decode-signature}
-use Rattle.frame_reading.proofs.frames.decode.Kinds as decode-kinds
+use Rattle.record_replay.proofs.print.Statement as print_states
+use Rattle.trace_text.specs.contracts.put_before.{signature as before_signature}
+use Rattle.trace_text.proofs.put_before.Kinds as before_kinds
+use Rattle.trace_text.proofs.put_before.Reads as before_reads
+use Rattle.trace_text.proofs.put_before.Statement as before_states
+use Rattle.trace_text.specs.contracts.put_below.{signature as below_signature}
+use Rattle.trace_text.proofs.put_below.Kinds as below_kinds
+use Rattle.trace_text.proofs.put_below.Reads as below_reads
+use Rattle.trace_text.proofs.put_below.Statement as below_states
+use Rattle.trace_text.specs.contracts.put_point.{signature as point_signature}
+use Rattle.trace_text.proofs.put_point.Kinds as point_kinds
+use Rattle.trace_text.proofs.put_point.Reads as point_reads
+use Rattle.trace_text.proofs.put_point.Statement as point_states
+use Rattle.frame_reading.specs.contracts.frames.decode.{signature as decode_signature}
+use Rattle.frame_reading.proofs.frames.decode.Kinds as decode_kinds
 use Rattle.frame_reading.proofs.frames.decode.Reads as decoding
-use Rattle.frame_reading.proofs.frames.decode.Statement as decode-states
+use Rattle.frame_reading.proofs.frames.decode.Statement as decode_states
 use Rattle.statement.specs.calls_of_c.Programs.{too_long, Printed, PrintStated, TraceStated, Decoded, DecodeStated, ProgramsStated}
 use Rattle.statement.specs.EngineCorrect.{EngineCorrect}
 
@@ -45,31 +45,31 @@ use Rattle.statement.specs.EngineCorrect.{EngineCorrect}
 -- for this record, in a buffer of the bytes `old`, r bytes are printed of what is then `new`
 pub data Prints : (bytes old new : List ℕ) → ℕ → Type 0 where
   prints :
-      (κs : Lfts 2) (x : ArgsD print-signature κs) (r : ℕ) (y : AtExit (ended_of 2 print-kinds.ps print-kinds.r) κs) → printing.Post κs x r y →
+      (κs : Lfts 2) (x : ArgsD print_signature κs) (r : ℕ) (y : AtExit (ended_of 2 print_kinds.ps print_kinds.r) κs) → printing.Post κs x r y →
       Prints x.0.now x.1.0.now y.1.0.now r
 
 -- at the place a of the buffer `old`, before a reply of this kind; b is the place behind
 pub data PutsBefore : (kind : ℕ) (p : PreviewShown) (old new : List ℕ) (a b : ℕ) → Type 0 where
   puts_before :
-      (κs : Lfts 1) (x : ArgsD before-signature κs) (r : ℕ) (y : AtExit (ended_of 1 before-kinds.ps before-kinds.r) κs) →
-      before-reads.Post κs x r y → PutsBefore x.1.1.0 x.1.1.1.0 x.0.now y.0.now x.1.0 r
+      (κs : Lfts 1) (x : ArgsD before_signature κs) (r : ℕ) (y : AtExit (ended_of 1 before_kinds.ps before_kinds.r) κs) →
+      before_reads.Post κs x r y → PutsBefore x.1.1.0 x.1.1.1.0 x.0.now y.0.now x.1.0 r
 
 -- below it
 pub data PutsBelow : (kind : ℕ) (accepted : Bool) (p : PreviewShown) (s : Settled) (awards old new : List ℕ) (a b : ℕ) → Type 0 where
   puts_below :
-      (κs : Lfts 1) (x : ArgsD below-signature κs) (r : ℕ) (y : AtExit (ended_of 1 below-kinds.ps below-kinds.r) κs) → below-reads.Post κs x r y →
+      (κs : Lfts 1) (x : ArgsD below_signature κs) (r : ℕ) (y : AtExit (ended_of 1 below_kinds.ps below_kinds.r) κs) → below_reads.Post κs x r y →
       PutsBelow x.1.1.0 x.1.1.1.0 x.1.1.1.1.0 x.1.1.1.1.1.0 x.1.1.1.1.1.1.0 x.0.now y.0.now x.1.0 r
 
 -- a point of the supply curve
 pub data PutsPoint : (price before after : ℕ) (old new : List ℕ) (a b : ℕ) → Type 0 where
   puts_point :
-      (κs : Lfts 1) (x : ArgsD point-signature κs) (r : ℕ) (y : AtExit (ended_of 1 point-kinds.ps point-kinds.r) κs) → point-reads.Post κs x r y →
+      (κs : Lfts 1) (x : ArgsD point_signature κs) (r : ℕ) (y : AtExit (ended_of 1 point_kinds.ps point_kinds.r) κs) → point_reads.Post κs x r y →
       PutsPoint x.1.1.0 x.1.1.1.0 x.1.1.1.1.0 x.0.now y.0.now x.1.0 r
 
 -- a line reads as this frame
 pub data Decodes : (line : List ℕ) → Frame → Type 0 where
   decodes :
-      (κs : Lfts 1) (x : ArgsD decode-signature κs) (f : Frame) (y : AtExit (ended_of 1 decode-kinds.ps decode-kinds.r) κs) → decoding.Post κs x f y →
+      (κs : Lfts 1) (x : ArgsD decode_signature κs) (f : Frame) (y : AtExit (ended_of 1 decode_kinds.ps decode_kinds.r) κs) → decoding.Post κs x f y →
       Decodes x.0.now f
 
 -- ---- the parts of the statement
@@ -90,11 +90,11 @@ module _ {M : Type 1} (e : ProgramsStated M) where
 -- ---- `replay`
 
 module _ {M : Type 1} (e : PrintStated M) where
-  pub print_meets : print-states.statement M
+  pub print_meets : print_states.statement M
   print_meets = e.meets
 
   -- it asks for 65,536 bytes and nothing else
-  pub print_asks_room : (κs : Lfts 2) (x : ArgsD print-signature κs) → 65536 ≤ length x.1.0.now → printing.Pre κs x × printing.Asked κs x
+  pub print_asks_room : (κs : Lfts 2) (x : ArgsD print_signature κs) → 65536 ≤ length x.1.0.now → printing.Pre κs x × printing.Asked κs x
   print_asks_room κs x h = e.asks κs x h
 
   pub print_returned : {bytes old new : List ℕ} {r : ℕ} → Prints bytes old new r → Printed bytes old new r
@@ -126,26 +126,26 @@ same_print s w v = let e = of_print (of_programs s) in print_decided e _ _ _ _ _
 -- ---- `trace`
 
 module _ {M : Type 1} (e : TraceStated M) where
-  pub before_meets : before-states.statement M
+  pub before_meets : before_states.statement M
   before_meets = e.before_meets
 
-  pub below_meets : below-states.statement M
+  pub below_meets : below_states.statement M
   below_meets = e.below_meets
 
-  pub point_meets : point-states.statement M
+  pub point_meets : point_states.statement M
   point_meets = e.point_meets
 
   -- each asks for room behind its place and nothing else
   pub before_asks_room :
-      (κs : Lfts 1) (x : ArgsD before-signature κs) → x.1.0 + 100 ≤ length x.0.now → before-reads.Pre κs x × before-reads.Asked κs x
+      (κs : Lfts 1) (x : ArgsD before_signature κs) → x.1.0 + 100 ≤ length x.0.now → before_reads.Pre κs x × before_reads.Asked κs x
   before_asks_room κs x h = e.before_asks κs x h
 
   pub below_asks_room :
-      (κs : Lfts 1) (x : ArgsD below-signature κs) → x.1.0 + 3000 ≤ length x.0.now → below-reads.Pre κs x × below-reads.Asked κs x
+      (κs : Lfts 1) (x : ArgsD below_signature κs) → x.1.0 + 3000 ≤ length x.0.now → below_reads.Pre κs x × below_reads.Asked κs x
   below_asks_room κs x h = e.below_asks κs x h
 
   pub point_asks_room :
-      (κs : Lfts 1) (x : ArgsD point-signature κs) → x.1.0 + 100 ≤ length x.0.now → point-reads.Pre κs x × point-reads.Asked κs x
+      (κs : Lfts 1) (x : ArgsD point_signature κs) → x.1.0 + 100 ≤ length x.0.now → point_reads.Pre κs x × point_reads.Asked κs x
   point_asks_room κs x h = e.point_asks κs x h
 
   pub before_returned :
@@ -198,10 +198,10 @@ module _ {M : Type 1} (s : EngineCorrect M) {old new new' : List ℕ} {a b b' : 
 -- ---- a line read
 
 module _ {M : Type 1} (e : DecodeStated M) where
-  pub decode_meets : decode-states.statement M
+  pub decode_meets : decode_states.statement M
   decode_meets = e.meets
 
-  pub decode_asks_nothing : (κs : Lfts 1) (x : ArgsD decode-signature κs) → decoding.Pre κs x × decoding.Asked κs x
+  pub decode_asks_nothing : (κs : Lfts 1) (x : ArgsD decode_signature κs) → decoding.Pre κs x × decoding.Asked κs x
   decode_asks_nothing κs x = e.asks κs x
 
   pub decode_returned : {line : List ℕ} {f : Frame} → Decodes line f → Decoded line f

@@ -13,7 +13,7 @@ use Rattle.rules_sealed.specs.Sealed.{book_ok}
 use Rattle.rules_sealed.specs.InWords.{SameAwards}
 use Rattle.rules_sealed.specs.ListOrderSample.{in_front, behind_them, SameOffers}
 use Rattle.rules_seats.specs.Views.{view, own_answers}
-use Rattle.rules_seats.specs.SeatSample.{one as run, other as otherRun}
+use Rattle.rules_seats.specs.SeatSample.{one as run, other as other_run}
 use Rattle.engine_auction.specs.Holds.{held_auction}
 use Rattle.seats.specs.declared.Seat.TheVariants.{Developer}
 use Rattle.hall.specs.declared.seat_readings.Reading.{Reading}
@@ -92,10 +92,10 @@ module _ {M : Type 1} (s : EngineCorrect M) where
 
   -- ---- seats (document 02, 14): another developer keeps its level in the one run and comes down in the other
 
-  pub views_equal : view 2 run ≡ view 2 otherRun
+  pub views_equal : view 2 run ≡ view 2 other_run
   views_equal = s.premises.equal_views
 
   pub views_said :
-      {rs rs' : List Answered} {h h' : Hall} (r r' : Reading) → HallRun run rs h → HallRun otherRun rs' h' →
-      ReadsAt h (Developer 2) r → ReadsAt h' (Developer 2) r' → (r ≡ r') × (own_answers 2 run rs ≡ own_answers 2 otherRun rs')
+      {rs rs' : List Answered} {h h' : Hall} (r r' : Reading) → HallRun run rs h → HallRun other_run rs' h' →
+      ReadsAt h (Developer 2) r → ReadsAt h' (Developer 2) r' → (r ≡ r') × (own_answers 2 run rs ≡ own_answers 2 other_run rs')
   views_said r r' w v q q' = s.premises.learned r r' w v q q'

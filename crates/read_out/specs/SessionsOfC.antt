@@ -22,38 +22,38 @@ use Rattle.rules_seats.specs.sessions.SeatedLines.{order_kind}
 use Rattle.rules_seats.specs.sessions.SessionFigures.{seat_may, session_reading}
 use Rattle.rules_seats.specs.sessions.SessionReplyLaws.{reply_lines}
 use Rattle.rules_seats.specs.sessions.SessionViews.{SessionEvent, seen_of, session_view, own_replies, sent_as, sent_to}
-use Rattle.host.specs.contracts.session_replay.{signature as replay-signature}
-use Rattle.host.specs.contracts.session_reading.{signature as reading-signature}
-use Rattle.host.specs.contracts.session_preview.{signature as preview-signature}
-use Rattle.host.specs.contracts.session_curve.{signature as curve-signature}
-use Rattle.host.specs.contracts.session_settlement.{signature as settlement-signature}
-use Rattle.host.specs.contracts.session_forcing.{signature as forcing-signature}
-use Rattle.host.specs.contracts.session_record.{signature as record-signature}
-use Rattle.host.specs.contracts.write_seat.{signature as seat-signature}
-use Rattle.host.proofs.session_replay.Kinds as replay-kinds
-use Rattle.host.proofs.session_reading.Kinds as reading-kinds
-use Rattle.host.proofs.session_preview.Kinds as preview-kinds
-use Rattle.host.proofs.session_curve.Kinds as curve-kinds
-use Rattle.host.proofs.session_settlement.Kinds as settlement-kinds
-use Rattle.host.proofs.session_forcing.Kinds as forcing-kinds
-use Rattle.host.proofs.session_record.Kinds as record-kinds
-use Rattle.host.proofs.write_seat.Kinds as seat-kinds
-use Rattle.host.proofs.session_replay.Reads as replay-reads
-use Rattle.host.proofs.session_reading.Reads as reading-reads
-use Rattle.host.proofs.session_preview.Reads as preview-reads
-use Rattle.host.proofs.session_curve.Reads as curve-reads
-use Rattle.host.proofs.session_settlement.Reads as settlement-reads
-use Rattle.host.proofs.session_forcing.Reads as forcing-reads
+use Rattle.host.specs.contracts.session_replay.{signature as replay_signature}
+use Rattle.host.specs.contracts.session_reading.{signature as reading_signature}
+use Rattle.host.specs.contracts.session_preview.{signature as preview_signature}
+use Rattle.host.specs.contracts.session_curve.{signature as curve_signature}
+use Rattle.host.specs.contracts.session_settlement.{signature as settlement_signature}
+use Rattle.host.specs.contracts.session_forcing.{signature as forcing_signature}
+use Rattle.host.specs.contracts.session_record.{signature as record_signature}
+use Rattle.host.specs.contracts.write_seat.{signature as seat_signature}
+use Rattle.host.proofs.session_replay.Kinds as replay_kinds
+use Rattle.host.proofs.session_reading.Kinds as reading_kinds
+use Rattle.host.proofs.session_preview.Kinds as preview_kinds
+use Rattle.host.proofs.session_curve.Kinds as curve_kinds
+use Rattle.host.proofs.session_settlement.Kinds as settlement_kinds
+use Rattle.host.proofs.session_forcing.Kinds as forcing_kinds
+use Rattle.host.proofs.session_record.Kinds as record_kinds
+use Rattle.host.proofs.write_seat.Kinds as seat_kinds
+use Rattle.host.proofs.session_replay.Reads as replay_reads
+use Rattle.host.proofs.session_reading.Reads as reading_reads
+use Rattle.host.proofs.session_preview.Reads as preview_reads
+use Rattle.host.proofs.session_curve.Reads as curve_reads
+use Rattle.host.proofs.session_settlement.Reads as settlement_reads
+use Rattle.host.proofs.session_forcing.Reads as forcing_reads
 use Rattle.host.proofs.session_record.Reads as record_reads
-use Rattle.host.proofs.write_seat.Reads as seat-reads
-use Rattle.host.proofs.session_replay.Statement as replay-states
-use Rattle.host.proofs.session_reading.Statement as reading-states
-use Rattle.host.proofs.session_preview.Statement as preview-states
-use Rattle.host.proofs.session_curve.Statement as curve-states
-use Rattle.host.proofs.session_settlement.Statement as settlement-states
-use Rattle.host.proofs.session_forcing.Statement as forcing-states
-use Rattle.host.proofs.session_record.Statement as record-states
-use Rattle.host.proofs.write_seat.Statement as seat-states
+use Rattle.host.proofs.write_seat.Reads as seat_reads
+use Rattle.host.proofs.session_replay.Statement as replay_states
+use Rattle.host.proofs.session_reading.Statement as reading_states
+use Rattle.host.proofs.session_preview.Statement as preview_states
+use Rattle.host.proofs.session_curve.Statement as curve_states
+use Rattle.host.proofs.session_settlement.Statement as settlement_states
+use Rattle.host.proofs.session_forcing.Statement as forcing_states
+use Rattle.host.proofs.session_record.Statement as record_states
+use Rattle.host.proofs.write_seat.Statement as seat_states
 use Rattle.statement.specs.calls_of_c.HostValues.{Lent}
 use Rattle.statement.specs.calls_of_c.LatestExcess.{LatestExcess}
 use Rattle.statement.specs.calls_of_c.Replay.{LineReplied}
@@ -71,45 +71,45 @@ use Rattle.statement.specs.EngineCorrect.{EngineCorrect}
 
 pub data Replays : (session old new : List ℕ) → ℕ → Type 0 where
   replays :
-      (κs : Lfts 2) (x : ArgsD replay-signature κs) (r : ℕ) (y : AtExit (ended_of 2 replay-kinds.ps replay-kinds.r) κs) → replay-reads.Post κs x r y →
+      (κs : Lfts 2) (x : ArgsD replay_signature κs) (r : ℕ) (y : AtExit (ended_of 2 replay_kinds.ps replay_kinds.r) κs) → replay_reads.Post κs x r y →
       Replays x.0.now x.1.0.now y.1.0.now r
 
 pub data Readings : (session : List ℕ) (kind number : ℕ) (old new : List ℕ) → ℕ → Type 0 where
   readings :
-      (κs : Lfts 2) (x : ArgsD reading-signature κs) (r : ℕ) (y : AtExit (ended_of 2 reading-kinds.ps reading-kinds.r) κs) → reading-reads.Post κs x r y →
+      (κs : Lfts 2) (x : ArgsD reading_signature κs) (r : ℕ) (y : AtExit (ended_of 2 reading_kinds.ps reading_kinds.r) κs) → reading_reads.Post κs x r y →
       Readings x.0.now x.1.0 x.1.1.0 x.1.1.1.0.now y.1.1.1.0.now r
 
 pub data Previews : (session : List ℕ) (kind number : ℕ) (old new : List ℕ) → ℕ → Type 0 where
   previews :
-      (κs : Lfts 2) (x : ArgsD preview-signature κs) (r : ℕ) (y : AtExit (ended_of 2 preview-kinds.ps preview-kinds.r) κs) → preview-reads.Post κs x r y →
+      (κs : Lfts 2) (x : ArgsD preview_signature κs) (r : ℕ) (y : AtExit (ended_of 2 preview_kinds.ps preview_kinds.r) κs) → preview_reads.Post κs x r y →
       Previews x.0.now x.1.0 x.1.1.0 x.1.1.1.0.now y.1.1.1.0.now r
 
 pub data Curves : (session : List ℕ) (kind number : ℕ) (old new : List ℕ) → ℕ → Type 0 where
   curves :
-      (κs : Lfts 2) (x : ArgsD curve-signature κs) (r : ℕ) (y : AtExit (ended_of 2 curve-kinds.ps curve-kinds.r) κs) → curve-reads.Post κs x r y →
+      (κs : Lfts 2) (x : ArgsD curve_signature κs) (r : ℕ) (y : AtExit (ended_of 2 curve_kinds.ps curve_kinds.r) κs) → curve_reads.Post κs x r y →
       Curves x.0.now x.1.0 x.1.1.0 x.1.1.1.0.now y.1.1.1.0.now r
 
-pub data Settlements : (session : List ℕ) (kind number limit : ℕ) (oldF newF oldA newA : List ℕ) → ℕ → Type 0 where
+pub data Settlements : (session : List ℕ) (kind number limit : ℕ) (old_f new_f old_a new_a : List ℕ) → ℕ → Type 0 where
   settlements :
-      (κs : Lfts 3) (x : ArgsD settlement-signature κs) (r : ℕ) (y : AtExit (ended_of 3 settlement-kinds.ps settlement-kinds.r) κs) →
-      settlement-reads.Post κs x r y →
+      (κs : Lfts 3) (x : ArgsD settlement_signature κs) (r : ℕ) (y : AtExit (ended_of 3 settlement_kinds.ps settlement_kinds.r) κs) →
+      settlement_reads.Post κs x r y →
       Settlements x.0.now x.1.0 x.1.1.0 x.1.1.1.0 x.1.1.1.1.0.now y.1.1.1.1.0.now
       x.1.1.1.1.1.0.now y.1.1.1.1.1.0.now r
 
 pub data Forces : (session : List ℕ) (kind number m n : ℕ) (ps old new : List ℕ) → ℕ → Type 0 where
   forces :
-      (κs : Lfts 3) (x : ArgsD forcing-signature κs) (r : ℕ) (y : AtExit (ended_of 3 forcing-kinds.ps forcing-kinds.r) κs) → forcing-reads.Post κs x r y →
+      (κs : Lfts 3) (x : ArgsD forcing_signature κs) (r : ℕ) (y : AtExit (ended_of 3 forcing_kinds.ps forcing_kinds.r) κs) → forcing_reads.Post κs x r y →
       Forces x.0.now x.1.0 x.1.1.0 x.1.1.1.0 x.1.1.1.1.0 x.1.1.1.1.1.0.now
       x.1.1.1.1.1.1.0.now y.1.1.1.1.1.1.0.now r
 
 pub data Records : (session old new : List ℕ) → ℕ → Type 0 where
   records :
-      (κs : Lfts 2) (x : ArgsD record-signature κs) (r : ℕ) (y : AtExit (ended_of 2 record-kinds.ps record-kinds.r) κs) → record_reads.Post κs x r y →
+      (κs : Lfts 2) (x : ArgsD record_signature κs) (r : ℕ) (y : AtExit (ended_of 2 record_kinds.ps record_kinds.r) κs) → record_reads.Post κs x r y →
       Records x.0.now x.1.0.now y.1.0.now r
 
 pub data WritesSeat : (kind number : ℕ) (old new : List ℕ) → ℕ → Type 0 where
   writes_seat :
-      (κs : Lfts 1) (x : ArgsD seat-signature κs) (r : ℕ) (y : AtExit (ended_of 1 seat-kinds.ps seat-kinds.r) κs) → seat-reads.Post κs x r y →
+      (κs : Lfts 1) (x : ArgsD seat_signature κs) (r : ℕ) (y : AtExit (ended_of 1 seat_kinds.ps seat_kinds.r) κs) → seat_reads.Post κs x r y →
       WritesSeat x.0 x.1.0 x.1.1.0.now y.1.1.0.now r
 
 -- ---- the parts of the statement
@@ -142,53 +142,53 @@ module _ {M : Type 1} (e : SessionsExported M) where
 -- ---- each meets its contract, and asks nothing
 
 module _ {M : Type 1} (e : SessionsMeet M) where
-  pub replay_meets : replay-states.statement M
+  pub replay_meets : replay_states.statement M
   replay_meets = e.session_replay
 
-  pub reading_meets : reading-states.statement M
+  pub reading_meets : reading_states.statement M
   reading_meets = e.session_reading_lem
 
-  pub preview_meets : preview-states.statement M
+  pub preview_meets : preview_states.statement M
   preview_meets = e.session_preview_lem
 
-  pub curve_meets : curve-states.statement M
+  pub curve_meets : curve_states.statement M
   curve_meets = e.session_curve_lem
 
-  pub settlement_meets : settlement-states.statement M
+  pub settlement_meets : settlement_states.statement M
   settlement_meets = e.session_settlement_lem
 
-  pub forcing_meets : forcing-states.statement M
+  pub forcing_meets : forcing_states.statement M
   forcing_meets = e.session_forcing
 
-  pub record_meets : record-states.statement M
+  pub record_meets : record_states.statement M
   record_meets = e.session_record_lem
 
-  pub seat_meets : seat-states.statement M
+  pub seat_meets : seat_states.statement M
   seat_meets = e.write_seat
 
 module _ (e : SessionsAsk) where
-  pub replay_asks_nothing : (κs : Lfts 2) (x : ArgsD replay-signature κs) → replay-reads.Pre κs x × replay-reads.Asked κs x
+  pub replay_asks_nothing : (κs : Lfts 2) (x : ArgsD replay_signature κs) → replay_reads.Pre κs x × replay_reads.Asked κs x
   replay_asks_nothing κs x = e.session_replay κs x
 
-  pub reading_asks_nothing : (κs : Lfts 2) (x : ArgsD reading-signature κs) → reading-reads.Pre κs x × reading-reads.Asked κs x
+  pub reading_asks_nothing : (κs : Lfts 2) (x : ArgsD reading_signature κs) → reading_reads.Pre κs x × reading_reads.Asked κs x
   reading_asks_nothing κs x = e.session_reading_lem κs x
 
-  pub preview_asks_nothing : (κs : Lfts 2) (x : ArgsD preview-signature κs) → preview-reads.Pre κs x × preview-reads.Asked κs x
+  pub preview_asks_nothing : (κs : Lfts 2) (x : ArgsD preview_signature κs) → preview_reads.Pre κs x × preview_reads.Asked κs x
   preview_asks_nothing κs x = e.session_preview_lem κs x
 
-  pub curve_asks_nothing : (κs : Lfts 2) (x : ArgsD curve-signature κs) → curve-reads.Pre κs x × curve-reads.Asked κs x
+  pub curve_asks_nothing : (κs : Lfts 2) (x : ArgsD curve_signature κs) → curve_reads.Pre κs x × curve_reads.Asked κs x
   curve_asks_nothing κs x = e.session_curve_lem κs x
 
-  pub settlement_asks_nothing : (κs : Lfts 3) (x : ArgsD settlement-signature κs) → settlement-reads.Pre κs x × settlement-reads.Asked κs x
+  pub settlement_asks_nothing : (κs : Lfts 3) (x : ArgsD settlement_signature κs) → settlement_reads.Pre κs x × settlement_reads.Asked κs x
   settlement_asks_nothing κs x = e.session_settlement_lem κs x
 
-  pub forcing_asks_nothing : (κs : Lfts 3) (x : ArgsD forcing-signature κs) → forcing-reads.Pre κs x × forcing-reads.Asked κs x
+  pub forcing_asks_nothing : (κs : Lfts 3) (x : ArgsD forcing_signature κs) → forcing_reads.Pre κs x × forcing_reads.Asked κs x
   forcing_asks_nothing κs x = e.session_forcing κs x
 
-  pub record_asks_nothing : (κs : Lfts 2) (x : ArgsD record-signature κs) → record_reads.Pre κs x × record_reads.Asked κs x
+  pub record_asks_nothing : (κs : Lfts 2) (x : ArgsD record_signature κs) → record_reads.Pre κs x × record_reads.Asked κs x
   record_asks_nothing κs x = e.session_record_lem κs x
 
-  pub seat_asks_nothing : (κs : Lfts 1) (x : ArgsD seat-signature κs) → seat-reads.Pre κs x × seat-reads.Asked κs x
+  pub seat_asks_nothing : (κs : Lfts 1) (x : ArgsD seat_signature κs) → seat_reads.Pre κs x × seat_reads.Asked κs x
   seat_asks_nothing κs x = e.write_seat κs x
 
 -- ---- what it returns, and that this leaves nothing free
@@ -210,8 +210,8 @@ module _ (e : SessionsReturn) where
   curve_returned (curves κs x r y q) = e.session_curve_lem κs x r y q
 
   pub settlement_returned :
-      {session : List ℕ} {kind number limit : ℕ} {oldF newF oldA newA : List ℕ} {r : ℕ} → Settlements session kind number limit oldF newF oldA newA r →
-      SettlementThrough session kind number limit oldF newF oldA newA r
+      {session : List ℕ} {kind number limit : ℕ} {old_f new_f old_a new_a : List ℕ} {r : ℕ} → Settlements session kind number limit old_f new_f old_a new_a r →
+      SettlementThrough session kind number limit old_f new_f old_a new_a r
   settlement_returned (settlements κs x r y q) = e.session_settlement_lem κs x r y q
 
   pub forcing_returned :
@@ -239,11 +239,11 @@ module _ (d : SessionsDetermined) where
   record_decided session old new new' r r' w v = d.session_record_lem session old new new' r r' w v
 
   pub settlement_decided :
-      (session : List ℕ) (kind number limit : ℕ) (oldF newF newF' oldA newA newA' : List ℕ) (r r' : ℕ) →
-      SettlementThrough session kind number limit oldF newF oldA newA r → SettlementThrough session kind number limit oldF newF' oldA newA' r' →
-      (r ≡ r') × (newF ≡ newF') × (newA ≡ newA')
-  settlement_decided session kind number limit oldF newF newF' oldA newA newA' r r' w v =
-      d.session_settlement_lem session kind number limit oldF newF newF' oldA newA newA' r r' w v
+      (session : List ℕ) (kind number limit : ℕ) (old_f new_f new_f' old_a new_a new_a' : List ℕ) (r r' : ℕ) →
+      SettlementThrough session kind number limit old_f new_f old_a new_a r → SettlementThrough session kind number limit old_f new_f' old_a new_a' r' →
+      (r ≡ r') × (new_f ≡ new_f') × (new_a ≡ new_a')
+  settlement_decided session kind number limit old_f new_f new_f' old_a new_a new_a' r r' w v =
+      d.session_settlement_lem session kind number limit old_f new_f new_f' old_a new_a new_a' r r' w v
 
   module _ (kind number : ℕ) (old new new' : List ℕ) (r r' : ℕ) where
     pub seat_decided : SeatReturned kind number old new r → SeatReturned kind number old new' r' → (r ≡ r') × (new ≡ new')
@@ -302,9 +302,9 @@ module _ {M : Type 1} (s : EngineCorrect M) where
       same_forcing w v = forcing_decided d _ _ _ _ _ _ _ _ _ _ _ (forcing_returned f w) (forcing_returned f v)
 
   pub same_settlement :
-      {session : List ℕ} {kind number limit : ℕ} {oldF newF newF' oldA newA newA' : List ℕ} {r r' : ℕ} →
-      Settlements session kind number limit oldF newF oldA newA r → Settlements session kind number limit oldF newF' oldA newA' r' →
-      (r ≡ r') × (newF ≡ newF') × (newA ≡ newA')
+      {session : List ℕ} {kind number limit : ℕ} {old_f new_f new_f' old_a new_a new_a' : List ℕ} {r r' : ℕ} →
+      Settlements session kind number limit old_f new_f old_a new_a r → Settlements session kind number limit old_f new_f' old_a new_a' r' →
+      (r ≡ r') × (new_f ≡ new_f') × (new_a ≡ new_a')
   same_settlement w v = settlement_decided d _ _ _ _ _ _ _ _ _ _ _ _ (settlement_returned f w) (settlement_returned f v)
 
 -- ---- a session replayed

@@ -18,8 +18,8 @@ use Rattle.engine_demand.specs.Answers.{demanded_in}
 use Rattle.engine_demand.specs.declared.Demanded.{Demanded}
 use Rattle.engine_demand.specs.declared.Demanded.TheVariants.{Quantity, OutOfBounds}
 use Rattle.engine_demand.proofs.demand.Reads as demanding
-use Rattle.engine_demand.proofs.demand.Statement as demand-states
-use Rattle.engine_demand.proofs.demand.Met as demand-met
+use Rattle.engine_demand.proofs.demand.Statement as demand_states
+use Rattle.engine_demand.proofs.demand.Met as demand_met
 
 -- r is what the demand call answers to these numbers, as its own contract has it
 abbrev pub Asked : ℕ → ℕ → ℕ → ℕ → ℕ → Demanded → Type 0
@@ -45,7 +45,7 @@ pub record DemandAnswered (ce d m1 m2 p : ℕ) (r : Demanded) : Type 0 where
   pub accepted : within ce d m1 m2 p ≡ true → (q : ℕ) × (e : ℕ) × (r ≡ Quantity q e) × DemandIs ce d m1 m2 p q e
 
 pub record DemandStated (M : Type 1) : Type 2 where
-  pub meets : demand-states.statement M
+  pub meets : demand_states.statement M
   pub answered : (ce d m1 m2 p : ℕ) (r : Demanded) → Asked ce d m1 m2 p r → DemandAnswered ce d m1 m2 p r
   -- as numbers: refused, 1 with 0 in every other place
   pub numbers :
@@ -184,7 +184,7 @@ determined ce d m1 m2 p r r' w v = go (within ce d m1 m2 p) refl
 
 pub demand_stated : {M : Type 1} → DemandStated M
 demand_stated = record {
-  meets = demand-met.met;
+  meets = demand_met.met;
   answered = as_stated;
   numbers = (refl, (λ q e. refl));
   asks_nothing = λ ce d m1 m2 p. tt;

@@ -18,8 +18,8 @@ use Rattle.engine_settling.specs.declared.Settled.{Settled}
 use Rattle.engine_settling.specs.contracts.settle.{signature}
 use Rattle.engine_settling.proofs.settle.Kinds as kinds
 use Rattle.engine_settling.proofs.settle.Reads as settle
-use Rattle.engine_settling.proofs.settle.Statement as settle-states
-use Rattle.engine_settling.proofs.settle.Met as settle-met
+use Rattle.engine_settling.proofs.settle.Statement as settle_states
+use Rattle.engine_settling.proofs.settle.Met as settle_met
 use Rattle.statement.specs.EveryList.{Run, run_reached, EveryList, every_list}
 use Rattle.statement.specs.Untouched.{Untouched, untouched}
 use Rattle.statement.specs.Runs.{runs}
@@ -49,7 +49,7 @@ use Rattle.statement.specs.settling.WordsDecide.{InWordsAlone, stated_words, wor
 -- the arguments x: the auction, the limit, the buffer; y: the same at the call's end
 pub record EngineCorrect (M : Type 1) : Type 2 where
   pub calls : EveryList M
-  pub settle_meets : settle-states.statement M
+  pub settle_meets : settle_states.statement M
   pub statement :
       {cs : List Call} {rs : List Answered} (κs : Lfts 1) (x : ArgsD signature κs) (r : Settled) (y : AtExit (ended_of 1 kinds.ps kinds.r) κs) →
       Run cs rs x.0 → settle.Post κs x r y →
@@ -116,7 +116,7 @@ module _ {cs : List Call} {rs : List Answered} (κs : Lfts 1) (x : ArgsD signatu
 pub engine_correct : {M : Type 1} → EngineCorrect M
 engine_correct = record {
   calls = every_list;
-  settle_meets = settle-met.met;
+  settle_meets = settle_met.met;
   statement = as_stated;
   determines = determined;
   in_words = stated_words;

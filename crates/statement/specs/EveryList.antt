@@ -16,40 +16,40 @@ use Rattle.engine_auction.specs.declared.Closing.{Closing}
 use Rattle.engine_auction.proofs.Auction.new.Reads as new
 use Rattle.engine_auction.proofs.Auction.set_up.Reads as set_up_lem
 use Rattle.engine_auction.proofs.Auction.register.Reads as registration
-use Rattle.engine_auction.proofs.Auction.register_for.Reads as registration-for
+use Rattle.engine_auction.proofs.Auction.register_for.Reads as registration_for_lem
 use Rattle.engine_auction.proofs.Auction.open.Reads as opening
 use Rattle.engine_auction.proofs.Auction.offer.Reads as offering
 use Rattle.engine_auction.proofs.Auction.lodge.Reads as lodging
 use Rattle.engine_auction.proofs.Auction.cancel.Reads as cancelling
 use Rattle.engine_auction.proofs.Auction.close.Reads as closing
-use Rattle.engine_auction.specs.contracts.Auction.register.{signature as register-signature}
-use Rattle.engine_auction.specs.contracts.Auction.register_for.{signature as register-for-signature}
-use Rattle.engine_auction.specs.contracts.Auction.offer.{signature as offer-signature}
-use Rattle.engine_auction.specs.contracts.Auction.lodge.{signature as lodge-signature}
-use Rattle.engine_auction.proofs.Auction.new.Statement as new-states
-use Rattle.engine_auction.proofs.Auction.set_up.Statement as set-up-states
-use Rattle.engine_auction.proofs.Auction.register.Statement as register-states
-use Rattle.engine_auction.proofs.Auction.register_for.Statement as register-for-states
-use Rattle.engine_auction.proofs.Auction.open.Statement as open-states
-use Rattle.engine_auction.proofs.Auction.offer.Statement as offer-states
-use Rattle.engine_auction.proofs.Auction.lodge.Statement as lodge-states
-use Rattle.engine_auction.proofs.Auction.cancel.Statement as cancel-states
-use Rattle.engine_auction.proofs.Auction.close.Statement as close-states
-use Rattle.engine_looks.proofs.readings.preview_closing.Statement as preview-states
-use Rattle.engine_looks.proofs.readings.supply_point.Statement as supply-point-states
-use Rattle.engine_looks.proofs.forcing.who_can_force.Statement as who-can-force-states
-use Rattle.engine_auction.proofs.Auction.new.Met as new-met
-use Rattle.engine_auction.proofs.Auction.set_up.Met as set-up-met
-use Rattle.engine_auction.proofs.Auction.register.Met as register-met
-use Rattle.engine_auction.proofs.Auction.register_for.Met as register-for-met
-use Rattle.engine_auction.proofs.Auction.open.Met as open-met
-use Rattle.engine_auction.proofs.Auction.offer.Met as offer-met
+use Rattle.engine_auction.specs.contracts.Auction.register.{signature as register_signature}
+use Rattle.engine_auction.specs.contracts.Auction.register_for.{signature as register_for_signature}
+use Rattle.engine_auction.specs.contracts.Auction.offer.{signature as offer_signature}
+use Rattle.engine_auction.specs.contracts.Auction.lodge.{signature as lodge_signature}
+use Rattle.engine_auction.proofs.Auction.new.Statement as new_states
+use Rattle.engine_auction.proofs.Auction.set_up.Statement as set_up_states
+use Rattle.engine_auction.proofs.Auction.register.Statement as register_states
+use Rattle.engine_auction.proofs.Auction.register_for.Statement as register_for_states
+use Rattle.engine_auction.proofs.Auction.open.Statement as open_states
+use Rattle.engine_auction.proofs.Auction.offer.Statement as offer_states
+use Rattle.engine_auction.proofs.Auction.lodge.Statement as lodge_states
+use Rattle.engine_auction.proofs.Auction.cancel.Statement as cancel_states
+use Rattle.engine_auction.proofs.Auction.close.Statement as close_states
+use Rattle.engine_looks.proofs.readings.preview_closing.Statement as preview_states
+use Rattle.engine_looks.proofs.readings.supply_point.Statement as supply_point_states
+use Rattle.engine_looks.proofs.forcing.who_can_force.Statement as who_can_force_states
+use Rattle.engine_auction.proofs.Auction.new.Met as new_met
+use Rattle.engine_auction.proofs.Auction.set_up.Met as set_up_met
+use Rattle.engine_auction.proofs.Auction.register.Met as register_met
+use Rattle.engine_auction.proofs.Auction.register_for.Met as register_for_met
+use Rattle.engine_auction.proofs.Auction.open.Met as open_met
+use Rattle.engine_auction.proofs.Auction.offer.Met as offer_met
 use Rattle.engine_auction.proofs.Auction.lodge.Met as lodge_met
-use Rattle.engine_auction.proofs.Auction.cancel.Met as cancel-met
-use Rattle.engine_auction.proofs.Auction.close.Met as close-met
-use Rattle.engine_looks.proofs.readings.preview_closing.Met as preview-met
-use Rattle.engine_looks.proofs.readings.supply_point.Met as supply-point-met
-use Rattle.engine_looks.proofs.forcing.who_can_force.Met as who-can-force-met
+use Rattle.engine_auction.proofs.Auction.cancel.Met as cancel_met
+use Rattle.engine_auction.proofs.Auction.close.Met as close_met
+use Rattle.engine_looks.proofs.readings.preview_closing.Met as preview_met
+use Rattle.engine_looks.proofs.readings.supply_point.Met as supply_point_met
+use Rattle.engine_looks.proofs.forcing.who_can_force.Met as who_can_force_met
 
 -- `Made c a r b`: the call c, made on the auction a, is answered r and returns b, as the method's own contract says
 pub data Made : Call → Auction → Answered → Auction → Type 0 where
@@ -59,23 +59,23 @@ pub data Made : Call → Auction → Answered → Auction → Type 0 where
       Made (sets_up ce d m1 m2 a₀) a (answer_in r) r.auction
   -- the arguments x: the auction, project, developer, kind, study value, start day, levels
   registers_one :
-      (κs : Lfts 1) (x : ArgsD register-signature κs) (r : Answer) → registration.Post κs x r x →
+      (κs : Lfts 1) (x : ArgsD register_signature κs) (r : Answer) → registration.Post κs x r x →
       Made (registers x.1.0 x.1.1.0 x.1.1.1.0 x.1.1.1.1.0 x.1.1.1.1.1.0 x.1.1.1.1.1.1.0.now) x.0 (answer_in r)
       r.auction
   -- the same with the agent behind the kind (document 02, 10)
   registers_for_lem :
-      (κs : Lfts 1) (x : ArgsD register-for-signature κs) (r : Answer) → registration-for.Post κs x r x →
+      (κs : Lfts 1) (x : ArgsD register_for_signature κs) (r : Answer) → registration_for_lem.Post κs x r x →
       Made (registers_for x.1.0 x.1.1.0 x.1.1.1.0 x.1.1.1.1.0 x.1.1.1.1.1.0 x.1.1.1.1.1.1.0
       x.1.1.1.1.1.1.1.0.now)
       x.0 (answer_in r) r.auction
   opens : {a : Auction} (c : ℕ) (r : Answer) → opening.Post tt (a, (c, tt)) r (a, (c, tt)) → Made (Open c) a (answer_in r) r.auction
   -- the arguments x: the auction, developer, prices, levels
   offers :
-      (κs : Lfts 2) (x : ArgsD offer-signature κs) (r : Answer) → offering.Post κs x r x →
+      (κs : Lfts 2) (x : ArgsD offer_signature κs) (r : Answer) → offering.Post κs x r x →
       Made (By x.1.0 (Offer x.1.1.0.now x.1.1.1.0.now)) x.0 (answer_in r) r.auction
   -- the same arguments
   lodges :
-      (κs : Lfts 2) (x : ArgsD lodge-signature κs) (r : Answer) → lodging.Post κs x r x →
+      (κs : Lfts 2) (x : ArgsD lodge_signature κs) (r : Answer) → lodging.Post κs x r x →
       Made (By x.1.0 (Lodge x.1.1.0.now x.1.1.1.0.now)) x.0 (answer_in r) r.auction
   cancels : {a : Auction} (n : ℕ) (r : Answer) → cancelling.Post tt (a, (n, tt)) r (a, (n, tt)) → Made (By n Cancel) a (answer_in r) r.auction
   closes : {a : Auction} (r : Closing) → closing.Post tt (a, tt) r (a, tt) → Made Close a (closing_in r) r.auction
@@ -107,35 +107,35 @@ run_reached (followed {cs = cs} {c = c} {r = r} w m) =
 -- THE THEOREM: each method meets its contract, in every model, and by the contracts alone the auction that a list of calls reaches holds
 -- the ledger of the list, and the answers along the way are the ledger's
 pub record EveryList (M : Type 1) : Type 2 where
-  pub new_meets : new-states.statement M
-  pub set_up_meets : set-up-states.statement M
-  pub register_meets : register-states.statement M
-  pub register_for_meets : register-for-states.statement M
-  pub open_meets : open-states.statement M
-  pub offer_meets : offer-states.statement M
-  pub lodge_meets : lodge-states.statement M
-  pub cancel_meets : cancel-states.statement M
-  pub close_meets : close-states.statement M
-  pub preview_meets : preview-states.statement M
-  pub supply_point_meets : supply-point-states.statement M
-  pub who_can_force_meets : who-can-force-states.statement M
+  pub new_meets : new_states.statement M
+  pub set_up_meets : set_up_states.statement M
+  pub register_meets : register_states.statement M
+  pub register_for_meets : register_for_states.statement M
+  pub open_meets : open_states.statement M
+  pub offer_meets : offer_states.statement M
+  pub lodge_meets : lodge_states.statement M
+  pub cancel_meets : cancel_states.statement M
+  pub close_meets : close_states.statement M
+  pub preview_meets : preview_states.statement M
+  pub supply_point_meets : supply_point_states.statement M
+  pub who_can_force_meets : who_can_force_states.statement M
   pub held : {cs : List Call} {rs : List Answered} {a : Auction} → Run cs rs a → a ≡ held_auction (ledger cs)
   pub answered : {cs : List Call} {rs : List Answered} {a : Auction} → Run cs rs a → rs ≡ answers cs
 
 pub every_list : {M : Type 1} → EveryList M
 every_list = record {
-  new_meets = new-met.met;
-  set_up_meets = set-up-met.met;
-  register_meets = register-met.met;
-  register_for_meets = register-for-met.met;
-  open_meets = open-met.met;
-  offer_meets = offer-met.met;
+  new_meets = new_met.met;
+  set_up_meets = set_up_met.met;
+  register_meets = register_met.met;
+  register_for_meets = register_for_met.met;
+  open_meets = open_met.met;
+  offer_meets = offer_met.met;
   lodge_meets = lodge_met.met;
-  cancel_meets = cancel-met.met;
-  close_meets = close-met.met;
-  preview_meets = preview-met.met;
-  supply_point_meets = supply-point-met.met;
-  who_can_force_meets = who-can-force-met.met;
+  cancel_meets = cancel_met.met;
+  close_meets = close_met.met;
+  preview_meets = preview_met.met;
+  supply_point_meets = supply_point_met.met;
+  who_can_force_meets = who_can_force_met.met;
   held = λ w. (run_reached w).0;
   answered = λ w. (run_reached w).1;
 }

@@ -25,63 +25,63 @@ use Rattle.rules_replies.specs.Replies.{replies}
 use Rattle.engine_auction.specs.Called.{sets_up, registers, registers_for}
 use Rattle.frame_writing.specs.declared.Written.{Written}
 use Rattle.frame_writing.specs.each_call.Writes.{Writes}
-use Rattle.frame_writing.specs.contracts.each_call.write_set_up.{signature as set-up-signature}
-use Rattle.frame_writing.specs.contracts.each_call.write_registration.{signature as registration-signature}
-use Rattle.frame_writing.specs.contracts.each_call.write_registration_for.{signature as registration-for-signature}
-use Rattle.frame_writing.specs.contracts.each_call.write_opening.{signature as opening-signature}
-use Rattle.frame_writing.specs.contracts.each_call.write_offer.{signature as offer-signature}
-use Rattle.frame_writing.specs.contracts.each_call.write_lodging.{signature as lodging-signature}
-use Rattle.frame_writing.specs.contracts.each_call.write_cancellation.{signature as cancellation-signature}
-use Rattle.frame_writing.specs.contracts.each_call.write_closing.{signature as closing-signature}
-use Rattle.frame_writing.specs.contracts.each_call.write_settling.{signature as settling-signature}
-use Rattle.frame_writing.proofs.each_call.write_set_up.Kinds as set-up-kinds
-use Rattle.frame_writing.proofs.each_call.write_registration.Kinds as registration-kinds
-use Rattle.frame_writing.proofs.each_call.write_registration_for.Kinds as registration-for-kinds
-use Rattle.frame_writing.proofs.each_call.write_opening.Kinds as opening-kinds
-use Rattle.frame_writing.proofs.each_call.write_offer.Kinds as offer-kinds
-use Rattle.frame_writing.proofs.each_call.write_lodging.Kinds as lodging-kinds
-use Rattle.frame_writing.proofs.each_call.write_cancellation.Kinds as cancellation-kinds
-use Rattle.frame_writing.proofs.each_call.write_closing.Kinds as closing-kinds
-use Rattle.frame_writing.proofs.each_call.write_settling.Kinds as settling-kinds
-use Rattle.frame_writing.proofs.each_call.write_set_up.Reads as set-up-reads
-use Rattle.frame_writing.proofs.each_call.write_registration.Reads as registration-reads
-use Rattle.frame_writing.proofs.each_call.write_registration_for.Reads as registration-for-reads
-use Rattle.frame_writing.proofs.each_call.write_opening.Reads as opening-reads
-use Rattle.frame_writing.proofs.each_call.write_offer.Reads as offer-reads
-use Rattle.frame_writing.proofs.each_call.write_lodging.Reads as lodging-reads
-use Rattle.frame_writing.proofs.each_call.write_cancellation.Reads as cancellation-reads
+use Rattle.frame_writing.specs.contracts.each_call.write_set_up.{signature as set_up_signature}
+use Rattle.frame_writing.specs.contracts.each_call.write_registration.{signature as registration_signature}
+use Rattle.frame_writing.specs.contracts.each_call.write_registration_for.{signature as registration_for_signature}
+use Rattle.frame_writing.specs.contracts.each_call.write_opening.{signature as opening_signature}
+use Rattle.frame_writing.specs.contracts.each_call.write_offer.{signature as offer_signature}
+use Rattle.frame_writing.specs.contracts.each_call.write_lodging.{signature as lodging_signature}
+use Rattle.frame_writing.specs.contracts.each_call.write_cancellation.{signature as cancellation_signature}
+use Rattle.frame_writing.specs.contracts.each_call.write_closing.{signature as closing_signature}
+use Rattle.frame_writing.specs.contracts.each_call.write_settling.{signature as settling_signature}
+use Rattle.frame_writing.proofs.each_call.write_set_up.Kinds as set_up_kinds
+use Rattle.frame_writing.proofs.each_call.write_registration.Kinds as registration_kinds
+use Rattle.frame_writing.proofs.each_call.write_registration_for.Kinds as registration_for_kinds
+use Rattle.frame_writing.proofs.each_call.write_opening.Kinds as opening_kinds
+use Rattle.frame_writing.proofs.each_call.write_offer.Kinds as offer_kinds
+use Rattle.frame_writing.proofs.each_call.write_lodging.Kinds as lodging_kinds
+use Rattle.frame_writing.proofs.each_call.write_cancellation.Kinds as cancellation_kinds
+use Rattle.frame_writing.proofs.each_call.write_closing.Kinds as closing_kinds
+use Rattle.frame_writing.proofs.each_call.write_settling.Kinds as settling_kinds
+use Rattle.frame_writing.proofs.each_call.write_set_up.Reads as set_up_reads
+use Rattle.frame_writing.proofs.each_call.write_registration.Reads as registration_reads
+use Rattle.frame_writing.proofs.each_call.write_registration_for.Reads as registration_for_reads
+use Rattle.frame_writing.proofs.each_call.write_opening.Reads as opening_reads
+use Rattle.frame_writing.proofs.each_call.write_offer.Reads as offer_reads
+use Rattle.frame_writing.proofs.each_call.write_lodging.Reads as lodging_reads
+use Rattle.frame_writing.proofs.each_call.write_cancellation.Reads as cancellation_reads
 use Rattle.frame_writing.proofs.each_call.write_closing.Reads as closing_reads
 use Rattle.frame_writing.proofs.each_call.write_settling.Reads as settling_reads
-use Rattle.frame_writing.proofs.each_call.write_set_up.Statement as set-up-states
-use Rattle.frame_writing.proofs.each_call.write_registration.Statement as registration-states
-use Rattle.frame_writing.proofs.each_call.write_registration_for.Statement as registration-for-states
-use Rattle.frame_writing.proofs.each_call.write_opening.Statement as opening-states
-use Rattle.frame_writing.proofs.each_call.write_offer.Statement as offer-states
-use Rattle.frame_writing.proofs.each_call.write_lodging.Statement as lodging-states
-use Rattle.frame_writing.proofs.each_call.write_cancellation.Statement as cancellation-states
-use Rattle.frame_writing.proofs.each_call.write_closing.Statement as closing-states
-use Rattle.frame_writing.proofs.each_call.write_settling.Statement as settling-states
-use Rattle.frame_writing.proofs.each_call.write_set_up.Met as set-up-met
-use Rattle.frame_writing.proofs.each_call.write_registration.Met as registration-met
-use Rattle.frame_writing.proofs.each_call.write_registration_for.Met as registration-for-met
-use Rattle.frame_writing.proofs.each_call.write_opening.Met as opening-met
-use Rattle.frame_writing.proofs.each_call.write_offer.Met as offer-met
-use Rattle.frame_writing.proofs.each_call.write_lodging.Met as lodging-met
-use Rattle.frame_writing.proofs.each_call.write_cancellation.Met as cancellation-met
-use Rattle.frame_writing.proofs.each_call.write_closing.Met as closing-met
-use Rattle.frame_writing.proofs.each_call.write_settling.Met as settling-met
+use Rattle.frame_writing.proofs.each_call.write_set_up.Statement as set_up_states
+use Rattle.frame_writing.proofs.each_call.write_registration.Statement as registration_states
+use Rattle.frame_writing.proofs.each_call.write_registration_for.Statement as registration_for_states
+use Rattle.frame_writing.proofs.each_call.write_opening.Statement as opening_states
+use Rattle.frame_writing.proofs.each_call.write_offer.Statement as offer_states
+use Rattle.frame_writing.proofs.each_call.write_lodging.Statement as lodging_states
+use Rattle.frame_writing.proofs.each_call.write_cancellation.Statement as cancellation_states
+use Rattle.frame_writing.proofs.each_call.write_closing.Statement as closing_states
+use Rattle.frame_writing.proofs.each_call.write_settling.Statement as settling_states
+use Rattle.frame_writing.proofs.each_call.write_set_up.Met as set_up_met
+use Rattle.frame_writing.proofs.each_call.write_registration.Met as registration_met
+use Rattle.frame_writing.proofs.each_call.write_registration_for.Met as registration_for_met
+use Rattle.frame_writing.proofs.each_call.write_opening.Met as opening_met
+use Rattle.frame_writing.proofs.each_call.write_offer.Met as offer_met
+use Rattle.frame_writing.proofs.each_call.write_lodging.Met as lodging_met
+use Rattle.frame_writing.proofs.each_call.write_cancellation.Met as cancellation_met
+use Rattle.frame_writing.proofs.each_call.write_closing.Met as closing_met
+use Rattle.frame_writing.proofs.each_call.write_settling.Met as settling_met
 
 -- each writing call, in every model
 pub record WritersMeet (M : Type 1) : Type 2 where
-  pub set_up_meets : set-up-states.statement M
-  pub registration_meets : registration-states.statement M
-  pub registration_for_meets : registration-for-states.statement M
-  pub opening_meets : opening-states.statement M
-  pub offer_meets : offer-states.statement M
-  pub lodging_meets : lodging-states.statement M
-  pub cancellation_meets : cancellation-states.statement M
-  pub closing_meets : closing-states.statement M
-  pub settling_meets : settling-states.statement M
+  pub set_up_meets : set_up_states.statement M
+  pub registration_meets : registration_states.statement M
+  pub registration_for_meets : registration_for_states.statement M
+  pub opening_meets : opening_states.statement M
+  pub offer_meets : offer_states.statement M
+  pub lodging_meets : lodging_states.statement M
+  pub cancellation_meets : cancellation_states.statement M
+  pub closing_meets : closing_states.statement M
+  pub settling_meets : settling_states.statement M
 
 -- `old` and `new` are the lent buffer before and after: 14 where the order is not writable, then 13 where the buffer is too short
 pub record FrameWritten (o : Order) (old new : List ℕ) (r : Written) : Type 0 where
@@ -94,50 +94,50 @@ pub record FrameWritten (o : Order) (old new : List ℕ) (r : Written) : Type 0 
 pub record WritersStated : Type 1 where
   -- CE, D, M1, M2, A
   pub set_up_written :
-      (κs : Lfts 1) (x : ArgsD set-up-signature κs) (r : Written) (y : AtExit (ended_of 1 set-up-kinds.ps set-up-kinds.r) κs) →
-      set-up-reads.Post κs x r y →
+      (κs : Lfts 1) (x : ArgsD set_up_signature κs) (r : Written) (y : AtExit (ended_of 1 set_up_kinds.ps set_up_kinds.r) κs) →
+      set_up_reads.Post κs x r y →
       FrameWritten (Asks (sets_up x.0 x.1.0 x.1.1.0 x.1.1.1.0 x.1.1.1.1.0))
       x.1.1.1.1.1.0.now y.1.1.1.1.1.0.now r
   -- project, developer, kind, study value, start day, levels
   pub registration_written :
-      (κs : Lfts 2) (x : ArgsD registration-signature κs) (r : Written) (y : AtExit (ended_of 2 registration-kinds.ps registration-kinds.r) κs) →
-      registration-reads.Post κs x r y →
+      (κs : Lfts 2) (x : ArgsD registration_signature κs) (r : Written) (y : AtExit (ended_of 2 registration_kinds.ps registration_kinds.r) κs) →
+      registration_reads.Post κs x r y →
       FrameWritten (Asks (registers x.0 x.1.0 x.1.1.0 x.1.1.1.0 x.1.1.1.1.0 x.1.1.1.1.1.0.now))
       x.1.1.1.1.1.1.0.now y.1.1.1.1.1.1.0.now r
   -- the same with the agent behind the kind (document 02, 10)
   pub registration_for_written :
-      (κs : Lfts 2) (x : ArgsD registration-for-signature κs) (r : Written) (y : AtExit (ended_of 2 registration-for-kinds.ps registration-for-kinds.r) κs) →
-      registration-for-reads.Post κs x r y →
+      (κs : Lfts 2) (x : ArgsD registration_for_signature κs) (r : Written) (y : AtExit (ended_of 2 registration_for_kinds.ps registration_for_kinds.r) κs) →
+      registration_for_reads.Post κs x r y →
       FrameWritten (Asks (registers_for x.0 x.1.0 x.1.1.0 x.1.1.1.0 x.1.1.1.1.0 x.1.1.1.1.1.0 x.1.1.1.1.1.1.0.now))
       x.1.1.1.1.1.1.1.0.now y.1.1.1.1.1.1.1.0.now r
   -- C
   pub opening_written :
-      (κs : Lfts 1) (x : ArgsD opening-signature κs) (r : Written) (y : AtExit (ended_of 1 opening-kinds.ps opening-kinds.r) κs) →
-      opening-reads.Post κs x r y →
+      (κs : Lfts 1) (x : ArgsD opening_signature κs) (r : Written) (y : AtExit (ended_of 1 opening_kinds.ps opening_kinds.r) κs) →
+      opening_reads.Post κs x r y →
       FrameWritten (Asks (Open x.0)) x.1.0.now y.1.0.now r
   -- developer, prices, levels
   pub offer_written :
-      (κs : Lfts 3) (x : ArgsD offer-signature κs) (r : Written) (y : AtExit (ended_of 3 offer-kinds.ps offer-kinds.r) κs) →
-      offer-reads.Post κs x r y →
+      (κs : Lfts 3) (x : ArgsD offer_signature κs) (r : Written) (y : AtExit (ended_of 3 offer_kinds.ps offer_kinds.r) κs) →
+      offer_reads.Post κs x r y →
       FrameWritten (Asks (By x.0 (Offer x.1.0.now x.1.1.0.now))) x.1.1.1.0.now y.1.1.1.0.now r
   -- the same, lodged (document 02, 5)
   pub lodging_written :
-      (κs : Lfts 3) (x : ArgsD lodging-signature κs) (r : Written) (y : AtExit (ended_of 3 lodging-kinds.ps lodging-kinds.r) κs) →
-      lodging-reads.Post κs x r y →
+      (κs : Lfts 3) (x : ArgsD lodging_signature κs) (r : Written) (y : AtExit (ended_of 3 lodging_kinds.ps lodging_kinds.r) κs) →
+      lodging_reads.Post κs x r y →
       FrameWritten (Asks (By x.0 (Lodge x.1.0.now x.1.1.0.now))) x.1.1.1.0.now y.1.1.1.0.now r
   -- developer (document 02, 7)
   pub cancellation_written :
-      (κs : Lfts 1) (x : ArgsD cancellation-signature κs) (r : Written) (y : AtExit (ended_of 1 cancellation-kinds.ps cancellation-kinds.r) κs) →
-      cancellation-reads.Post κs x r y →
+      (κs : Lfts 1) (x : ArgsD cancellation_signature κs) (r : Written) (y : AtExit (ended_of 1 cancellation_kinds.ps cancellation_kinds.r) κs) →
+      cancellation_reads.Post κs x r y →
       FrameWritten (Asks (By x.0 Cancel)) x.1.0.now y.1.0.now r
   -- the buffer alone
   pub closing_written :
-      (κs : Lfts 1) (x : ArgsD closing-signature κs) (r : Written) (y : AtExit (ended_of 1 closing-kinds.ps closing-kinds.r) κs) →
+      (κs : Lfts 1) (x : ArgsD closing_signature κs) (r : Written) (y : AtExit (ended_of 1 closing_kinds.ps closing_kinds.r) κs) →
       closing_reads.Post κs x r y →
       FrameWritten (Asks Close) x.0.now y.0.now r
   -- limit
   pub settling_written :
-      (κs : Lfts 1) (x : ArgsD settling-signature κs) (r : Written) (y : AtExit (ended_of 1 settling-kinds.ps settling-kinds.r) κs) →
+      (κs : Lfts 1) (x : ArgsD settling_signature κs) (r : Written) (y : AtExit (ended_of 1 settling_kinds.ps settling_kinds.r) κs) →
       settling_reads.Post κs x r y →
       FrameWritten (Settle x.0) x.1.0.now y.1.0.now r
 
@@ -153,15 +153,15 @@ pub record FramesStated (M : Type 1) : Type 2 where
 
 writers_meet : {M : Type 1} → WritersMeet M
 writers_meet = record {
-  set_up_meets = set-up-met.met;
-  registration_meets = registration-met.met;
-  registration_for_meets = registration-for-met.met;
-  opening_meets = opening-met.met;
-  offer_meets = offer-met.met;
-  lodging_meets = lodging-met.met;
-  cancellation_meets = cancellation-met.met;
-  closing_meets = closing-met.met;
-  settling_meets = settling-met.met;
+  set_up_meets = set_up_met.met;
+  registration_meets = registration_met.met;
+  registration_for_meets = registration_for_met.met;
+  opening_meets = opening_met.met;
+  offer_meets = offer_met.met;
+  lodging_meets = lodging_met.met;
+  cancellation_meets = cancellation_met.met;
+  closing_meets = closing_met.met;
+  settling_meets = settling_met.met;
 }
 
 not_unwritable : (ok : Bool) (frame : List ℕ) (room : ℕ) → writing_refusal ok frame room ≡ 0 → ok ≡ true

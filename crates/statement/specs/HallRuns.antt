@@ -23,19 +23,19 @@ use Rattle.hall.specs.ThroughLaws.{held_through}
 use Rattle.hall.specs.declared.Hall.{Hall}
 use Rattle.hall.specs.declared.HallAnswer.{HallAnswer}
 use Rattle.hall.specs.declared.HallClosing.{HallClosing}
-use Rattle.hall.proofs.Hall.new.Reads as hall-new
+use Rattle.hall.proofs.Hall.new.Reads as hall_new
 use Rattle.hall.proofs.Hall.set_up.Reads as set_up_lem
 use Rattle.hall.proofs.Hall.register.Reads as registration
-use Rattle.hall.proofs.Hall.register_for.Reads as registration-for
+use Rattle.hall.proofs.Hall.register_for.Reads as registration_for_lem
 use Rattle.hall.proofs.Hall.open.Reads as opening
 use Rattle.hall.proofs.Hall.offer.Reads as offering
 use Rattle.hall.proofs.Hall.lodge.Reads as lodging
 use Rattle.hall.proofs.Hall.cancel.Reads as cancelling
 use Rattle.hall.proofs.Hall.close.Reads as closing
-use Rattle.hall.specs.contracts.Hall.register.{signature as register-signature}
-use Rattle.hall.specs.contracts.Hall.register_for.{signature as register-for-signature}
-use Rattle.hall.specs.contracts.Hall.offer.{signature as offer-signature}
-use Rattle.hall.specs.contracts.Hall.lodge.{signature as lodge-signature}
+use Rattle.hall.specs.contracts.Hall.register.{signature as register_signature}
+use Rattle.hall.specs.contracts.Hall.register_for.{signature as register_for_signature}
+use Rattle.hall.specs.contracts.Hall.offer.{signature as offer_signature}
+use Rattle.hall.specs.contracts.Hall.lodge.{signature as lodge_signature}
 use Rattle.statement.specs.EveryList as plain
 use Rattle.statement.specs.EveryList.{Made, by_contract, Run, run_reached}
 
@@ -47,21 +47,21 @@ pub data MadeThrough : Seat → Call → Hall → Answered → Hall → Type 0 w
       MadeThrough s (sets_up ce d m1 m2 a) h (hall_answer_in r) r.hall
   -- the arguments x: the hall, the seat, then those of the auction's call
   registers_one :
-      (κs : Lfts 1) (x : ArgsD register-signature κs) (r : HallAnswer) → registration.Post κs x r x →
+      (κs : Lfts 1) (x : ArgsD register_signature κs) (r : HallAnswer) → registration.Post κs x r x →
       MadeThrough x.1.0 (registers x.1.1.0 x.1.1.1.0 x.1.1.1.1.0 x.1.1.1.1.1.0 x.1.1.1.1.1.1.0
       x.1.1.1.1.1.1.1.0.now) x.0 (hall_answer_in r) r.hall
   registers_for_lem :
-      (κs : Lfts 1) (x : ArgsD register-for-signature κs) (r : HallAnswer) → registration-for.Post κs x r x →
+      (κs : Lfts 1) (x : ArgsD register_for_signature κs) (r : HallAnswer) → registration_for_lem.Post κs x r x →
       MadeThrough x.1.0 (registers_for x.1.1.0 x.1.1.1.0 x.1.1.1.1.0 x.1.1.1.1.1.0 x.1.1.1.1.1.1.0
       x.1.1.1.1.1.1.1.0 x.1.1.1.1.1.1.1.1.0.now)
       x.0 (hall_answer_in r) r.hall
   opens : {h : Hall} (s : Seat) (c : ℕ) (r : HallAnswer) → opening.Post tt (h, (s, (c, tt))) r (h, (s, (c, tt))) →
       MadeThrough s (Open c) h (hall_answer_in r) r.hall
   offers :
-      (κs : Lfts 2) (x : ArgsD offer-signature κs) (r : HallAnswer) → offering.Post κs x r x →
+      (κs : Lfts 2) (x : ArgsD offer_signature κs) (r : HallAnswer) → offering.Post κs x r x →
       MadeThrough x.1.0 (By x.1.1.0 (Offer x.1.1.1.0.now x.1.1.1.1.0.now)) x.0 (hall_answer_in r) r.hall
   lodges :
-      (κs : Lfts 2) (x : ArgsD lodge-signature κs) (r : HallAnswer) → lodging.Post κs x r x →
+      (κs : Lfts 2) (x : ArgsD lodge_signature κs) (r : HallAnswer) → lodging.Post κs x r x →
       MadeThrough x.1.0 (By x.1.1.0 (Lodge x.1.1.1.0.now x.1.1.1.1.0.now)) x.0 (hall_answer_in r) r.hall
   cancels :
       {h : Hall} (s : Seat) (n : ℕ) (r : HallAnswer) → cancelling.Post tt (h, (s, (n, tt))) r (h, (s, (n, tt))) →
@@ -96,7 +96,7 @@ made_in (closes s r w) e = plain.closes (record { number = r.number; excess = r.
 
 -- `HallRun ms rs h`: the calls ms, each through its seat, one after the other from a fresh hall, are answered rs and lead to h
 pub data HallRun : List Seated → List Answered → Hall → Type 0 where
-  fresh : {h : Hall} → hall-new.Post tt tt h tt → HallRun [] [] h
+  fresh : {h : Hall} → hall_new.Post tt tt h tt → HallRun [] [] h
   followed :
       {ms : List Seated} {rs : List Answered} {s : Seat} {c : Call} {r : Answered} {h k : Hall} → HallRun ms rs h → MadeThrough s c h r k →
       HallRun (ms ++ (record { seat = seat_in s; call = c } ∷ [])) (rs ++ (r ∷ [])) k

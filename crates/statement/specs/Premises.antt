@@ -14,7 +14,7 @@ use Rattle.rules_sealed.specs.Sealed.{book_ok}
 use Rattle.rules_sealed.specs.InWords.{SameAwards}
 use Rattle.rules_sealed.specs.ListOrderSample.{in_front, behind_them, both_accepted, SameOffers, same_offers, same_awards}
 use Rattle.rules_seats.specs.Views.{view, own_answers}
-use Rattle.rules_seats.specs.SeatSample.{one as run, other as otherRun}
+use Rattle.rules_seats.specs.SeatSample.{one as run, other as other_run}
 use Rattle.rules_seats.specs.ViewSample.{equal_views}
 use Rattle.seats.specs.declared.Seat.TheVariants.{Developer}
 use Rattle.hall.specs.declared.seat_readings.Reading.{Reading}
@@ -42,10 +42,10 @@ pub record Premises : Type 1 where
   pub same_offers : SameOffers
   pub same_awards : (demand : ℕ) → SameAwards demand in_front behind_them
   -- SEATS (document 02, 14): another developer keeps its level in the one run and comes down in the other
-  pub equal_views : view 2 run ≡ view 2 otherRun
+  pub equal_views : view 2 run ≡ view 2 other_run
   pub learned :
-      {rs rs' : List Answered} {h h' : Hall} (r r' : Reading) → HallRun run rs h → HallRun otherRun rs' h' →
-      ReadsAt h (Developer 2) r → ReadsAt h' (Developer 2) r' → (r ≡ r') × (own_answers 2 run rs ≡ own_answers 2 otherRun rs')
+      {rs rs' : List Answered} {h h' : Hall} (r r' : Reading) → HallRun run rs h → HallRun other_run rs' h' →
+      ReadsAt h (Developer 2) r → ReadsAt h' (Developer 2) r' → (r ≡ r') × (own_answers 2 run rs ≡ own_answers 2 other_run rs')
 
 pub premises : Premises
 premises = record {

@@ -115,11 +115,11 @@ module _ (l : Ledger) (s : Sound l) where
     text_is =
         let head : List ℕ = text_at (widths_of settling_head) (values_of settling_head (settlement l)) in
         let tail : List ℕ = text_at (widths_of settling_tail) (values_of settling_tail (settlement l)) in
-        let front-text : head ++ record_digits bytes ≡ text_at front_widths front =
+        let front_text : head ++ record_digits bytes ≡ text_at front_widths front =
         ap (λ (t : List ℕ). head ++ t) (sym (text_bytes bytes))
         ∙ sym (text_append (widths_of settling_head) (values_of settling_head (settlement l)) (twos (length bytes)) bytes head_fit) in
         ap (λ (t : List ℕ). head ++ t ++ tail) (sym (flat_digits (settlement l).records))
-        ∙ ap (λ (t : List ℕ). t ++ tail) front-text
+        ∙ ap (λ (t : List ℕ). t ++ tail) front_text
         ∙ sym (text_append front_widths front (widths_of settling_tail) (values_of settling_tail (settlement l)) front_fit)
 
     settling_reads :

@@ -21,8 +21,8 @@ use Rattle.engine_sealed.specs.declared.sealed_auction.Lent.{Lent}
 use Rattle.engine_sealed.specs.contracts.sealed_auction.sealed_auction.{signature}
 use Rattle.engine_sealed.proofs.sealed_auction.sealed_auction.Kinds as kinds
 use Rattle.engine_sealed.proofs.sealed_auction.sealed_auction.Reads as sealing
-use Rattle.engine_sealed.proofs.sealed_auction.sealed_auction.Statement as sealing-states
-use Rattle.engine_sealed.proofs.sealed_auction.sealed_auction.Met as sealing-met
+use Rattle.engine_sealed.proofs.sealed_auction.sealed_auction.Statement as sealing_states
+use Rattle.engine_sealed.proofs.sealed_auction.sealed_auction.Met as sealing_met
 
 -- `old` and `new` are the lent buffer before and after
 pub record SealedAnswered (ceiling demand : ℕ) (b : Book) (old new : List ℕ) (r : Lent) : Type 0 where
@@ -32,7 +32,7 @@ pub record SealedAnswered (ceiling demand : ℕ) (b : Book) (old new : List ℕ)
 
 -- the arguments x: ceiling, demand, prices, quantities, minimums, ages, the buffer; y: the same at the call's end
 pub record SealedStated (M : Type 1) : Type 2 where
-  pub meets : sealing-states.statement M
+  pub meets : sealing_states.statement M
   pub answered :
       (κs : Lfts 5) (x : ArgsD signature κs) (r : Lent) (y : AtExit (ended_of 5 kinds.ps kinds.r) κs) → sealing.Post κs x r y →
       SealedAnswered x.0 x.1.0 (book_of x.1.1.0.now x.1.1.1.0.now x.1.1.1.1.0.now x.1.1.1.1.1.0.now)
@@ -61,7 +61,7 @@ module _ (ceiling demand : ℕ) (b : Book) (old new : List ℕ) (r : Lent) (w : 
 
 pub sealed_stated : {M : Type 1} → SealedStated M
 sealed_stated = record {
-  meets = sealing-met.met;
+  meets = sealing_met.met;
   answered = λ κs x r y w. as_stated _ _ _ _ _ r w;
   any_order = any_list_order;
 }

@@ -27,34 +27,34 @@ use Rattle.hall.specs.declared.Hall.{Hall}
 use Rattle.hall.specs.contracts.hall_readings.settle.{signature}
 use Rattle.hall.proofs.hall_readings.settle.Kinds as kinds
 use Rattle.hall.proofs.hall_readings.settle.Reads as settle
-use Rattle.hall.proofs.Hall.new.Statement as new-states
-use Rattle.hall.proofs.Hall.set_up.Statement as set-up-states
-use Rattle.hall.proofs.Hall.register.Statement as register-states
-use Rattle.hall.proofs.Hall.register_for.Statement as register-for-states
-use Rattle.hall.proofs.Hall.open.Statement as open-states
-use Rattle.hall.proofs.Hall.offer.Statement as offer-states
-use Rattle.hall.proofs.Hall.lodge.Statement as lodge-states
-use Rattle.hall.proofs.Hall.cancel.Statement as cancel-states
-use Rattle.hall.proofs.Hall.close.Statement as close-states
-use Rattle.hall.proofs.hall_readings.settle.Statement as settle-states
-use Rattle.hall.proofs.hall_readings.preview_closing.Statement as preview-states
-use Rattle.hall.proofs.hall_readings.supply_point.Statement as supply-point-states
-use Rattle.hall.proofs.hall_readings.who_can_force.Statement as who-can-force-states
-use Rattle.hall.proofs.hall_readings.read.Statement as reading-states
-use Rattle.hall.proofs.Hall.new.Met as new-met
-use Rattle.hall.proofs.Hall.set_up.Met as set-up-met
-use Rattle.hall.proofs.Hall.register.Met as register-met
-use Rattle.hall.proofs.Hall.register_for.Met as register-for-met
-use Rattle.hall.proofs.Hall.open.Met as open-met
-use Rattle.hall.proofs.Hall.offer.Met as offer-met
+use Rattle.hall.proofs.Hall.new.Statement as new_states
+use Rattle.hall.proofs.Hall.set_up.Statement as set_up_states
+use Rattle.hall.proofs.Hall.register.Statement as register_states
+use Rattle.hall.proofs.Hall.register_for.Statement as register_for_states
+use Rattle.hall.proofs.Hall.open.Statement as open_states
+use Rattle.hall.proofs.Hall.offer.Statement as offer_states
+use Rattle.hall.proofs.Hall.lodge.Statement as lodge_states
+use Rattle.hall.proofs.Hall.cancel.Statement as cancel_states
+use Rattle.hall.proofs.Hall.close.Statement as close_states
+use Rattle.hall.proofs.hall_readings.settle.Statement as settle_states
+use Rattle.hall.proofs.hall_readings.preview_closing.Statement as preview_states
+use Rattle.hall.proofs.hall_readings.supply_point.Statement as supply_point_states
+use Rattle.hall.proofs.hall_readings.who_can_force.Statement as who_can_force_states
+use Rattle.hall.proofs.hall_readings.read.Statement as reading_states
+use Rattle.hall.proofs.Hall.new.Met as new_met
+use Rattle.hall.proofs.Hall.set_up.Met as set_up_met
+use Rattle.hall.proofs.Hall.register.Met as register_met
+use Rattle.hall.proofs.Hall.register_for.Met as register_for_met
+use Rattle.hall.proofs.Hall.open.Met as open_met
+use Rattle.hall.proofs.Hall.offer.Met as offer_met
 use Rattle.hall.proofs.Hall.lodge.Met as lodge_met
-use Rattle.hall.proofs.Hall.cancel.Met as cancel-met
-use Rattle.hall.proofs.Hall.close.Met as close-met
-use Rattle.hall.proofs.hall_readings.settle.Met as settle-met
-use Rattle.hall.proofs.hall_readings.preview_closing.Met as preview-met
-use Rattle.hall.proofs.hall_readings.supply_point.Met as supply-point-met
-use Rattle.hall.proofs.hall_readings.who_can_force.Met as who-can-force-met
-use Rattle.hall.proofs.hall_readings.read.Met as reading-met
+use Rattle.hall.proofs.Hall.cancel.Met as cancel_met
+use Rattle.hall.proofs.Hall.close.Met as close_met
+use Rattle.hall.proofs.hall_readings.settle.Met as settle_met
+use Rattle.hall.proofs.hall_readings.preview_closing.Met as preview_met
+use Rattle.hall.proofs.hall_readings.supply_point.Met as supply_point_met
+use Rattle.hall.proofs.hall_readings.who_can_force.Met as who_can_force_met
+use Rattle.hall.proofs.hall_readings.read.Met as reading_met
 use Rattle.statement.specs.EveryList.{Run, run_reached}
 use Rattle.statement.specs.HallRuns.{MadeThrough, by_hall_contract, HallRun, hall_reached, SeatedRun, permitted_run, entries_answered, seated}
 use Rattle.statement.specs.LooksThrough.{LooksThrough, looks_through}
@@ -63,20 +63,20 @@ pub use Rattle.statement.specs.EveryMoment.{ReadsAt}
 
 -- each call through a seat, in every model
 pub record HallMeets (M : Type 1) : Type 2 where
-  pub new_meets : new-states.statement M
-  pub set_up_meets : set-up-states.statement M
-  pub register_meets : register-states.statement M
-  pub register_for_meets : register-for-states.statement M
-  pub open_meets : open-states.statement M
-  pub offer_meets : offer-states.statement M
-  pub lodge_meets : lodge-states.statement M
-  pub cancel_meets : cancel-states.statement M
-  pub close_meets : close-states.statement M
-  pub settle_meets : settle-states.statement M
-  pub preview_meets : preview-states.statement M
-  pub supply_point_meets : supply-point-states.statement M
-  pub who_can_force_meets : who-can-force-states.statement M
-  pub reading_meets : reading-states.statement M
+  pub new_meets : new_states.statement M
+  pub set_up_meets : set_up_states.statement M
+  pub register_meets : register_states.statement M
+  pub register_for_meets : register_for_states.statement M
+  pub open_meets : open_states.statement M
+  pub offer_meets : offer_states.statement M
+  pub lodge_meets : lodge_states.statement M
+  pub cancel_meets : cancel_states.statement M
+  pub close_meets : close_states.statement M
+  pub settle_meets : settle_states.statement M
+  pub preview_meets : preview_states.statement M
+  pub supply_point_meets : supply_point_states.statement M
+  pub who_can_force_meets : who_can_force_states.statement M
+  pub reading_meets : reading_states.statement M
 
 pub record SeatsStated (M : Type 1) : Type 2 where
   pub meets : HallMeets M
@@ -120,20 +120,20 @@ pub record SeatsStated (M : Type 1) : Type 2 where
 
 hall_meets : {M : Type 1} → HallMeets M
 hall_meets = record {
-  new_meets = new-met.met;
-  set_up_meets = set-up-met.met;
-  register_meets = register-met.met;
-  register_for_meets = register-for-met.met;
-  open_meets = open-met.met;
-  offer_meets = offer-met.met;
+  new_meets = new_met.met;
+  set_up_meets = set_up_met.met;
+  register_meets = register_met.met;
+  register_for_meets = register_for_met.met;
+  open_meets = open_met.met;
+  offer_meets = offer_met.met;
   lodge_meets = lodge_met.met;
-  cancel_meets = cancel-met.met;
-  close_meets = close-met.met;
-  settle_meets = settle-met.met;
-  preview_meets = preview-met.met;
-  supply_point_meets = supply-point-met.met;
-  who_can_force_meets = who-can-force-met.met;
-  reading_meets = reading-met.met;
+  cancel_meets = cancel_met.met;
+  close_meets = close_met.met;
+  settle_meets = settle_met.met;
+  preview_meets = preview_met.met;
+  supply_point_meets = supply_point_met.met;
+  who_can_force_meets = who_can_force_met.met;
+  reading_meets = reading_met.met;
 }
 
 pub seats_stated : {M : Type 1} → SeatsStated M

@@ -24,9 +24,9 @@ use Rattle.seats.specs.declared.Seat.{Seat}
 use Rattle.hall.specs.Through.{CalledThrough}
 use Rattle.hall.specs.declared.Hall.{Hall}
 use Rattle.hall.specs.hall_readings.Looks.{SettlesThrough}
-use Rattle.hall.specs.contracts.hall_readings.settle.{signature as hall-signature}
-use Rattle.hall.proofs.hall_readings.settle.Kinds as hall-kinds
-use Rattle.hall.proofs.hall_readings.settle.Reads as hall-settle
+use Rattle.hall.specs.contracts.hall_readings.settle.{signature as hall_signature}
+use Rattle.hall.proofs.hall_readings.settle.Kinds as hall_kinds
+use Rattle.hall.proofs.hall_readings.settle.Reads as hall_settle
 use Rattle.statement.specs.EveryList.{Made, by_contract}
 use Rattle.statement.specs.HallRuns.{MadeThrough, by_hall_contract}
 
@@ -41,7 +41,7 @@ pub record Untouched : Type 1 where
       (length y.1.1.0.now ≡ length x.1.1.0.now) × (drop (6 * r.records) y.1.1.0.now ≡ drop (6 * r.records) x.1.1.0.now)
   pub hall_calls : {s : Seat} {c : Call} {h k : Hall} {r : Answered} → MadeThrough s c h r k → (r.number ≡ 0 → ⊥) → (k ≡ h) × (r ≡ bare_answer r.number)
   pub refused_hall_settling :
-      (κs : Lfts 1) (x : ArgsD hall-signature κs) (r : Settled) (y : AtExit (ended_of 1 hall-kinds.ps hall-kinds.r) κs) → hall-settle.Post κs x r y →
+      (κs : Lfts 1) (x : ArgsD hall_signature κs) (r : Settled) (y : AtExit (ended_of 1 hall_kinds.ps hall_kinds.r) κs) → hall_settle.Post κs x r y →
       (r.number ≡ 0 → ⊥) → (r ≡ refused_with r.number) × (y.1.1.1.0.now ≡ x.1.1.1.0.now)
 
 module _ (s : seats.Seat) (c : Call) (h k : Hall) (r : Answered) (w : CalledThrough s c h k r) (z : r.number ≡ 0 → ⊥) where

@@ -22,13 +22,13 @@ use Rattle.record_replay.specs.host_numbers.HostNumbers.{host_number, host_remai
 use Rattle.host.specs.contracts.demand.{signature}
 use Rattle.host.proofs.demand.Kinds as kinds
 use Rattle.host.proofs.demand.Reads as demanding
-use Rattle.host.proofs.demand.Statement as demand-states
-use Rattle.host.proofs.demand.Met as demand-met
-use Rattle.host.specs.contracts.demand_remainder.{signature as remainder-signature}
-use Rattle.host.proofs.demand_remainder.Kinds as remainder-kinds
+use Rattle.host.proofs.demand.Statement as demand_states
+use Rattle.host.proofs.demand.Met as demand_met
+use Rattle.host.specs.contracts.demand_remainder.{signature as remainder_signature}
+use Rattle.host.proofs.demand_remainder.Kinds as remainder_kinds
 use Rattle.host.proofs.demand_remainder.Reads as remaining
-use Rattle.host.proofs.demand_remainder.Statement as remainder-states
-use Rattle.host.proofs.demand_remainder.Met as remainder-met
+use Rattle.host.proofs.demand_remainder.Statement as remainder_states
+use Rattle.host.proofs.demand_remainder.Met as remainder_met
 
 -- settings and price are within the bounds of document 01
 abbrev pub Inside : ℕ → ℕ → ℕ → ℕ → ℕ → Type 0
@@ -58,16 +58,16 @@ pub record RemainderReturned (ce d m1 m2 p r : ℕ) : Type 0 where
 
 -- the arguments x: CE, D, M1, M2, p. What is stated leaves nothing free
 pub record DemandExported (M : Type 1) : Type 2 where
-  pub demand_meets : demand-states.statement M
+  pub demand_meets : demand_states.statement M
   pub demand_asks : (κs : Lfts 0) (x : ArgsD signature κs) → demanding.Pre κs x × demanding.Asked κs x
   pub demand_returns :
       (κs : Lfts 0) (x : ArgsD signature κs) (r : ℕ) (y : AtExit (ended_of 0 kinds.ps kinds.r) κs) → demanding.Post κs x r y →
       DemandReturned x.0 x.1.0 x.1.1.0 x.1.1.1.0 x.1.1.1.1.0 r
   pub demand_determined : (ce d m1 m2 p r r' : ℕ) → DemandReturned ce d m1 m2 p r → DemandReturned ce d m1 m2 p r' → r ≡ r'
-  pub remainder_meets : remainder-states.statement M
-  pub remainder_asks : (κs : Lfts 0) (x : ArgsD remainder-signature κs) → remaining.Pre κs x × remaining.Asked κs x
+  pub remainder_meets : remainder_states.statement M
+  pub remainder_asks : (κs : Lfts 0) (x : ArgsD remainder_signature κs) → remaining.Pre κs x × remaining.Asked κs x
   pub remainder_returns :
-      (κs : Lfts 0) (x : ArgsD remainder-signature κs) (r : ℕ) (y : AtExit (ended_of 0 remainder-kinds.ps remainder-kinds.r) κs) →
+      (κs : Lfts 0) (x : ArgsD remainder_signature κs) (r : ℕ) (y : AtExit (ended_of 0 remainder_kinds.ps remainder_kinds.r) κs) →
       remaining.Post κs x r y → RemainderReturned x.0 x.1.0 x.1.1.0 x.1.1.1.0 x.1.1.1.1.0 r
   pub remainder_determined : (ce d m1 m2 p r r' : ℕ) → RemainderReturned ce d m1 m2 p r → RemainderReturned ce d m1 m2 p r' → r ≡ r'
 
@@ -196,11 +196,11 @@ module _ (ce d m1 m2 p : ℕ) where
 
 pub demand_exported : {M : Type 1} → DemandExported M
 demand_exported = record {
-  demand_meets = demand-met.met;
+  demand_meets = demand_met.met;
   demand_asks = λ κs x. (tt, tt);
   demand_returns = λ κs x r y q. demand_returned _ _ _ _ _ r q;
   demand_determined = demand_determined;
-  remainder_meets = remainder-met.met;
+  remainder_meets = remainder_met.met;
   remainder_asks = λ κs x. (tt, tt);
   remainder_returns = λ κs x r y q. remainder_returned _ _ _ _ _ r q;
   remainder_determined = remainder_determined;

@@ -22,8 +22,8 @@ use Rattle.statement.specs.calls_of_c.HostValues.{accepted_value, refused_value}
 use Rattle.host.specs.contracts.who_can_force.{signature}
 use Rattle.host.proofs.who_can_force.Kinds as kinds
 use Rattle.host.proofs.who_can_force.Reads as forcing
-use Rattle.host.proofs.who_can_force.Statement as forcing-states
-use Rattle.host.proofs.who_can_force.Met as forcing-met
+use Rattle.host.proofs.who_can_force.Statement as forcing_states
+use Rattle.host.proofs.who_can_force.Met as forcing_met
 
 -- of the ledger l, developers m and n and the prices ps; `old` and `new` are the lent buffer before and after, r is what C gets
 pub record ForcingReturned (l : Ledger) (m n : ℕ) (ps old new : List ℕ) (r : ℕ) : Type 0 where
@@ -35,7 +35,7 @@ pub record ForcingReturned (l : Ledger) (m n : ℕ) (ps old new : List ℕ) (r :
 
 -- the arguments x: the record, the two developers, the prices, the buffer; y: the same at the call's end
 pub record ForcingExported (M : Type 1) : Type 2 where
-  pub meets : forcing-states.statement M
+  pub meets : forcing_states.statement M
   pub asks : (κs : Lfts 3) (x : ArgsD signature κs) → forcing.Pre κs x × forcing.Asked κs x
   pub returns :
       (κs : Lfts 3) (x : ArgsD signature κs) (r : ℕ) (y : AtExit (ended_of 3 kinds.ps kinds.r) κs) → forcing.Post κs x r y →
@@ -130,7 +130,7 @@ module _ (l : Ledger) (m n : ℕ) (ps old new new' : List ℕ) (r r' : ℕ) (x :
 
 pub forcing_exported : {M : Type 1} → ForcingExported M
 forcing_exported = record {
-  meets = forcing-met.met;
+  meets = forcing_met.met;
   asks = λ κs x. (tt, tt);
   returns = λ κs x r y q. forcing_returned _ _ _ _ _ _ r q.0 q.1;
   determined = forcing_determined;

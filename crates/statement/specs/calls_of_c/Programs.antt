@@ -24,31 +24,31 @@ use Rattle.trace_text.specs.WordsLaws.{before_closing, before_other, below_refus
 use Rattle.record_replay.specs.Replayed.{printed}
 use Rattle.frame_reading.specs.frames.Decoded.{call_in, Zero, call_some}
 use Rattle.frame_reading.specs.declared.frames.Frame.{Frame}
-use Rattle.record_replay.specs.contracts.print.{signature as print-signature}
-use Rattle.record_replay.proofs.print.Kinds as print-kinds
+use Rattle.record_replay.specs.contracts.print.{signature as print_signature}
+use Rattle.record_replay.proofs.print.Kinds as print_kinds
 use Rattle.record_replay.proofs.print.Reads as printing
-use Rattle.record_replay.proofs.print.Statement as print-states
-use Rattle.record_replay.proofs.print.Met as print-met
-use Rattle.trace_text.specs.contracts.put_before.{signature as before-signature}
-use Rattle.trace_text.proofs.put_before.Kinds as before-kinds
-use Rattle.trace_text.proofs.put_before.Reads as before-reads
-use Rattle.trace_text.proofs.put_before.Statement as before-states
-use Rattle.trace_text.proofs.put_before.Met as before-met
-use Rattle.trace_text.specs.contracts.put_below.{signature as below-signature}
-use Rattle.trace_text.proofs.put_below.Kinds as below-kinds
-use Rattle.trace_text.proofs.put_below.Reads as below-reads
-use Rattle.trace_text.proofs.put_below.Statement as below-states
-use Rattle.trace_text.proofs.put_below.Met as below-met
-use Rattle.trace_text.specs.contracts.put_point.{signature as point-signature}
-use Rattle.trace_text.proofs.put_point.Kinds as point-kinds
-use Rattle.trace_text.proofs.put_point.Reads as point-reads
-use Rattle.trace_text.proofs.put_point.Statement as point-states
-use Rattle.trace_text.proofs.put_point.Met as point-met
-use Rattle.frame_reading.specs.contracts.frames.decode.{signature as decode-signature}
-use Rattle.frame_reading.proofs.frames.decode.Kinds as decode-kinds
+use Rattle.record_replay.proofs.print.Statement as print_states
+use Rattle.record_replay.proofs.print.Met as print_met
+use Rattle.trace_text.specs.contracts.put_before.{signature as before_signature}
+use Rattle.trace_text.proofs.put_before.Kinds as before_kinds
+use Rattle.trace_text.proofs.put_before.Reads as before_reads
+use Rattle.trace_text.proofs.put_before.Statement as before_states
+use Rattle.trace_text.proofs.put_before.Met as before_met
+use Rattle.trace_text.specs.contracts.put_below.{signature as below_signature}
+use Rattle.trace_text.proofs.put_below.Kinds as below_kinds
+use Rattle.trace_text.proofs.put_below.Reads as below_reads
+use Rattle.trace_text.proofs.put_below.Statement as below_states
+use Rattle.trace_text.proofs.put_below.Met as below_met
+use Rattle.trace_text.specs.contracts.put_point.{signature as point_signature}
+use Rattle.trace_text.proofs.put_point.Kinds as point_kinds
+use Rattle.trace_text.proofs.put_point.Reads as point_reads
+use Rattle.trace_text.proofs.put_point.Statement as point_states
+use Rattle.trace_text.proofs.put_point.Met as point_met
+use Rattle.frame_reading.specs.contracts.frames.decode.{signature as decode_signature}
+use Rattle.frame_reading.proofs.frames.decode.Kinds as decode_kinds
 use Rattle.frame_reading.proofs.frames.decode.Reads as decoding
-use Rattle.frame_reading.proofs.frames.decode.Statement as decode-states
-use Rattle.frame_reading.proofs.frames.decode.Met as decode-met
+use Rattle.frame_reading.proofs.frames.decode.Statement as decode_states
+use Rattle.frame_reading.proofs.frames.decode.Met as decode_met
 
 -- FF0B and 0A
 abbrev pub too_long : List ℕ
@@ -64,10 +64,10 @@ pub record Printed (bytes old new : List ℕ) (r : ℕ) : Type 0 where
 
 -- the arguments x: the record, the buffer; y: the same at the call's end
 pub record PrintStated (M : Type 1) : Type 2 where
-  pub meets : print-states.statement M
-  pub asks : (κs : Lfts 2) (x : ArgsD print-signature κs) → 65536 ≤ length x.1.0.now → printing.Pre κs x × printing.Asked κs x
+  pub meets : print_states.statement M
+  pub asks : (κs : Lfts 2) (x : ArgsD print_signature κs) → 65536 ≤ length x.1.0.now → printing.Pre κs x × printing.Asked κs x
   pub returns :
-      (κs : Lfts 2) (x : ArgsD print-signature κs) (r : ℕ) (y : AtExit (ended_of 2 print-kinds.ps print-kinds.r) κs) → printing.Post κs x r y →
+      (κs : Lfts 2) (x : ArgsD print_signature κs) (r : ℕ) (y : AtExit (ended_of 2 print_kinds.ps print_kinds.r) κs) → printing.Post κs x r y →
       Printed x.0.now x.1.0.now y.1.0.now r
   -- what is stated leaves nothing free
   pub determined :
@@ -75,24 +75,24 @@ pub record PrintStated (M : Type 1) : Type 2 where
 
 -- the arguments x: the buffer, the place in it, then what is told; y: the same at the call's end
 pub record TraceStated (M : Type 1) : Type 2 where
-  pub before_meets : before-states.statement M
+  pub before_meets : before_states.statement M
   pub before_asks :
-      (κs : Lfts 1) (x : ArgsD before-signature κs) → x.1.0 + 100 ≤ length x.0.now → before-reads.Pre κs x × before-reads.Asked κs x
+      (κs : Lfts 1) (x : ArgsD before_signature κs) → x.1.0 + 100 ≤ length x.0.now → before_reads.Pre κs x × before_reads.Asked κs x
   pub before_returns :
-      (κs : Lfts 1) (x : ArgsD before-signature κs) (r : ℕ) (y : AtExit (ended_of 1 before-kinds.ps before-kinds.r) κs) →
-      before-reads.Post κs x r y → Puts (lines_before x.1.1.0 x.1.1.1.0) 100 x.0.now y.0.now x.1.0 r
-  pub below_meets : below-states.statement M
+      (κs : Lfts 1) (x : ArgsD before_signature κs) (r : ℕ) (y : AtExit (ended_of 1 before_kinds.ps before_kinds.r) κs) →
+      before_reads.Post κs x r y → Puts (lines_before x.1.1.0 x.1.1.1.0) 100 x.0.now y.0.now x.1.0 r
+  pub below_meets : below_states.statement M
   pub below_asks :
-      (κs : Lfts 1) (x : ArgsD below-signature κs) → x.1.0 + 3000 ≤ length x.0.now → below-reads.Pre κs x × below-reads.Asked κs x
+      (κs : Lfts 1) (x : ArgsD below_signature κs) → x.1.0 + 3000 ≤ length x.0.now → below_reads.Pre κs x × below_reads.Asked κs x
   pub below_returns :
-      (κs : Lfts 1) (x : ArgsD below-signature κs) (r : ℕ) (y : AtExit (ended_of 1 below-kinds.ps below-kinds.r) κs) → below-reads.Post κs x r y →
+      (κs : Lfts 1) (x : ArgsD below_signature κs) (r : ℕ) (y : AtExit (ended_of 1 below_kinds.ps below_kinds.r) κs) → below_reads.Post κs x r y →
       Puts (lines_below x.1.1.0 x.1.1.1.0 x.1.1.1.1.0 x.1.1.1.1.1.0 x.1.1.1.1.1.1.0) 3000
       x.0.now y.0.now x.1.0 r
-  pub point_meets : point-states.statement M
+  pub point_meets : point_states.statement M
   pub point_asks :
-      (κs : Lfts 1) (x : ArgsD point-signature κs) → x.1.0 + 100 ≤ length x.0.now → point-reads.Pre κs x × point-reads.Asked κs x
+      (κs : Lfts 1) (x : ArgsD point_signature κs) → x.1.0 + 100 ≤ length x.0.now → point_reads.Pre κs x × point_reads.Asked κs x
   pub point_returns :
-      (κs : Lfts 1) (x : ArgsD point-signature κs) (r : ℕ) (y : AtExit (ended_of 1 point-kinds.ps point-kinds.r) κs) → point-reads.Post κs x r y →
+      (κs : Lfts 1) (x : ArgsD point_signature κs) (r : ℕ) (y : AtExit (ended_of 1 point_kinds.ps point_kinds.r) κs) → point_reads.Post κs x r y →
       Puts (point_line x.1.1.0 x.1.1.1.0 x.1.1.1.1.0) 100 x.0.now y.0.now x.1.0 r
   -- before a closing's reply its preview, and before no other a line
   pub lines_before_lem :
@@ -116,10 +116,10 @@ pub record Decoded (line : List ℕ) (f : Frame) : Type 0 where
 
 -- the arguments x: the line
 pub record DecodeStated (M : Type 1) : Type 2 where
-  pub meets : decode-states.statement M
-  pub asks : (κs : Lfts 1) (x : ArgsD decode-signature κs) → decoding.Pre κs x × decoding.Asked κs x
+  pub meets : decode_states.statement M
+  pub asks : (κs : Lfts 1) (x : ArgsD decode_signature κs) → decoding.Pre κs x × decoding.Asked κs x
   pub returns :
-      (κs : Lfts 1) (x : ArgsD decode-signature κs) (f : Frame) (y : AtExit (ended_of 1 decode-kinds.ps decode-kinds.r) κs) → decoding.Post κs x f y →
+      (κs : Lfts 1) (x : ArgsD decode_signature κs) (f : Frame) (y : AtExit (ended_of 1 decode_kinds.ps decode_kinds.r) κs) → decoding.Post κs x f y →
       Decoded x.0.now f
   -- one call, and of a malformed line one frame
   pub determined :
@@ -132,7 +132,7 @@ pub record ProgramsStated (M : Type 1) : Type 2 where
 
 -- ---- what `replay` prints
 
-module _ (κs : Lfts 2) (x : ArgsD print-signature κs) (r : ℕ) (y : AtExit (ended_of 2 print-kinds.ps print-kinds.r) κs) (q : printing.Post κs x r y) where
+module _ (κs : Lfts 2) (x : ArgsD print_signature κs) (r : ℕ) (y : AtExit (ended_of 2 print_kinds.ps print_kinds.r) κs) (q : printing.Post κs x r y) where
   print_number : r ≡ length (printed x.0.now)
   print_number = q.0
 
@@ -186,18 +186,18 @@ module _ (bytes : List ℕ) where
 -- ---- what `trace` writes around a reply
 
 before_puts :
-    (κs : Lfts 1) (x : ArgsD before-signature κs) (r : ℕ) (y : AtExit (ended_of 1 before-kinds.ps before-kinds.r) κs) → before-reads.Post κs x r y →
+    (κs : Lfts 1) (x : ArgsD before_signature κs) (r : ℕ) (y : AtExit (ended_of 1 before_kinds.ps before_kinds.r) κs) → before_reads.Post κs x r y →
     Puts (lines_before x.1.1.0 x.1.1.1.0) 100 x.0.now y.0.now x.1.0 r
 before_puts κs x r y q = q
 
 below_puts :
-    (κs : Lfts 1) (x : ArgsD below-signature κs) (r : ℕ) (y : AtExit (ended_of 1 below-kinds.ps below-kinds.r) κs) → below-reads.Post κs x r y →
+    (κs : Lfts 1) (x : ArgsD below_signature κs) (r : ℕ) (y : AtExit (ended_of 1 below_kinds.ps below_kinds.r) κs) → below_reads.Post κs x r y →
     Puts (lines_below x.1.1.0 x.1.1.1.0 x.1.1.1.1.0 x.1.1.1.1.1.0 x.1.1.1.1.1.1.0) 3000
     x.0.now y.0.now x.1.0 r
 below_puts κs x r y q = q
 
 point_puts :
-    (κs : Lfts 1) (x : ArgsD point-signature κs) (r : ℕ) (y : AtExit (ended_of 1 point-kinds.ps point-kinds.r) κs) → point-reads.Post κs x r y →
+    (κs : Lfts 1) (x : ArgsD point_signature κs) (r : ℕ) (y : AtExit (ended_of 1 point_kinds.ps point_kinds.r) κs) → point_reads.Post κs x r y →
     Puts (point_line x.1.1.0 x.1.1.1.0 x.1.1.1.1.0) 100 x.0.now y.0.now x.1.0 r
 point_puts κs x r y q = q
 
@@ -232,7 +232,7 @@ decoded_only line f f' x y = (x.call ∙ sym y.call, λ n. zero_frame f (x.malfo
 
 print_stated : {M : Type 1} → PrintStated M
 print_stated = record {
-  meets = print-met.met;
+  meets = print_met.met;
   asks = λ κs x h. (h, h);
   returns = λ κs x r y q. print_returned _ _ _ r (print_number κs x r y q) (print_bytes κs x r y q);
   determined = printed_only;
@@ -240,13 +240,13 @@ print_stated = record {
 
 trace_stated : {M : Type 1} → TraceStated M
 trace_stated = record {
-  before_meets = before-met.met;
+  before_meets = before_met.met;
   before_asks = λ κs x h. (h, h);
   before_returns = before_puts;
-  below_meets = below-met.met;
+  below_meets = below_met.met;
   below_asks = λ κs x h. (h, h);
   below_returns = below_puts;
-  point_meets = point-met.met;
+  point_meets = point_met.met;
   point_asks = λ κs x h. (h, h);
   point_returns = point_puts;
   lines_before_lem = λ kind p. (before_closing kind p, before_other kind p);
@@ -256,7 +256,7 @@ trace_stated = record {
 
 decode_stated : {M : Type 1} → DecodeStated M
 decode_stated = record {
-  meets = decode-met.met;
+  meets = decode_met.met;
   asks = λ κs x. (tt, tt);
   returns = λ κs x f y q. decoded _ f q.0 q.1;
   determined = decoded_only;

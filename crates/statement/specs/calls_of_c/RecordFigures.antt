@@ -14,53 +14,53 @@ use Rattle.record_figures.specs.Told.{TellsState, TellsPreview, TellsCurve, Tell
 use Rattle.statement.specs.calls_of_c.FiguresReturned.{StateReturned, state_returned, state_determined, PreviewReturned, preview_returned}
 use Rattle.statement.specs.calls_of_c.FiguresReturned.{preview_determined, CurveReturned, curve_returned, curve_determined}
 use Rattle.statement.specs.calls_of_c.SettlementReturned.{SettlementReturned, settlement_returned, settlement_determined}
-use Rattle.host.specs.contracts.record_state.{signature as state-signature}
-use Rattle.host.specs.contracts.record_preview.{signature as preview-signature}
-use Rattle.host.specs.contracts.record_curve.{signature as curve-signature}
-use Rattle.host.specs.contracts.record_settlement.{signature as settlement-signature}
-use Rattle.host.proofs.record_state.Kinds as state-kinds
-use Rattle.host.proofs.record_preview.Kinds as preview-kinds
-use Rattle.host.proofs.record_curve.Kinds as curve-kinds
-use Rattle.host.proofs.record_settlement.Kinds as settlement-kinds
-use Rattle.host.proofs.record_state.Reads as state-reads
-use Rattle.host.proofs.record_preview.Reads as preview-reads
-use Rattle.host.proofs.record_curve.Reads as curve-reads
-use Rattle.host.proofs.record_settlement.Reads as settlement-reads
-use Rattle.host.proofs.record_state.Statement as state-states
-use Rattle.host.proofs.record_preview.Statement as preview-states
-use Rattle.host.proofs.record_curve.Statement as curve-states
-use Rattle.host.proofs.record_settlement.Statement as settlement-states
-use Rattle.host.proofs.record_state.Met as state-met
-use Rattle.host.proofs.record_preview.Met as preview-met
-use Rattle.host.proofs.record_curve.Met as curve-met
-use Rattle.host.proofs.record_settlement.Met as settlement-met
+use Rattle.host.specs.contracts.record_state.{signature as state_signature}
+use Rattle.host.specs.contracts.record_preview.{signature as preview_signature}
+use Rattle.host.specs.contracts.record_curve.{signature as curve_signature}
+use Rattle.host.specs.contracts.record_settlement.{signature as settlement_signature}
+use Rattle.host.proofs.record_state.Kinds as state_kinds
+use Rattle.host.proofs.record_preview.Kinds as preview_kinds
+use Rattle.host.proofs.record_curve.Kinds as curve_kinds
+use Rattle.host.proofs.record_settlement.Kinds as settlement_kinds
+use Rattle.host.proofs.record_state.Reads as state_reads
+use Rattle.host.proofs.record_preview.Reads as preview_reads
+use Rattle.host.proofs.record_curve.Reads as curve_reads
+use Rattle.host.proofs.record_settlement.Reads as settlement_reads
+use Rattle.host.proofs.record_state.Statement as state_states
+use Rattle.host.proofs.record_preview.Statement as preview_states
+use Rattle.host.proofs.record_curve.Statement as curve_states
+use Rattle.host.proofs.record_settlement.Statement as settlement_states
+use Rattle.host.proofs.record_state.Met as state_met
+use Rattle.host.proofs.record_preview.Met as preview_met
+use Rattle.host.proofs.record_curve.Met as curve_met
+use Rattle.host.proofs.record_settlement.Met as settlement_met
 
 pub record FiguresMeet (M : Type 1) : Type 2 where
-  pub record_state_lem : state-states.statement M
-  pub record_preview_lem : preview-states.statement M
-  pub record_curve_lem : curve-states.statement M
-  pub record_settlement_lem : settlement-states.statement M
+  pub record_state_lem : state_states.statement M
+  pub record_preview_lem : preview_states.statement M
+  pub record_curve_lem : curve_states.statement M
+  pub record_settlement_lem : settlement_states.statement M
 
 pub record FiguresAsk : Type 1 where
-  pub record_state_lem : (κs : Lfts 2) (x : ArgsD state-signature κs) → state-reads.Pre κs x × state-reads.Asked κs x
-  pub record_preview_lem : (κs : Lfts 2) (x : ArgsD preview-signature κs) → preview-reads.Pre κs x × preview-reads.Asked κs x
-  pub record_curve_lem : (κs : Lfts 2) (x : ArgsD curve-signature κs) → curve-reads.Pre κs x × curve-reads.Asked κs x
-  pub record_settlement_lem : (κs : Lfts 3) (x : ArgsD settlement-signature κs) → settlement-reads.Pre κs x × settlement-reads.Asked κs x
+  pub record_state_lem : (κs : Lfts 2) (x : ArgsD state_signature κs) → state_reads.Pre κs x × state_reads.Asked κs x
+  pub record_preview_lem : (κs : Lfts 2) (x : ArgsD preview_signature κs) → preview_reads.Pre κs x × preview_reads.Asked κs x
+  pub record_curve_lem : (κs : Lfts 2) (x : ArgsD curve_signature κs) → curve_reads.Pre κs x × curve_reads.Asked κs x
+  pub record_settlement_lem : (κs : Lfts 3) (x : ArgsD settlement_signature κs) → settlement_reads.Pre κs x × settlement_reads.Asked κs x
 
 -- the arguments x: the record; of a settlement the limit; the lent numbers; of a settlement the lent bytes; y: the same at the call's end
 pub record FiguresReturn : Type 1 where
   pub record_state_lem :
-      (κs : Lfts 2) (x : ArgsD state-signature κs) (r : ℕ) (y : AtExit (ended_of 2 state-kinds.ps state-kinds.r) κs) → state-reads.Post κs x r y →
+      (κs : Lfts 2) (x : ArgsD state_signature κs) (r : ℕ) (y : AtExit (ended_of 2 state_kinds.ps state_kinds.r) κs) → state_reads.Post κs x r y →
       StateReturned (calls_in x.0.now) x.1.0.now y.1.0.now r
   pub record_preview_lem :
-      (κs : Lfts 2) (x : ArgsD preview-signature κs) (r : ℕ) (y : AtExit (ended_of 2 preview-kinds.ps preview-kinds.r) κs) → preview-reads.Post κs x r y →
+      (κs : Lfts 2) (x : ArgsD preview_signature κs) (r : ℕ) (y : AtExit (ended_of 2 preview_kinds.ps preview_kinds.r) κs) → preview_reads.Post κs x r y →
       PreviewReturned (ledger (calls_in x.0.now)) x.1.0.now y.1.0.now r
   pub record_curve_lem :
-      (κs : Lfts 2) (x : ArgsD curve-signature κs) (r : ℕ) (y : AtExit (ended_of 2 curve-kinds.ps curve-kinds.r) κs) → curve-reads.Post κs x r y →
+      (κs : Lfts 2) (x : ArgsD curve_signature κs) (r : ℕ) (y : AtExit (ended_of 2 curve_kinds.ps curve_kinds.r) κs) → curve_reads.Post κs x r y →
       CurveReturned (ledger (calls_in x.0.now)) x.1.0.now y.1.0.now r
   pub record_settlement_lem :
-      (κs : Lfts 3) (x : ArgsD settlement-signature κs) (r : ℕ) (y : AtExit (ended_of 3 settlement-kinds.ps settlement-kinds.r) κs) →
-      settlement-reads.Post κs x r y →
+      (κs : Lfts 3) (x : ArgsD settlement_signature κs) (r : ℕ) (y : AtExit (ended_of 3 settlement_kinds.ps settlement_kinds.r) κs) →
+      settlement_reads.Post κs x r y →
       SettlementReturned (ledger (calls_in x.0.now)) x.1.0 x.1.1.0.now y.1.1.0.now x.1.1.1.0.now y.1.1.1.0.now r
 
 pub record RecordFiguresExported (M : Type 1) : Type 2 where
@@ -75,8 +75,8 @@ pub record RecordFiguresExported (M : Type 1) : Type 2 where
   pub curve_determined :
       (l : Ledger) (old new new' : List ℕ) (r r' : ℕ) → CurveReturned l old new r → CurveReturned l old new' r' → (r ≡ r') × (new ≡ new')
   pub settlement_determined :
-      (l : Ledger) (limit : ℕ) (oldF newF newF' oldA newA newA' : List ℕ) (r r' : ℕ) → SettlementReturned l limit oldF newF oldA newA r →
-      SettlementReturned l limit oldF newF' oldA newA' r' → (r ≡ r') × (newF ≡ newF') × (newA ≡ newA')
+      (l : Ledger) (limit : ℕ) (old_f new_f new_f' old_a new_a new_a' : List ℕ) (r r' : ℕ) → SettlementReturned l limit old_f new_f old_a new_a r →
+      SettlementReturned l limit old_f new_f' old_a new_a' r' → (r ≡ r') × (new_f ≡ new_f') × (new_a ≡ new_a')
 
 -- ---- together
 
@@ -90,16 +90,16 @@ preview_told l old new r w = preview_returned l old new r w.number w.lent
 curve_told : (l : Ledger) (old new : List ℕ) (r : ℕ) → TellsCurve l old new r → CurveReturned l old new r
 curve_told l old new r w = curve_returned l old new r w.number w.lent
 
-settlement_told : (cs : List Call) (limit : ℕ) (oldF newF oldA newA : List ℕ) (r : ℕ) → TellsSettlement (ledger cs) limit oldF newF oldA newA r →
-    SettlementReturned (ledger cs) limit oldF newF oldA newA r
-settlement_told cs limit oldF newF oldA newA r w = settlement_returned cs limit oldF newF oldA newA r w.number w.lent w.awards
+settlement_told : (cs : List Call) (limit : ℕ) (old_f new_f old_a new_a : List ℕ) (r : ℕ) → TellsSettlement (ledger cs) limit old_f new_f old_a new_a r →
+    SettlementReturned (ledger cs) limit old_f new_f old_a new_a r
+settlement_told cs limit old_f new_f old_a new_a r w = settlement_returned cs limit old_f new_f old_a new_a r w.number w.lent w.awards
 
 figures_meet : {M : Type 1} → FiguresMeet M
 figures_meet = record {
-  record_state_lem = state-met.met;
-  record_preview_lem = preview-met.met;
-  record_curve_lem = curve-met.met;
-  record_settlement_lem = settlement-met.met;
+  record_state_lem = state_met.met;
+  record_preview_lem = preview_met.met;
+  record_curve_lem = curve_met.met;
+  record_settlement_lem = settlement_met.met;
 }
 
 figures_ask : FiguresAsk

@@ -32,13 +32,13 @@ use Rattle.reply_values.specs.ShowsLaws.{refused_line}
 use Rattle.record_replay.specs.Replayed.{hosted, over}
 use Rattle.statement.specs.settling.Stated.{Stated}
 use Rattle.statement.specs.settling.StatedLaws.{stated_taken, stated_refused}
-use Rattle.statement.specs.settling.Determined.{determined as stated-only}
+use Rattle.statement.specs.settling.Determined.{determined as stated_only}
 use Rattle.statement.specs.calls_of_c.HostValues.{fits_number, short_number, fits_buffer, short_buffer}
 use Rattle.host.specs.contracts.replay.{signature}
 use Rattle.host.proofs.replay.Kinds as kinds
 use Rattle.host.proofs.replay.Reads as replaying
-use Rattle.host.proofs.replay.Statement as replay-states
-use Rattle.host.proofs.replay.Met as replay-met
+use Rattle.host.proofs.replay.Statement as replay_states
+use Rattle.host.proofs.replay.Met as replay_met
 
 -- ---- the text of an answer
 
@@ -87,7 +87,7 @@ pub record Replayed (bytes old new : List ℕ) (r : ℕ) : Type 0 where
 
 -- the arguments x: the record, the buffer; y: the same at the call's end
 pub record ReplayExported (M : Type 1) : Type 2 where
-  pub meets : replay-states.statement M
+  pub meets : replay_states.statement M
   pub asks : (κs : Lfts 2) (x : ArgsD signature κs) → replaying.Pre κs x × replaying.Asked κs x
   pub returns :
       (κs : Lfts 2) (x : ArgsD signature κs) (r : ℕ) (y : AtExit (ended_of 2 kinds.ps kinds.r) κs) → replaying.Post κs x r y →
@@ -158,7 +158,7 @@ text_of_stated :
     reply_to (ledger cs) (Settle limit) ≡ settled_text s new
 text_of_stated cs limit old new s e w =
     let f : Found cs limit old = found cs limit old e in
-    let d = stated-only (ledger cs) limit old f.new new f.settled s f.as_stated w in
+    let d = stated_only (ledger cs) limit old f.new new f.settled s f.as_stated w in
     f.text ∙ ap₂ (λ (x : Settled) (b : List ℕ). settled_text x b) d.0 d.1
 
 settling_replied : (cs : List Call) (limit : ℕ) → SettlingReplied (ledger cs) limit (reply_to (ledger cs) (Settle limit))
@@ -195,7 +195,7 @@ settling_only cs limit t w =
     let old : List ℕ = replicate 192 0 in
     let e : length old ≡ award_room = refl in
     let f : Found cs limit old = found cs limit old e in
-    let d = stated-only (ledger cs) limit old (w.new old e) f.new (w.settled old e) f.settled (w.as_stated old e) f.as_stated in
+    let d = stated_only (ledger cs) limit old (w.new old e) f.new (w.settled old e) f.settled (w.as_stated old e) f.as_stated in
     w.text old (w.new old e) (w.settled old e) e (w.as_stated old e)
     ∙ ap₂ (λ (x : Settled) (b : List ℕ). settled_text x b) d.0 d.1 ∙ sym f.text
 
@@ -232,7 +232,7 @@ replayed_only bytes old new new' r r' x y = ⊎_elim
 
 pub replay_exported : {M : Type 1} → ReplayExported M
 replay_exported = record {
-  meets = replay-met.met;
+  meets = replay_met.met;
   asks = λ κs x. (tt, tt);
   returns = λ κs x r y q. replayed _ _ _ r q.0 q.1;
   text_determined = λ ls t t' w w'. replied_only w ∙ sym (replied_only w');

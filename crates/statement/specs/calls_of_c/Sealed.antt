@@ -18,8 +18,8 @@ use Rattle.statement.specs.calls_of_c.HostValues.{accepted_value, refused_value}
 use Rattle.host.specs.contracts.sealed_auction.{signature}
 use Rattle.host.proofs.sealed_auction.Kinds as kinds
 use Rattle.host.proofs.sealed_auction.Reads as sealing
-use Rattle.host.proofs.sealed_auction.Statement as sealing-states
-use Rattle.host.proofs.sealed_auction.Met as sealing-met
+use Rattle.host.proofs.sealed_auction.Statement as sealing_states
+use Rattle.host.proofs.sealed_auction.Met as sealing_met
 
 -- of the book b; `old` and `new` are the lent buffer before and after, r is what C gets
 pub record SealedReturned (ceiling demand : ℕ) (b : Book) (old new : List ℕ) (r : ℕ) : Type 0 where
@@ -29,7 +29,7 @@ pub record SealedReturned (ceiling demand : ℕ) (b : Book) (old new : List ℕ)
 
 -- the arguments x: ceiling, demand, prices, quantities, minimums, ages, the buffer; y: the same at the call's end
 pub record SealedExported (M : Type 1) : Type 2 where
-  pub meets : sealing-states.statement M
+  pub meets : sealing_states.statement M
   pub asks : (κs : Lfts 5) (x : ArgsD signature κs) → sealing.Pre κs x × sealing.Asked κs x
   pub returns :
       (κs : Lfts 5) (x : ArgsD signature κs) (r : ℕ) (y : AtExit (ended_of 5 kinds.ps kinds.r) κs) → sealing.Post κs x r y →
@@ -95,7 +95,7 @@ sealed_determined ceiling demand b old new new' r r' x y = go (eqb (n ceiling de
 
 pub sealed_exported : {M : Type 1} → SealedExported M
 sealed_exported = record {
-  meets = sealing-met.met;
+  meets = sealing_met.met;
   asks = λ κs x. (tt, tt);
   returns = λ κs x r y q. sealed_returned _ _ _ _ _ r q.0 q.1;
   determined = sealed_determined;

@@ -45,7 +45,7 @@ module _ (kind number : ℕ) where
       go false t h = inr (eqb-true kind 2 h)
 
   -- a right that a developer has not is of a seat of kind 0 or 1
-  module _ (right : Seat → Bool) (not-developers : right (At number) ≡ false) (e : seat_may right kind number ≡ true) where
+  module _ (right : Seat → Bool) (not_developers : right (At number) ≡ false) (e : seat_may right kind number ≡ true) where
     parts : (is_seat kind number ≡ true) × (right (seat_by kind number) ≡ true)
     unfolding seat_may
     parts = and_true (is_seat kind number) (right (seat_by kind number)) e
@@ -57,7 +57,7 @@ module _ (kind number : ℕ) where
             (b : Bool) → eqb kind 0 ≡ b → (d : Bool) → eqb kind 1 ≡ d → right (cond b Auctioneer (cond d Auditor (At number))) ≡ true → kind ≤ 1
         go true t d u h = omega (arith, eqb-true kind 0 t)
         go false t true u h = omega (arith, eqb-true kind 1 u)
-        go false t false u h = absurd (clash h not-developers)
+        go false t false u h = absurd (clash h not_developers)
 
     no_number : number ≡ 0
     no_number = unnumbered first_kinds parts.0

@@ -48,9 +48,9 @@ PreviewThrough session kind number old new r = ThroughSeat may_conduct kind numb
 abbrev pub CurveThrough : (session : List ℕ) (kind number : ℕ) (old new : List ℕ) → ℕ → Type 0
 CurveThrough session kind number old new r = ThroughSeat may_conduct kind number r (new ≡ old) (CurveReturned (plain_ledger session) old new r)
 
-abbrev pub SettlementThrough : (session : List ℕ) (kind number limit : ℕ) (oldF newF oldA newA : List ℕ) → ℕ → Type 0
-SettlementThrough session kind number limit oldF newF oldA newA r =
-    ThroughSeat may_settle kind number r ((newF ≡ oldF) × (newA ≡ oldA)) (SettlementReturned (plain_ledger session) limit oldF newF oldA newA r)
+abbrev pub SettlementThrough : (session : List ℕ) (kind number limit : ℕ) (old_f new_f old_a new_a : List ℕ) → ℕ → Type 0
+SettlementThrough session kind number limit old_f new_f old_a new_a r =
+    ThroughSeat may_settle kind number r ((new_f ≡ old_f) × (new_a ≡ old_a)) (SettlementReturned (plain_ledger session) limit old_f new_f old_a new_a r)
 
 abbrev pub ForcingThrough : (session : List ℕ) (kind number m n : ℕ) (ps old new : List ℕ) → ℕ → Type 0
 ForcingThrough session kind number m n ps old new r =
@@ -92,29 +92,29 @@ module _ (session : List ℕ) (kind number : ℕ) where
           subst (λ (k : Ledger). CurveReturned k old new r) (session_ledger_lem session) (curve_returned l old new r w'.0 w'.1);
     }
 
-  module _ (limit : ℕ) (oldF newF oldA newA : List ℕ) (r : ℕ) where
+  module _ (limit : ℕ) (old_f new_f old_a new_a : List ℕ) (r : ℕ) where
     -- refused by n, or the figures and the award's bytes of the ledger l
     abbrev ToldBoth : ℕ → Ledger → Type 0
     ToldBoth n l =
         let m = settlement l in
-        (r ≡ host_number (value_answer n 0)) × (newF ≡ lent_after n (settlement_figures m) oldF) × (newA ≡ lent_after n (award_bytes m) oldA)
+        (r ≡ host_number (value_answer n 0)) × (new_f ≡ lent_after n (settlement_figures m) old_f) × (new_a ≡ lent_after n (award_bytes m) old_a)
 
     pub settlement_through :
-        let n = session_settlement_refusal session kind number limit (length oldF) (length oldA) in
-        r ≡ host_number (value_answer n 0) → newF ≡ lent_after n (session_settlement session) oldF →
-        newA ≡ lent_after n (award_bytes (settlement (session_ledger session))) oldA → SettlementThrough session kind number limit oldF newF oldA newA r
+        let n = session_settlement_refusal session kind number limit (length old_f) (length old_a) in
+        r ≡ host_number (value_answer n 0) → new_f ≡ lent_after n (session_settlement session) old_f →
+        new_a ≡ lent_after n (award_bytes (settlement (session_ledger session))) old_a → SettlementThrough session kind number limit old_f new_f old_a new_a r
     unfolding session_settlement_refusal session_settlement
     settlement_through e f g = record {
       barred = λ b.
           let w : ToldBoth 20 (session_ledger session) = subst (λ (k : ℕ). ToldBoth k (session_ledger session)) (rw b) (e, f, g) in
-          let v = refused_by 20 0 _ oldF newF r w.0 w.1 20 refl (λ z. omega arith) in
-          (v.0, (v.1, (refused_by 20 0 _ oldA newA r w.0 w.2 20 refl (λ z. omega arith)).1));
+          let v = refused_by 20 0 _ old_f new_f r w.0 w.1 20 refl (λ z. omega arith) in
+          (v.0, (v.1, (refused_by 20 0 _ old_a new_a r w.0 w.2 20 refl (λ z. omega arith)).1));
       allowed = λ b.
           let l = session_ledger session in
-          let n = settlement_refusal l limit (length oldF) (length oldA) in
+          let n = settlement_refusal l limit (length old_f) (length old_a) in
           let w : ToldBoth n l = subst (λ (k : ℕ). ToldBoth k l) (rw b) (e, f, g) in
-          let v = subst (λ (k : Ledger). ToldBoth (settlement_refusal k limit (length oldF) (length oldA)) k) (session_ledger_lem session) w in
-          settlement_returned (plain_calls session) limit oldF newF oldA newA r v.0 v.1 v.2;
+          let v = subst (λ (k : Ledger). ToldBoth (settlement_refusal k limit (length old_f) (length old_a)) k) (session_ledger_lem session) w in
+          settlement_returned (plain_calls session) limit old_f new_f old_a new_a r v.0 v.1 v.2;
     }
 
   pub forcing_through :
@@ -155,9 +155,9 @@ module _ (session : List ℕ) (kind number : ℕ) where
     forcing_through_determined m n ps = through_only _ alike (forcing_determined (plain_ledger session) m n ps old new new' r r')
 
   pub settlement_through_determined :
-      (limit : ℕ) (oldF newF newF' oldA newA newA' : List ℕ) (r r' : ℕ) → SettlementThrough session kind number limit oldF newF oldA newA r →
-      SettlementThrough session kind number limit oldF newF' oldA newA' r' → (r ≡ r') × (newF ≡ newF') × (newA ≡ newA')
-  settlement_through_determined limit oldF newF newF' oldA newA newA' r r' =
+      (limit : ℕ) (old_f new_f new_f' old_a new_a new_a' : List ℕ) (r r' : ℕ) → SettlementThrough session kind number limit old_f new_f old_a new_a r →
+      SettlementThrough session kind number limit old_f new_f' old_a new_a' r' → (r ≡ r') × (new_f ≡ new_f') × (new_a ≡ new_a')
+  settlement_through_determined limit old_f new_f new_f' old_a new_a new_a' r r' =
       through_only _
       (λ a b. (a.0 ∙ sym b.0, a.1.0 ∙ sym b.1.0, a.1.1 ∙ sym b.1.1))
-      (settlement_determined (plain_ledger session) limit oldF newF newF' oldA newA newA' r r')
+      (settlement_determined (plain_ledger session) limit old_f new_f new_f' old_a new_a new_a' r r')

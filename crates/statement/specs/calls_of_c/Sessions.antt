@@ -18,96 +18,96 @@ use Rattle.statement.specs.calls_of_c.ReadingReturned.{ReadingReturned, reading_
 use Rattle.statement.specs.calls_of_c.SeatLines.{SeatReturned, seat_returned, seat_determined, SeatsWritten, seats_written, SessionRecorded}
 use Rattle.statement.specs.calls_of_c.SeatLines.{session_recorded, recorded_determined}
 use Rattle.statement.specs.calls_of_c.DevelopersPromised.{DevelopersPromised, developers_promised}
-use Rattle.host.specs.contracts.session_replay.{signature as replay-signature}
-use Rattle.host.specs.contracts.session_reading.{signature as reading-signature}
-use Rattle.host.specs.contracts.session_preview.{signature as preview-signature}
-use Rattle.host.specs.contracts.session_curve.{signature as curve-signature}
-use Rattle.host.specs.contracts.session_settlement.{signature as settlement-signature}
-use Rattle.host.specs.contracts.session_forcing.{signature as forcing-signature}
-use Rattle.host.specs.contracts.session_record.{signature as record-signature}
-use Rattle.host.specs.contracts.write_seat.{signature as seat-signature}
-use Rattle.host.proofs.session_replay.Kinds as replay-kinds
-use Rattle.host.proofs.session_reading.Kinds as reading-kinds
-use Rattle.host.proofs.session_preview.Kinds as preview-kinds
-use Rattle.host.proofs.session_curve.Kinds as curve-kinds
-use Rattle.host.proofs.session_settlement.Kinds as settlement-kinds
-use Rattle.host.proofs.session_forcing.Kinds as forcing-kinds
-use Rattle.host.proofs.session_record.Kinds as record-kinds
-use Rattle.host.proofs.write_seat.Kinds as seat-kinds
-use Rattle.host.proofs.session_replay.Reads as replay-reads
-use Rattle.host.proofs.session_reading.Reads as reading-reads
-use Rattle.host.proofs.session_preview.Reads as preview-reads
-use Rattle.host.proofs.session_curve.Reads as curve-reads
-use Rattle.host.proofs.session_settlement.Reads as settlement-reads
-use Rattle.host.proofs.session_forcing.Reads as forcing-reads
+use Rattle.host.specs.contracts.session_replay.{signature as replay_signature}
+use Rattle.host.specs.contracts.session_reading.{signature as reading_signature}
+use Rattle.host.specs.contracts.session_preview.{signature as preview_signature}
+use Rattle.host.specs.contracts.session_curve.{signature as curve_signature}
+use Rattle.host.specs.contracts.session_settlement.{signature as settlement_signature}
+use Rattle.host.specs.contracts.session_forcing.{signature as forcing_signature}
+use Rattle.host.specs.contracts.session_record.{signature as record_signature}
+use Rattle.host.specs.contracts.write_seat.{signature as seat_signature}
+use Rattle.host.proofs.session_replay.Kinds as replay_kinds
+use Rattle.host.proofs.session_reading.Kinds as reading_kinds
+use Rattle.host.proofs.session_preview.Kinds as preview_kinds
+use Rattle.host.proofs.session_curve.Kinds as curve_kinds
+use Rattle.host.proofs.session_settlement.Kinds as settlement_kinds
+use Rattle.host.proofs.session_forcing.Kinds as forcing_kinds
+use Rattle.host.proofs.session_record.Kinds as record_kinds
+use Rattle.host.proofs.write_seat.Kinds as seat_kinds
+use Rattle.host.proofs.session_replay.Reads as replay_reads
+use Rattle.host.proofs.session_reading.Reads as reading_reads
+use Rattle.host.proofs.session_preview.Reads as preview_reads
+use Rattle.host.proofs.session_curve.Reads as curve_reads
+use Rattle.host.proofs.session_settlement.Reads as settlement_reads
+use Rattle.host.proofs.session_forcing.Reads as forcing_reads
 use Rattle.host.proofs.session_record.Reads as record_reads
-use Rattle.host.proofs.write_seat.Reads as seat-reads
-use Rattle.host.proofs.session_replay.Statement as replay-states
-use Rattle.host.proofs.session_reading.Statement as reading-states
-use Rattle.host.proofs.session_preview.Statement as preview-states
-use Rattle.host.proofs.session_curve.Statement as curve-states
-use Rattle.host.proofs.session_settlement.Statement as settlement-states
-use Rattle.host.proofs.session_forcing.Statement as forcing-states
-use Rattle.host.proofs.session_record.Statement as record-states
-use Rattle.host.proofs.write_seat.Statement as seat-states
-use Rattle.host.proofs.session_replay.Met as replay-met
-use Rattle.host.proofs.session_reading.Met as reading-met
-use Rattle.host.proofs.session_preview.Met as preview-met
-use Rattle.host.proofs.session_curve.Met as curve-met
-use Rattle.host.proofs.session_settlement.Met as settlement-met
-use Rattle.host.proofs.session_forcing.Met as forcing-met
-use Rattle.host.proofs.session_record.Met as record-met
-use Rattle.host.proofs.write_seat.Met as seat-met
+use Rattle.host.proofs.write_seat.Reads as seat_reads
+use Rattle.host.proofs.session_replay.Statement as replay_states
+use Rattle.host.proofs.session_reading.Statement as reading_states
+use Rattle.host.proofs.session_preview.Statement as preview_states
+use Rattle.host.proofs.session_curve.Statement as curve_states
+use Rattle.host.proofs.session_settlement.Statement as settlement_states
+use Rattle.host.proofs.session_forcing.Statement as forcing_states
+use Rattle.host.proofs.session_record.Statement as record_states
+use Rattle.host.proofs.write_seat.Statement as seat_states
+use Rattle.host.proofs.session_replay.Met as replay_met
+use Rattle.host.proofs.session_reading.Met as reading_met
+use Rattle.host.proofs.session_preview.Met as preview_met
+use Rattle.host.proofs.session_curve.Met as curve_met
+use Rattle.host.proofs.session_settlement.Met as settlement_met
+use Rattle.host.proofs.session_forcing.Met as forcing_met
+use Rattle.host.proofs.session_record.Met as record_met
+use Rattle.host.proofs.write_seat.Met as seat_met
 
 pub record SessionsMeet (M : Type 1) : Type 2 where
-  pub session_replay : replay-states.statement M
-  pub session_reading_lem : reading-states.statement M
-  pub session_preview_lem : preview-states.statement M
-  pub session_curve_lem : curve-states.statement M
-  pub session_settlement_lem : settlement-states.statement M
-  pub session_forcing : forcing-states.statement M
-  pub session_record_lem : record-states.statement M
-  pub write_seat : seat-states.statement M
+  pub session_replay : replay_states.statement M
+  pub session_reading_lem : reading_states.statement M
+  pub session_preview_lem : preview_states.statement M
+  pub session_curve_lem : curve_states.statement M
+  pub session_settlement_lem : settlement_states.statement M
+  pub session_forcing : forcing_states.statement M
+  pub session_record_lem : record_states.statement M
+  pub write_seat : seat_states.statement M
 
 pub record SessionsAsk : Type 1 where
-  pub session_replay : (κs : Lfts 2) (x : ArgsD replay-signature κs) → replay-reads.Pre κs x × replay-reads.Asked κs x
-  pub session_reading_lem : (κs : Lfts 2) (x : ArgsD reading-signature κs) → reading-reads.Pre κs x × reading-reads.Asked κs x
-  pub session_preview_lem : (κs : Lfts 2) (x : ArgsD preview-signature κs) → preview-reads.Pre κs x × preview-reads.Asked κs x
-  pub session_curve_lem : (κs : Lfts 2) (x : ArgsD curve-signature κs) → curve-reads.Pre κs x × curve-reads.Asked κs x
-  pub session_settlement_lem : (κs : Lfts 3) (x : ArgsD settlement-signature κs) → settlement-reads.Pre κs x × settlement-reads.Asked κs x
-  pub session_forcing : (κs : Lfts 3) (x : ArgsD forcing-signature κs) → forcing-reads.Pre κs x × forcing-reads.Asked κs x
-  pub session_record_lem : (κs : Lfts 2) (x : ArgsD record-signature κs) → record_reads.Pre κs x × record_reads.Asked κs x
-  pub write_seat : (κs : Lfts 1) (x : ArgsD seat-signature κs) → seat-reads.Pre κs x × seat-reads.Asked κs x
+  pub session_replay : (κs : Lfts 2) (x : ArgsD replay_signature κs) → replay_reads.Pre κs x × replay_reads.Asked κs x
+  pub session_reading_lem : (κs : Lfts 2) (x : ArgsD reading_signature κs) → reading_reads.Pre κs x × reading_reads.Asked κs x
+  pub session_preview_lem : (κs : Lfts 2) (x : ArgsD preview_signature κs) → preview_reads.Pre κs x × preview_reads.Asked κs x
+  pub session_curve_lem : (κs : Lfts 2) (x : ArgsD curve_signature κs) → curve_reads.Pre κs x × curve_reads.Asked κs x
+  pub session_settlement_lem : (κs : Lfts 3) (x : ArgsD settlement_signature κs) → settlement_reads.Pre κs x × settlement_reads.Asked κs x
+  pub session_forcing : (κs : Lfts 3) (x : ArgsD forcing_signature κs) → forcing_reads.Pre κs x × forcing_reads.Asked κs x
+  pub session_record_lem : (κs : Lfts 2) (x : ArgsD record_signature κs) → record_reads.Pre κs x × record_reads.Asked κs x
+  pub write_seat : (κs : Lfts 1) (x : ArgsD seat_signature κs) → seat_reads.Pre κs x × seat_reads.Asked κs x
 
 -- the arguments x: the session; kind of seat and number; the limit, or the two developers and the prices; what is lent. Of a seat written: kind, number
 -- and the bytes. y: the same at the call's end
 pub record SessionsReturn : Type 1 where
   pub session_replay :
-      (κs : Lfts 2) (x : ArgsD replay-signature κs) (r : ℕ) (y : AtExit (ended_of 2 replay-kinds.ps replay-kinds.r) κs) → replay-reads.Post κs x r y →
+      (κs : Lfts 2) (x : ArgsD replay_signature κs) (r : ℕ) (y : AtExit (ended_of 2 replay_kinds.ps replay_kinds.r) κs) → replay_reads.Post κs x r y →
       SessionReplayed x.0.now x.1.0.now y.1.0.now r
   pub session_reading_lem :
-      (κs : Lfts 2) (x : ArgsD reading-signature κs) (r : ℕ) (y : AtExit (ended_of 2 reading-kinds.ps reading-kinds.r) κs) → reading-reads.Post κs x r y →
+      (κs : Lfts 2) (x : ArgsD reading_signature κs) (r : ℕ) (y : AtExit (ended_of 2 reading_kinds.ps reading_kinds.r) κs) → reading_reads.Post κs x r y →
       ReadingReturned x.0.now x.1.0 x.1.1.0 x.1.1.1.0.now y.1.1.1.0.now r
   pub session_preview_lem :
-      (κs : Lfts 2) (x : ArgsD preview-signature κs) (r : ℕ) (y : AtExit (ended_of 2 preview-kinds.ps preview-kinds.r) κs) → preview-reads.Post κs x r y →
+      (κs : Lfts 2) (x : ArgsD preview_signature κs) (r : ℕ) (y : AtExit (ended_of 2 preview_kinds.ps preview_kinds.r) κs) → preview_reads.Post κs x r y →
       PreviewThrough x.0.now x.1.0 x.1.1.0 x.1.1.1.0.now y.1.1.1.0.now r
   pub session_curve_lem :
-      (κs : Lfts 2) (x : ArgsD curve-signature κs) (r : ℕ) (y : AtExit (ended_of 2 curve-kinds.ps curve-kinds.r) κs) → curve-reads.Post κs x r y →
+      (κs : Lfts 2) (x : ArgsD curve_signature κs) (r : ℕ) (y : AtExit (ended_of 2 curve_kinds.ps curve_kinds.r) κs) → curve_reads.Post κs x r y →
       CurveThrough x.0.now x.1.0 x.1.1.0 x.1.1.1.0.now y.1.1.1.0.now r
   pub session_settlement_lem :
-      (κs : Lfts 3) (x : ArgsD settlement-signature κs) (r : ℕ) (y : AtExit (ended_of 3 settlement-kinds.ps settlement-kinds.r) κs) →
-      settlement-reads.Post κs x r y →
+      (κs : Lfts 3) (x : ArgsD settlement_signature κs) (r : ℕ) (y : AtExit (ended_of 3 settlement_kinds.ps settlement_kinds.r) κs) →
+      settlement_reads.Post κs x r y →
       SettlementThrough x.0.now x.1.0 x.1.1.0 x.1.1.1.0 x.1.1.1.1.0.now y.1.1.1.1.0.now
       x.1.1.1.1.1.0.now y.1.1.1.1.1.0.now r
   pub session_forcing :
-      (κs : Lfts 3) (x : ArgsD forcing-signature κs) (r : ℕ) (y : AtExit (ended_of 3 forcing-kinds.ps forcing-kinds.r) κs) → forcing-reads.Post κs x r y →
+      (κs : Lfts 3) (x : ArgsD forcing_signature κs) (r : ℕ) (y : AtExit (ended_of 3 forcing_kinds.ps forcing_kinds.r) κs) → forcing_reads.Post κs x r y →
       ForcingThrough x.0.now x.1.0 x.1.1.0 x.1.1.1.0 x.1.1.1.1.0 x.1.1.1.1.1.0.now
       x.1.1.1.1.1.1.0.now y.1.1.1.1.1.1.0.now r
   pub session_record_lem :
-      (κs : Lfts 2) (x : ArgsD record-signature κs) (r : ℕ) (y : AtExit (ended_of 2 record-kinds.ps record-kinds.r) κs) → record_reads.Post κs x r y →
+      (κs : Lfts 2) (x : ArgsD record_signature κs) (r : ℕ) (y : AtExit (ended_of 2 record_kinds.ps record_kinds.r) κs) → record_reads.Post κs x r y →
       SessionRecorded x.0.now x.1.0.now y.1.0.now r
   pub write_seat :
-      (κs : Lfts 1) (x : ArgsD seat-signature κs) (r : ℕ) (y : AtExit (ended_of 1 seat-kinds.ps seat-kinds.r) κs) → seat-reads.Post κs x r y →
+      (κs : Lfts 1) (x : ArgsD seat_signature κs) (r : ℕ) (y : AtExit (ended_of 1 seat_kinds.ps seat_kinds.r) κs) → seat_reads.Post κs x r y →
       SeatReturned x.0 x.1.0 x.1.1.0.now y.1.1.0.now r
 
 -- what is stated leaves nothing free: neither the replies, line by line, nor what C gets and what was lent
@@ -125,9 +125,9 @@ pub record SessionsDetermined : Type 0 where
       (session : List ℕ) (kind number : ℕ) (old new new' : List ℕ) (r r' : ℕ) → CurveThrough session kind number old new r →
       CurveThrough session kind number old new' r' → (r ≡ r') × (new ≡ new')
   pub session_settlement_lem :
-      (session : List ℕ) (kind number limit : ℕ) (oldF newF newF' oldA newA newA' : List ℕ) (r r' : ℕ) →
-      SettlementThrough session kind number limit oldF newF oldA newA r → SettlementThrough session kind number limit oldF newF' oldA newA' r' →
-      (r ≡ r') × (newF ≡ newF') × (newA ≡ newA')
+      (session : List ℕ) (kind number limit : ℕ) (old_f new_f new_f' old_a new_a new_a' : List ℕ) (r r' : ℕ) →
+      SettlementThrough session kind number limit old_f new_f old_a new_a r → SettlementThrough session kind number limit old_f new_f' old_a new_a' r' →
+      (r ≡ r') × (new_f ≡ new_f') × (new_a ≡ new_a')
   pub session_forcing :
       (session : List ℕ) (kind number m n : ℕ) (ps old new new' : List ℕ) (r r' : ℕ) → ForcingThrough session kind number m n ps old new r →
       ForcingThrough session kind number m n ps old new' r' → (r ≡ r') × (new ≡ new')
@@ -152,14 +152,14 @@ pub record SessionsExported (M : Type 1) : Type 2 where
 
 sessions_meet : {M : Type 1} → SessionsMeet M
 sessions_meet = record {
-  session_replay = replay-met.met;
-  session_reading_lem = reading-met.met;
-  session_preview_lem = preview-met.met;
-  session_curve_lem = curve-met.met;
-  session_settlement_lem = settlement-met.met;
-  session_forcing = forcing-met.met;
-  session_record_lem = record-met.met;
-  write_seat = seat-met.met;
+  session_replay = replay_met.met;
+  session_reading_lem = reading_met.met;
+  session_preview_lem = preview_met.met;
+  session_curve_lem = curve_met.met;
+  session_settlement_lem = settlement_met.met;
+  session_forcing = forcing_met.met;
+  session_record_lem = record_met.met;
+  write_seat = seat_met.met;
 }
 
 sessions_ask : SessionsAsk
@@ -184,9 +184,9 @@ module _ (session : List ℕ) (kind number : ℕ) where
   curve_told : (old new : List ℕ) (r : ℕ) → TellsCurveThrough session kind number old new r → CurveThrough session kind number old new r
   curve_told old new r w = curve_through session kind number old new r (w.number, w.lent)
 
-  settlement_told : (limit : ℕ) (oldF newF oldA newA : List ℕ) (r : ℕ) → TellsSettlementThrough session kind number limit oldF newF oldA newA r →
-      SettlementThrough session kind number limit oldF newF oldA newA r
-  settlement_told limit oldF newF oldA newA r w = settlement_through session kind number limit oldF newF oldA newA r w.number w.lent w.awards
+  settlement_told : (limit : ℕ) (old_f new_f old_a new_a : List ℕ) (r : ℕ) → TellsSettlementThrough session kind number limit old_f new_f old_a new_a r →
+      SettlementThrough session kind number limit old_f new_f old_a new_a r
+  settlement_told limit old_f new_f old_a new_a r w = settlement_through session kind number limit old_f new_f old_a new_a r w.number w.lent w.awards
 
   forcing_told : (m n : ℕ) (ps old new : List ℕ) (r : ℕ) → TellsForcingThrough session kind number m n ps old new r →
       ForcingThrough session kind number m n ps old new r
@@ -214,8 +214,8 @@ sessions_determined = record {
   session_reading_lem = reading_determined;
   session_preview_lem = λ session kind number old new new' r r'. preview_through_determined session kind number old new new' r r';
   session_curve_lem = λ session kind number old new new' r r'. curve_through_determined session kind number old new new' r r';
-  session_settlement_lem = λ session kind number limit oldF newF newF' oldA newA newA' r r'.
-      settlement_through_determined session kind number limit oldF newF newF' oldA newA newA' r r';
+  session_settlement_lem = λ session kind number limit old_f new_f new_f' old_a new_a new_a' r r'.
+      settlement_through_determined session kind number limit old_f new_f new_f' old_a new_a new_a' r r';
   session_forcing = λ session kind number m n ps old new new' r r'. forcing_through_determined session kind number old new new' r r' m n ps;
   session_record_lem = recorded_determined;
   write_seat = seat_determined;

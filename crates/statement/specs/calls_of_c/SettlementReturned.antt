@@ -20,7 +20,7 @@ use Rattle.engine_settling.specs.declared.Settled.{Settled}
 use Rattle.record_replay.specs.host_numbers.HostNumbers.{value_answer, host_number}
 use Rattle.statement.specs.settling.Stated.{Within, Stated}
 use Rattle.statement.specs.settling.StatedLaws.{open_number, outnumbered, too_short, fitting, stated_taken, stated_refused}
-use Rattle.statement.specs.settling.Determined.{determined as stated-only}
+use Rattle.statement.specs.settling.Determined.{determined as stated_only}
 use Rattle.statement.specs.calls_of_c.HostValues.{Given, refused_by, value_given, figures_refused, figures_short, figures_fit, given_only}
 
 -- price, demand, remainder, total, choices, covering, kept, second price, short, insufficient, price paid, number of award records
@@ -29,28 +29,28 @@ settled_figures x =
     x.price ∷ x.demand ∷ x.remainder ∷ x.total ∷ x.choices ∷ x.covering ∷ x.kept ∷ x.second
     ∷ one_if x.short ∷ one_if x.insufficient ∷ x.paid ∷ x.records ∷ []
 
--- `oldF` and `newF` are the lent numbers before and after, `oldA` and `newA` the lent bytes, r is what C gets
+-- `old_f` and `new_f` are the lent numbers before and after, `old_a` and `new_a` the lent bytes, r is what C gets
 
 -- an answer as stated: what C gets is 0 or 2^64 less its number, and the numbers are its figures, or as they were
-pub record SettlementGiven (l : Ledger) (limit : ℕ) (oldF newF oldA newA : List ℕ) (r : ℕ) : Type 0 where
+pub record SettlementGiven (l : Ledger) (limit : ℕ) (old_f new_f old_a new_a : List ℕ) (r : ℕ) : Type 0 where
   pub settled : Settled
-  pub as_stated : Stated l limit oldA newA settled
-  pub figures : Given settled.number 0 (settled_figures settled) oldF newF r
+  pub as_stated : Stated l limit old_a new_a settled
+  pub figures : Given settled.number 0 (settled_figures settled) old_f new_f r
 
 -- by 2 where the auction is not closed, by 10 where the choices outnumber the limit, as stated, else by 11; numbers and bytes stay
-pub record SettlementUnwritten (l : Ledger) (limit : ℕ) (oldF newF oldA newA : List ℕ) (r : ℕ) : Type 0 where
+pub record SettlementUnwritten (l : Ledger) (limit : ℕ) (old_f new_f old_a new_a : List ℕ) (r : ℕ) : Type 0 where
   pub not_closed : is_closed l.phase ≡ false → r ≡ 2 ^ 64 - 2
   pub by_10 : is_closed l.phase ≡ true → (Within l limit → ⊥) → r ≡ 2 ^ 64 - 10
   pub by_11 : is_closed l.phase ≡ true → Within l limit → r ≡ 2 ^ 64 - 11
-  pub untouched : (newF ≡ oldF) × (newA ≡ oldA)
+  pub untouched : (new_f ≡ old_f) × (new_a ≡ old_a)
 
-pub record SettlementReturned (l : Ledger) (limit : ℕ) (oldF newF oldA newA : List ℕ) (r : ℕ) : Type 0 where
-  pub fit : 12 ≤ length oldF → SettlementGiven l limit oldF newF oldA newA r
-  pub too_short : length oldF < 12 → SettlementUnwritten l limit oldF newF oldA newA r
+pub record SettlementReturned (l : Ledger) (limit : ℕ) (old_f new_f old_a new_a : List ℕ) (r : ℕ) : Type 0 where
+  pub fit : 12 ≤ length old_f → SettlementGiven l limit old_f new_f old_a new_a r
+  pub too_short : length old_f < 12 → SettlementUnwritten l limit old_f new_f old_a new_a r
 
 -- ---- by the definitions
 
-module _ (cs : List Call) (limit : ℕ) (oldF newF oldA newA : List ℕ) (r : ℕ) where
+module _ (cs : List Call) (limit : ℕ) (old_f new_f old_a new_a : List ℕ) (r : ℕ) where
   abbrev l : Ledger
   l = ledger cs
 
@@ -59,94 +59,94 @@ module _ (cs : List Call) (limit : ℕ) (oldF newF oldA newA : List ℕ) (r : �
 
   -- settling's own number
   abbrev k : ℕ
-  k = settling_refusal l limit (length oldA)
+  k = settling_refusal l limit (length old_a)
 
   abbrev n : ℕ
-  n = settlement_refusal l limit (length oldF) (length oldA)
+  n = settlement_refusal l limit (length old_f) (length old_a)
 
-  module _ (e : r ≡ host_number (value_answer n 0)) (f : newF ≡ lent_after n (settlement_figures m) oldF) (g : newA ≡ lent_after n (award_bytes m) oldA) where
-    figures_taken : n ≡ 0 → Given 0 0 (settlement_figures m) oldF newF r
-    figures_taken z = record { refused = λ x. absurd (x refl); given = λ x. value_given n 0 (settlement_figures m) oldF newF r e f z }
+  module _ (e : r ≡ host_number (value_answer n 0)) (f : new_f ≡ lent_after n (settlement_figures m) old_f) (g : new_a ≡ lent_after n (award_bytes m) old_a) where
+    figures_taken : n ≡ 0 → Given 0 0 (settlement_figures m) old_f new_f r
+    figures_taken z = record { refused = λ x. absurd (x refl); given = λ x. value_given n 0 (settlement_figures m) old_f new_f r e f z }
 
-    taken : n ≡ 0 → k ≡ 0 → SettlementGiven l limit oldF newF oldA newA r
+    taken : n ≡ 0 → k ≡ 0 → SettlementGiven l limit old_f new_f old_a new_a r
     unfolding settlement_figures
     taken z y =
-        let b = value_given n 0 (award_bytes m) oldA newA r e g z in
-        record { settled = settled_as m; as_stated = rw b.1 (stated_taken cs limit oldA y); figures = figures_taken z }
+        let b = value_given n 0 (award_bytes m) old_a new_a r e g z in
+        record { settled = settled_as m; as_stated = rw b.1 (stated_taken cs limit old_a y); figures = figures_taken z }
 
-    figures_stay : n ≡ k → (k ≡ 0 → ⊥) → Given k 0 (settled_figures (refused_with k)) oldF newF r
-    figures_stay h y = record { refused = λ x. refused_by n 0 (settlement_figures m) oldF newF r e f k h y; given = λ x. absurd (y x) }
+    figures_stay : n ≡ k → (k ≡ 0 → ⊥) → Given k 0 (settled_figures (refused_with k)) old_f new_f r
+    figures_stay h y = record { refused = λ x. refused_by n 0 (settlement_figures m) old_f new_f r e f k h y; given = λ x. absurd (y x) }
 
-    not_taken : n ≡ k → (k ≡ 0 → ⊥) → SettlementGiven l limit oldF newF oldA newA r
+    not_taken : n ≡ k → (k ≡ 0 → ⊥) → SettlementGiven l limit old_f new_f old_a new_a r
     not_taken h y =
-        let b = refused_by n 0 (award_bytes m) oldA newA r e g k h y in
-        record { settled = refused_with k; as_stated = rw b.1 (stated_refused cs limit oldA k refl y); figures = figures_stay h y }
+        let b = refused_by n 0 (award_bytes m) old_a new_a r e g k h y in
+        record { settled = refused_with k; as_stated = rw b.1 (stated_refused cs limit old_a k refl y); figures = figures_stay h y }
 
-    written : 12 ≤ length oldF → SettlementGiven l limit oldF newF oldA newA r
+    written : 12 ≤ length old_f → SettlementGiven l limit old_f new_f old_a new_a r
     unfolding settlement_refusal settlement_figures
     written h = go (eqb k 0) refl
       where
-        go : (b : Bool) → eqb k 0 ≡ b → SettlementGiven l limit oldF newF oldA newA r
-        go true t = let z = eqb-true k 0 t in taken (figures_fit k (settlement_figures m) (length oldF) z h) z
-        go false t = let z = eqb-false k 0 t in not_taken (figures_refused k (settlement_figures m) (length oldF) z) z
+        go : (b : Bool) → eqb k 0 ≡ b → SettlementGiven l limit old_f new_f old_a new_a r
+        go true t = let z = eqb-true k 0 t in taken (figures_fit k (settlement_figures m) (length old_f) z h) z
+        go false t = let z = eqb-false k 0 t in not_taken (figures_refused k (settlement_figures m) (length old_f) z) z
 
     -- by the number v
-    unwritten : (v : ℕ) → n ≡ v → (v ≡ 0 → ⊥) → (r ≡ 2 ^ 64 - v) × (newF ≡ oldF) × (newA ≡ oldA)
+    unwritten : (v : ℕ) → n ≡ v → (v ≡ 0 → ⊥) → (r ≡ 2 ^ 64 - v) × (new_f ≡ old_f) × (new_a ≡ old_a)
     unwritten v h z =
-        let a = refused_by n 0 (settlement_figures m) oldF newF r e f v h z in
-        (a.0, a.1, (refused_by n 0 (award_bytes m) oldA newA r e g v h z).1)
+        let a = refused_by n 0 (settlement_figures m) old_f new_f r e f v h z in
+        (a.0, a.1, (refused_by n 0 (award_bytes m) old_a new_a r e g v h z).1)
 
-    module _ (short : length oldF < 12) where
+    module _ (short : length old_f < 12) where
       refused_first : (k ≡ 0 → ⊥) → n ≡ k
       unfolding settlement_refusal settlement_figures
-      refused_first z = figures_refused k (settlement_figures m) (length oldF) z
+      refused_first z = figures_refused k (settlement_figures m) (length old_f) z
 
       refused_last : k ≡ 0 → n ≡ 11
       unfolding settlement_refusal settlement_figures
-      refused_last z = figures_short k (settlement_figures m) (length oldF) z short
+      refused_last z = figures_short k (settlement_figures m) (length old_f) z short
 
       by_its_own : (v : ℕ) → k ≡ v → (v ≡ 0 → ⊥) → r ≡ 2 ^ 64 - v
       by_its_own v h z = (unwritten v (refused_first (λ y. z (sym h ∙ y)) ∙ h) z).0
 
       by_eleven : is_closed l.phase ≡ true → Within l limit → r ≡ 2 ^ 64 - 11
       by_eleven c w = ⊎_elim
-          (λ x. (unwritten 11 (refused_last (fitting l limit oldA k refl c w x)) (λ z. omega arith)).0)
-          (λ x. by_its_own 11 (too_short l limit oldA k refl c w (λ y. omega arith)) (λ z. omega arith))
-          (le_or_lt (6 * length (records l (closing_price l))) (length oldA))
+          (λ x. (unwritten 11 (refused_last (fitting l limit old_a k refl c w x)) (λ z. omega arith)).0)
+          (λ x. by_its_own 11 (too_short l limit old_a k refl c w (λ y. omega arith)) (λ z. omega arith))
+          (le_or_lt (6 * length (records l (closing_price l))) (length old_a))
 
-      stays : (newF ≡ oldF) × (newA ≡ oldA)
+      stays : (new_f ≡ old_f) × (new_a ≡ old_a)
       stays = go (eqb k 0) refl
         where
-          go : (b : Bool) → eqb k 0 ≡ b → (newF ≡ oldF) × (newA ≡ oldA)
+          go : (b : Bool) → eqb k 0 ≡ b → (new_f ≡ old_f) × (new_a ≡ old_a)
           go true t = let u = unwritten 11 (refused_last (eqb-true k 0 t)) (λ z. omega arith) in (u.1, u.2)
           go false t = let z = eqb-false k 0 t in let u = unwritten k (refused_first z) z in (u.1, u.2)
 
-      not_written : SettlementUnwritten l limit oldF newF oldA newA r
+      not_written : SettlementUnwritten l limit old_f new_f old_a new_a r
       not_written = record {
-        not_closed = λ c. by_its_own 2 (open_number l limit oldA k refl c) (λ z. omega arith);
-        by_10 = λ c w. by_its_own 10 (outnumbered l limit oldA k refl c w) (λ z. omega arith);
+        not_closed = λ c. by_its_own 2 (open_number l limit old_a k refl c) (λ z. omega arith);
+        by_10 = λ c w. by_its_own 10 (outnumbered l limit old_a k refl c w) (λ z. omega arith);
         by_11 = by_eleven;
         untouched = stays;
       }
 
-    pub settlement_returned : SettlementReturned l limit oldF newF oldA newA r
+    pub settlement_returned : SettlementReturned l limit old_f new_f old_a new_a r
     settlement_returned = record { fit = written; too_short = not_written }
 
 -- ---- and nothing else is
 
-module _ (l : Ledger) (limit : ℕ) (oldF newF newF' oldA newA newA' : List ℕ) (r r' : ℕ) where
+module _ (l : Ledger) (limit : ℕ) (old_f new_f new_f' old_a new_a new_a' : List ℕ) (r r' : ℕ) where
   abbrev Same : Type 0
-  Same = (r ≡ r') × (newF ≡ newF') × (newA ≡ newA')
+  Same = (r ≡ r') × (new_f ≡ new_f') × (new_a ≡ new_a')
 
-  given_alike : SettlementGiven l limit oldF newF oldA newA r → SettlementGiven l limit oldF newF' oldA newA' r' → Same
+  given_alike : SettlementGiven l limit old_f new_f old_a new_a r → SettlementGiven l limit old_f new_f' old_a new_a' r' → Same
   given_alike x y =
-      let d = stated-only l limit oldA newA newA' x.settled y.settled x.as_stated y.as_stated in
-      let w : Given x.settled.number 0 (settled_figures x.settled) oldF newF' r' =
-      subst (λ (s : Settled). Given s.number 0 (settled_figures s) oldF newF' r') (sym d.0) y.figures in
-      let v = given_only _ 0 _ oldF newF newF' r r' x.figures w in
+      let d = stated_only l limit old_a new_a new_a' x.settled y.settled x.as_stated y.as_stated in
+      let w : Given x.settled.number 0 (settled_figures x.settled) old_f new_f' r' =
+      subst (λ (s : Settled). Given s.number 0 (settled_figures s) old_f new_f' r') (sym d.0) y.figures in
+      let v = given_only _ 0 _ old_f new_f new_f' r r' x.figures w in
       (v.0, v.1, d.1)
 
-  module _ (x : SettlementUnwritten l limit oldF newF oldA newA r) (y : SettlementUnwritten l limit oldF newF' oldA newA' r') where
+  module _ (x : SettlementUnwritten l limit old_f new_f old_a new_a r) (y : SettlementUnwritten l limit old_f new_f' old_a new_a' r') where
     same_number : r ≡ r'
     same_number = go (is_closed l.phase) refl
       where
@@ -161,9 +161,9 @@ module _ (l : Ledger) (limit : ℕ) (oldF newF newF' oldA newA newA' : List ℕ)
     unwritten_alike = (same_number, x.untouched.0 ∙ sym y.untouched.0, x.untouched.1 ∙ sym y.untouched.1)
 
   pub settlement_determined :
-      SettlementReturned l limit oldF newF oldA newA r → SettlementReturned l limit oldF newF' oldA newA' r' →
-      (r ≡ r') × (newF ≡ newF') × (newA ≡ newA')
+      SettlementReturned l limit old_f new_f old_a new_a r → SettlementReturned l limit old_f new_f' old_a new_a' r' →
+      (r ≡ r') × (new_f ≡ new_f') × (new_a ≡ new_a')
   settlement_determined x y = ⊎_elim
       (λ h. given_alike (x.fit h) (y.fit h))
       (λ h. unwritten_alike (x.too_short h) (y.too_short h))
-      (le_or_lt 12 (length oldF))
+      (le_or_lt 12 (length old_f))

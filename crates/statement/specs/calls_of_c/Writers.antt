@@ -19,51 +19,51 @@ use Rattle.rules_replies.specs.WrittenOrderLaws.{order_reads}
 use Rattle.frame_writing.specs.each_call.Writes.{registration, registration_for}
 use Rattle.host.specs.Writing.{host_bytes, HostWrites}
 use Rattle.statement.specs.calls_of_c.HostValues.{accepted_value, refused_value}
-use Rattle.host.specs.contracts.write_set_up.{signature as set-up-signature}
-use Rattle.host.specs.contracts.write_registration.{signature as registration-signature}
-use Rattle.host.specs.contracts.write_registration_for.{signature as registration-for-signature}
-use Rattle.host.specs.contracts.write_opening.{signature as opening-signature}
-use Rattle.host.specs.contracts.write_offer.{signature as offer-signature}
-use Rattle.host.specs.contracts.write_lodging.{signature as lodging-signature}
-use Rattle.host.specs.contracts.write_cancellation.{signature as cancellation-signature}
-use Rattle.host.specs.contracts.write_closing.{signature as closing-signature}
-use Rattle.host.specs.contracts.write_settling.{signature as settling-signature}
-use Rattle.host.proofs.write_set_up.Kinds as set-up-kinds
-use Rattle.host.proofs.write_registration.Kinds as registration-kinds
-use Rattle.host.proofs.write_registration_for.Kinds as registration-for-kinds
-use Rattle.host.proofs.write_opening.Kinds as opening-kinds
-use Rattle.host.proofs.write_offer.Kinds as offer-kinds
-use Rattle.host.proofs.write_lodging.Kinds as lodging-kinds
-use Rattle.host.proofs.write_cancellation.Kinds as cancellation-kinds
-use Rattle.host.proofs.write_closing.Kinds as closing-kinds
-use Rattle.host.proofs.write_settling.Kinds as settling-kinds
-use Rattle.host.proofs.write_set_up.Reads as set-up-reads
-use Rattle.host.proofs.write_registration.Reads as registration-reads
-use Rattle.host.proofs.write_registration_for.Reads as registration-for-reads
-use Rattle.host.proofs.write_opening.Reads as opening-reads
-use Rattle.host.proofs.write_offer.Reads as offer-reads
-use Rattle.host.proofs.write_lodging.Reads as lodging-reads
-use Rattle.host.proofs.write_cancellation.Reads as cancellation-reads
+use Rattle.host.specs.contracts.write_set_up.{signature as set_up_signature}
+use Rattle.host.specs.contracts.write_registration.{signature as registration_signature}
+use Rattle.host.specs.contracts.write_registration_for.{signature as registration_for_signature}
+use Rattle.host.specs.contracts.write_opening.{signature as opening_signature}
+use Rattle.host.specs.contracts.write_offer.{signature as offer_signature}
+use Rattle.host.specs.contracts.write_lodging.{signature as lodging_signature}
+use Rattle.host.specs.contracts.write_cancellation.{signature as cancellation_signature}
+use Rattle.host.specs.contracts.write_closing.{signature as closing_signature}
+use Rattle.host.specs.contracts.write_settling.{signature as settling_signature}
+use Rattle.host.proofs.write_set_up.Kinds as set_up_kinds
+use Rattle.host.proofs.write_registration.Kinds as registration_kinds
+use Rattle.host.proofs.write_registration_for.Kinds as registration_for_kinds
+use Rattle.host.proofs.write_opening.Kinds as opening_kinds
+use Rattle.host.proofs.write_offer.Kinds as offer_kinds
+use Rattle.host.proofs.write_lodging.Kinds as lodging_kinds
+use Rattle.host.proofs.write_cancellation.Kinds as cancellation_kinds
+use Rattle.host.proofs.write_closing.Kinds as closing_kinds
+use Rattle.host.proofs.write_settling.Kinds as settling_kinds
+use Rattle.host.proofs.write_set_up.Reads as set_up_reads
+use Rattle.host.proofs.write_registration.Reads as registration_reads
+use Rattle.host.proofs.write_registration_for.Reads as registration_for_reads
+use Rattle.host.proofs.write_opening.Reads as opening_reads
+use Rattle.host.proofs.write_offer.Reads as offer_reads
+use Rattle.host.proofs.write_lodging.Reads as lodging_reads
+use Rattle.host.proofs.write_cancellation.Reads as cancellation_reads
 use Rattle.host.proofs.write_closing.Reads as closing_reads
 use Rattle.host.proofs.write_settling.Reads as settling_reads
-use Rattle.host.proofs.write_set_up.Statement as set-up-states
-use Rattle.host.proofs.write_registration.Statement as registration-states
-use Rattle.host.proofs.write_registration_for.Statement as registration-for-states
-use Rattle.host.proofs.write_opening.Statement as opening-states
-use Rattle.host.proofs.write_offer.Statement as offer-states
-use Rattle.host.proofs.write_lodging.Statement as lodging-states
-use Rattle.host.proofs.write_cancellation.Statement as cancellation-states
-use Rattle.host.proofs.write_closing.Statement as closing-states
-use Rattle.host.proofs.write_settling.Statement as settling-states
-use Rattle.host.proofs.write_set_up.Met as set-up-met
-use Rattle.host.proofs.write_registration.Met as registration-met
-use Rattle.host.proofs.write_registration_for.Met as registration-for-met
-use Rattle.host.proofs.write_opening.Met as opening-met
-use Rattle.host.proofs.write_offer.Met as offer-met
-use Rattle.host.proofs.write_lodging.Met as lodging-met
-use Rattle.host.proofs.write_cancellation.Met as cancellation-met
-use Rattle.host.proofs.write_closing.Met as closing-met
-use Rattle.host.proofs.write_settling.Met as settling-met
+use Rattle.host.proofs.write_set_up.Statement as set_up_states
+use Rattle.host.proofs.write_registration.Statement as registration_states
+use Rattle.host.proofs.write_registration_for.Statement as registration_for_states
+use Rattle.host.proofs.write_opening.Statement as opening_states
+use Rattle.host.proofs.write_offer.Statement as offer_states
+use Rattle.host.proofs.write_lodging.Statement as lodging_states
+use Rattle.host.proofs.write_cancellation.Statement as cancellation_states
+use Rattle.host.proofs.write_closing.Statement as closing_states
+use Rattle.host.proofs.write_settling.Statement as settling_states
+use Rattle.host.proofs.write_set_up.Met as set_up_met
+use Rattle.host.proofs.write_registration.Met as registration_met
+use Rattle.host.proofs.write_registration_for.Met as registration_for_met
+use Rattle.host.proofs.write_opening.Met as opening_met
+use Rattle.host.proofs.write_offer.Met as offer_met
+use Rattle.host.proofs.write_lodging.Met as lodging_met
+use Rattle.host.proofs.write_cancellation.Met as cancellation_met
+use Rattle.host.proofs.write_closing.Met as closing_met
+use Rattle.host.proofs.write_settling.Met as settling_met
 
 -- of the order o; `old` and `new` are the lent buffer before and after, r is what C gets
 pub record FrameReturned (o : Order) (old new : List ℕ) (r : ℕ) : Type 0 where
@@ -74,61 +74,61 @@ pub record FrameReturned (o : Order) (old new : List ℕ) (r : ℕ) : Type 0 whe
       (r ≡ length (frame_of_order o)) × (new ≡ laid (frame_of_order o) old) × (order_in (line_of (raw_of o)) ≡ o)
 
 pub record WritersMeet (M : Type 1) : Type 2 where
-  pub write_set_up : set-up-states.statement M
-  pub write_registration : registration-states.statement M
-  pub write_registration_for : registration-for-states.statement M
-  pub write_opening : opening-states.statement M
-  pub write_offer : offer-states.statement M
-  pub write_lodging : lodging-states.statement M
-  pub write_cancellation : cancellation-states.statement M
-  pub write_closing : closing-states.statement M
-  pub write_settling : settling-states.statement M
+  pub write_set_up : set_up_states.statement M
+  pub write_registration : registration_states.statement M
+  pub write_registration_for : registration_for_states.statement M
+  pub write_opening : opening_states.statement M
+  pub write_offer : offer_states.statement M
+  pub write_lodging : lodging_states.statement M
+  pub write_cancellation : cancellation_states.statement M
+  pub write_closing : closing_states.statement M
+  pub write_settling : settling_states.statement M
 
 pub record WritersAsk : Type 1 where
-  pub write_set_up : (κs : Lfts 1) (x : ArgsD set-up-signature κs) → set-up-reads.Pre κs x × set-up-reads.Asked κs x
-  pub write_registration : (κs : Lfts 2) (x : ArgsD registration-signature κs) → registration-reads.Pre κs x × registration-reads.Asked κs x
-  pub write_registration_for : (κs : Lfts 2) (x : ArgsD registration-for-signature κs) → registration-for-reads.Pre κs x × registration-for-reads.Asked κs x
-  pub write_opening : (κs : Lfts 1) (x : ArgsD opening-signature κs) → opening-reads.Pre κs x × opening-reads.Asked κs x
-  pub write_offer : (κs : Lfts 3) (x : ArgsD offer-signature κs) → offer-reads.Pre κs x × offer-reads.Asked κs x
-  pub write_lodging : (κs : Lfts 3) (x : ArgsD lodging-signature κs) → lodging-reads.Pre κs x × lodging-reads.Asked κs x
-  pub write_cancellation : (κs : Lfts 1) (x : ArgsD cancellation-signature κs) → cancellation-reads.Pre κs x × cancellation-reads.Asked κs x
-  pub write_closing : (κs : Lfts 1) (x : ArgsD closing-signature κs) → closing_reads.Pre κs x × closing_reads.Asked κs x
-  pub write_settling : (κs : Lfts 1) (x : ArgsD settling-signature κs) → settling_reads.Pre κs x × settling_reads.Asked κs x
+  pub write_set_up : (κs : Lfts 1) (x : ArgsD set_up_signature κs) → set_up_reads.Pre κs x × set_up_reads.Asked κs x
+  pub write_registration : (κs : Lfts 2) (x : ArgsD registration_signature κs) → registration_reads.Pre κs x × registration_reads.Asked κs x
+  pub write_registration_for : (κs : Lfts 2) (x : ArgsD registration_for_signature κs) → registration_for_reads.Pre κs x × registration_for_reads.Asked κs x
+  pub write_opening : (κs : Lfts 1) (x : ArgsD opening_signature κs) → opening_reads.Pre κs x × opening_reads.Asked κs x
+  pub write_offer : (κs : Lfts 3) (x : ArgsD offer_signature κs) → offer_reads.Pre κs x × offer_reads.Asked κs x
+  pub write_lodging : (κs : Lfts 3) (x : ArgsD lodging_signature κs) → lodging_reads.Pre κs x × lodging_reads.Asked κs x
+  pub write_cancellation : (κs : Lfts 1) (x : ArgsD cancellation_signature κs) → cancellation_reads.Pre κs x × cancellation_reads.Asked κs x
+  pub write_closing : (κs : Lfts 1) (x : ArgsD closing_signature κs) → closing_reads.Pre κs x × closing_reads.Asked κs x
+  pub write_settling : (κs : Lfts 1) (x : ArgsD settling_signature κs) → settling_reads.Pre κs x × settling_reads.Asked κs x
 
 -- the arguments x: as the order names them, then the buffer; y: the same at the call's end
 pub record WritersReturn : Type 1 where
   pub write_set_up :
-      (κs : Lfts 1) (x : ArgsD set-up-signature κs) (r : ℕ) (y : AtExit (ended_of 1 set-up-kinds.ps set-up-kinds.r) κs) →
-      set-up-reads.Post κs x r y →
+      (κs : Lfts 1) (x : ArgsD set_up_signature κs) (r : ℕ) (y : AtExit (ended_of 1 set_up_kinds.ps set_up_kinds.r) κs) →
+      set_up_reads.Post κs x r y →
       FrameReturned (Asks (SetUp (settings_of x.0 x.1.0 x.1.1.0 x.1.1.1.0 x.1.1.1.1.0)))
       x.1.1.1.1.1.0.now y.1.1.1.1.1.0.now r
   pub write_registration :
-      (κs : Lfts 2) (x : ArgsD registration-signature κs) (r : ℕ) (y : AtExit (ended_of 2 registration-kinds.ps registration-kinds.r) κs) →
-      registration-reads.Post κs x r y →
+      (κs : Lfts 2) (x : ArgsD registration_signature κs) (r : ℕ) (y : AtExit (ended_of 2 registration_kinds.ps registration_kinds.r) κs) →
+      registration_reads.Post κs x r y →
       FrameReturned (registration x.0 x.1.0 x.1.1.0 x.1.1.1.0 x.1.1.1.1.0 x.1.1.1.1.1.0.now)
       x.1.1.1.1.1.1.0.now y.1.1.1.1.1.1.0.now r
   pub write_registration_for :
-      (κs : Lfts 2) (x : ArgsD registration-for-signature κs) (r : ℕ) (y : AtExit (ended_of 2 registration-for-kinds.ps registration-for-kinds.r) κs) →
-      registration-for-reads.Post κs x r y →
+      (κs : Lfts 2) (x : ArgsD registration_for_signature κs) (r : ℕ) (y : AtExit (ended_of 2 registration_for_kinds.ps registration_for_kinds.r) κs) →
+      registration_for_reads.Post κs x r y →
       FrameReturned (registration_for x.0 x.1.0 x.1.1.0 x.1.1.1.0 x.1.1.1.1.0 x.1.1.1.1.1.0 x.1.1.1.1.1.1.0.now)
       x.1.1.1.1.1.1.1.0.now y.1.1.1.1.1.1.1.0.now r
   pub write_opening :
-      (κs : Lfts 1) (x : ArgsD opening-signature κs) (r : ℕ) (y : AtExit (ended_of 1 opening-kinds.ps opening-kinds.r) κs) →
-      opening-reads.Post κs x r y → FrameReturned (Asks (Open x.0)) x.1.0.now y.1.0.now r
+      (κs : Lfts 1) (x : ArgsD opening_signature κs) (r : ℕ) (y : AtExit (ended_of 1 opening_kinds.ps opening_kinds.r) κs) →
+      opening_reads.Post κs x r y → FrameReturned (Asks (Open x.0)) x.1.0.now y.1.0.now r
   pub write_offer :
-      (κs : Lfts 3) (x : ArgsD offer-signature κs) (r : ℕ) (y : AtExit (ended_of 3 offer-kinds.ps offer-kinds.r) κs) →
-      offer-reads.Post κs x r y → FrameReturned (Asks (By x.0 (Offer x.1.0.now x.1.1.0.now))) x.1.1.1.0.now y.1.1.1.0.now r
+      (κs : Lfts 3) (x : ArgsD offer_signature κs) (r : ℕ) (y : AtExit (ended_of 3 offer_kinds.ps offer_kinds.r) κs) →
+      offer_reads.Post κs x r y → FrameReturned (Asks (By x.0 (Offer x.1.0.now x.1.1.0.now))) x.1.1.1.0.now y.1.1.1.0.now r
   pub write_lodging :
-      (κs : Lfts 3) (x : ArgsD lodging-signature κs) (r : ℕ) (y : AtExit (ended_of 3 lodging-kinds.ps lodging-kinds.r) κs) →
-      lodging-reads.Post κs x r y → FrameReturned (Asks (By x.0 (Lodge x.1.0.now x.1.1.0.now))) x.1.1.1.0.now y.1.1.1.0.now r
+      (κs : Lfts 3) (x : ArgsD lodging_signature κs) (r : ℕ) (y : AtExit (ended_of 3 lodging_kinds.ps lodging_kinds.r) κs) →
+      lodging_reads.Post κs x r y → FrameReturned (Asks (By x.0 (Lodge x.1.0.now x.1.1.0.now))) x.1.1.1.0.now y.1.1.1.0.now r
   pub write_cancellation :
-      (κs : Lfts 1) (x : ArgsD cancellation-signature κs) (r : ℕ) (y : AtExit (ended_of 1 cancellation-kinds.ps cancellation-kinds.r) κs) →
-      cancellation-reads.Post κs x r y → FrameReturned (Asks (By x.0 Cancel)) x.1.0.now y.1.0.now r
+      (κs : Lfts 1) (x : ArgsD cancellation_signature κs) (r : ℕ) (y : AtExit (ended_of 1 cancellation_kinds.ps cancellation_kinds.r) κs) →
+      cancellation_reads.Post κs x r y → FrameReturned (Asks (By x.0 Cancel)) x.1.0.now y.1.0.now r
   pub write_closing :
-      (κs : Lfts 1) (x : ArgsD closing-signature κs) (r : ℕ) (y : AtExit (ended_of 1 closing-kinds.ps closing-kinds.r) κs) →
+      (κs : Lfts 1) (x : ArgsD closing_signature κs) (r : ℕ) (y : AtExit (ended_of 1 closing_kinds.ps closing_kinds.r) κs) →
       closing_reads.Post κs x r y → FrameReturned (Asks Close) x.0.now y.0.now r
   pub write_settling :
-      (κs : Lfts 1) (x : ArgsD settling-signature κs) (r : ℕ) (y : AtExit (ended_of 1 settling-kinds.ps settling-kinds.r) κs) →
+      (κs : Lfts 1) (x : ArgsD settling_signature κs) (r : ℕ) (y : AtExit (ended_of 1 settling_kinds.ps settling_kinds.r) κs) →
       settling_reads.Post κs x r y → FrameReturned (Settle x.0) x.1.0.now y.1.0.now r
 
 pub record WritersExported (M : Type 1) : Type 2 where
@@ -191,15 +191,15 @@ frame_determined o old new new' r r' x y = go (writable_order o) refl
 
 writers_meet : {M : Type 1} → WritersMeet M
 writers_meet = record {
-  write_set_up = set-up-met.met;
-  write_registration = registration-met.met;
-  write_registration_for = registration-for-met.met;
-  write_opening = opening-met.met;
-  write_offer = offer-met.met;
-  write_lodging = lodging-met.met;
-  write_cancellation = cancellation-met.met;
-  write_closing = closing-met.met;
-  write_settling = settling-met.met;
+  write_set_up = set_up_met.met;
+  write_registration = registration_met.met;
+  write_registration_for = registration_for_met.met;
+  write_opening = opening_met.met;
+  write_offer = offer_met.met;
+  write_lodging = lodging_met.met;
+  write_cancellation = cancellation_met.met;
+  write_closing = closing_met.met;
+  write_settling = settling_met.met;
 }
 
 writers_ask : WritersAsk
