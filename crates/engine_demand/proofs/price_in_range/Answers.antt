@@ -1,4 +1,4 @@
--- `price_in_range` is the test `inRange`.
+-- `price_in_range` is the test `in_range`.
 use Rattle.std.proofs.Common.{arith}
 use mathlib.Core.Path.{◌≡◌, sym}
 use mathlib.Core.Bool.{false}
