@@ -39,17 +39,15 @@ returns-then-c-settings c = record { as_ruled = λ w. simp (accepts (goal.at.ret
 pub returns-then-opening_price-c : goal.returns-then-opening_price-c
 unfolding refusal closing_ok opening_price
 returns-then-opening_price-c c =
-    let x = c in
-    record { as_ruled = λ w. simp (accepts (goal.at.Then-opening_price-c x).Else-not-may_open, le-leb _ _ x.if-c-settings.false, ← c.opening_price.ensures, le-ltb _ _ c.if-opening_price-c.true) }
+    record { as_ruled = λ w. simp (accepts (goal.at.Then-opening_price-c c).Else-not-may_open, le-leb _ _ c.if-c-settings.false, ← c.opening_price.ensures, le-ltb _ _ c.if-opening_price-c.true) }
 
 pub returns-then-not-start_covered : goal.returns-then-not-start_covered
 unfolding refusal
 returns-then-not-start_covered c =
-    let x = c in
     record {
       as_ruled = λ w. simp (
-        accepts (in_phase (goal.at.Then-not-start_covered x).Else-opening_price-c),
-        announced (goal.at.Then-not-start_covered x).Else-opening_price-c,
+        accepts (in_phase (goal.at.Then-not-start_covered c).Else-opening_price-c),
+        announced (goal.at.Then-not-start_covered c).Else-opening_price-c,
         sym (c.start_covered.ensures.as_ruled w c.args.closing) ∙ c.if-not-start_covered.true,
       );
     }
@@ -57,11 +55,10 @@ returns-then-not-start_covered c =
 pub returns : goal.returns
 unfolding refusal
 returns c =
-    let x = c in
     record {
       as_ruled = λ w. simp (
-        accepts (in_phase (goal.at.Else-not-start_covered x).Else-opening_price-c),
-        announced (goal.at.Else-not-start_covered x).Else-opening_price-c,
+        accepts (in_phase (goal.at.Else-not-start_covered c).Else-opening_price-c),
+        announced (goal.at.Else-not-start_covered c).Else-opening_price-c,
         sym (c.start_covered.ensures.as_ruled w c.args.closing) ∙ c.if-not-start_covered.false,
       );
     }

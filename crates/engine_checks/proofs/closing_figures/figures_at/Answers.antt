@@ -3,9 +3,7 @@ use Prim.Native.Nat.{◌/◌}
 use mathlib.Core.Path.{◌≡◌, ap, ◌∙◌}
 use mathlib.Core.Bool.{Bool, cond}
 use Rattle.std.proofs.Common.{arith}
-use mir.Syntax.{w8, w32}
 use Rattle.engine_checks.specs.closing_checks.Signed.{difference_back}
-use Rattle.engine_held.specs.supply.Words.{words_length}
 use Rattle.engine_checks.specs.clock.Held.{held_phase}
 use Rattle.engine_checks.specs.clock.Reading.{demanded_at}
 use Rattle.rules_auction.specs.Ledger.{Between, Closed}
@@ -20,23 +18,20 @@ remainder_at_closing : (c : After-remainder_at-remainder) →
 remainder_at_closing c = c.remainder_at-remainder.ensures
 
 phase_by_test : (c : After-phase_after) →
-    let demand = c in
-    let s = demand.args in
-    c.phase_after.result ≡ held_phase (cond (clears demand.supply-supply.result demand.demand_at-demand.result s.closing
+    let s = c.args in
+    c.phase_after.result ≡ held_phase (cond (clears c.supply-supply.result c.demand_at-demand.result s.closing
     (s.settings.ce / 2)) Closed Between)
 phase_by_test c = c.phase_after.ensures ∙ ap (λ (b : Bool). held_phase (cond b Closed Between)) c.clears-cleared.ensures
 
 pub returns : goal.returns
 returns c =
     let excess = c.excess_of-excess in
-    let remainder = c in
-    let demand = remainder.demand_at-demand in
-    let supply = remainder.supply-supply in
-    let start = remainder in
-    let s = start.args in
+    let demand = c.demand_at-demand in
+    let supply = c.supply-supply in
+    let s = c.args in
     figures_are s.settings s.closing s.projects s.quantities
-    (words_length w8 32 s.projects _ start.well_formed.1.1.0) (words_length w32 32 s.quantities _ start.well_formed.1.1.1.0)
+    (omega arith) (omega arith)
     supply.ensures.0 demand.ensures.0
     (difference_back supply.result demand.result (omega arith) (omega arith) excess.result excess.ensures)
-    (remainder_at_closing (goal.at.After-phase_after remainder).After-remainder_at-remainder)
+    (remainder_at_closing (goal.at.After-phase_after c).After-remainder_at-remainder)
     (phase_by_test c)

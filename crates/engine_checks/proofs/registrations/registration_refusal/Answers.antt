@@ -22,8 +22,7 @@ declared : (c : After-declaration_ok) (study day : ℕ) →
     c.declaration_ok.result
     ≡ declaration_ok (books_in s.phase s.projects s.kinds) (record { project = s.project; kind = s.kind; study = study; day = day; levels = s.levels.now })
 declared c study day =
-    let start = c in
-    let s = start.args in
+    let s = c.args in
     c.declaration_ok.ensures
     ∙ declaration_in s.phase s.projects s.kinds s.project s.kind s.levels.now study day
     (omega arith) (omega arith)
@@ -44,34 +43,29 @@ bounds-projects-i c = c.place-i.ensures.1
 
 pub returns-then-projects-i-ne0 : goal.returns-then-projects-i-ne0
 returns-then-projects-i-ne0 c =
-    let x = c in
     record {
       as_ruled = λ w study day e.
-          rw (once_numbered _ _ _ _ _ _ study day _ w x.if-phase-ne-READY.false (sym e ∙ numbers (goal.at.Then-projects-i-ne0 x).Else-not-numbered) _ c.place-i.ensures.0, ne_eqb _ 0 c.if-projects-i-ne0.true);
+          rw (once_numbered _ _ _ _ _ _ study day _ w c.if-phase-ne-READY.false (sym e ∙ numbers (goal.at.Then-projects-i-ne0 c).Else-not-numbered) _ c.place-i.ensures.0, ne_eqb _ 0 c.if-projects-i-ne0.true);
     }
 
 pub returns-then-not-declaration_ok : goal.returns-then-not-declaration_ok
 returns-then-not-declaration_ok c =
-    let y = c in
-    let x = y in
     record {
       as_ruled = λ w study day e.
           rw (
-            once_numbered _ _ _ _ _ _ study day _ w x.if-phase-ne-READY.false (sym e ∙ numbers (goal.at.Then-not-declaration_ok x).Else-not-numbered) _ y.place-i.ensures.0,
-            eq-eqb _ 0 y.if-projects-i-ne0.false,
+            once_numbered _ _ _ _ _ _ study day _ w c.if-phase-ne-READY.false (sym e ∙ numbers (goal.at.Then-not-declaration_ok c).Else-not-numbered) _ c.place-i.ensures.0,
+            eq-eqb _ 0 c.if-projects-i-ne0.false,
             sym (declared (goal.at.returns-then-not-declaration_ok c).After-declaration_ok study day) ∙ c.if-not-declaration_ok.true,
           );
     }
 
 pub returns : goal.returns
 returns c =
-    let y = c in
-    let x = y in
     record {
       as_ruled = λ w study day e.
           rw (
-            once_numbered _ _ _ _ _ _ study day _ w x.if-phase-ne-READY.false (sym e ∙ numbers (goal.at.Else-not-declaration_ok x).Else-not-numbered) _ y.place-i.ensures.0,
-            eq-eqb _ 0 y.if-projects-i-ne0.false,
+            once_numbered _ _ _ _ _ _ study day _ w c.if-phase-ne-READY.false (sym e ∙ numbers (goal.at.Else-not-declaration_ok c).Else-not-numbered) _ c.place-i.ensures.0,
+            eq-eqb _ 0 c.if-projects-i-ne0.false,
             sym (declared (goal.at.returns c).After-declaration_ok study day) ∙ c.if-not-declaration_ok.false,
           );
     }

@@ -25,11 +25,9 @@ returns-then-not-is_of c = record { as_ruled = λ n e. simp (is_round _ c.if-pha
 pub returns-then-offered-lt1 : goal.returns-then-offered-lt1
 unfolding move_refusal
 returns-then-offered-lt1 c =
-    let x = c in
-    record { as_ruled = λ n e. simp (is_round _ x.if-phase-ne-ROUND.false, allowed (goal.at.Then-offered-lt1 x).Else-not-is_of n e, none_stands _ c.if-offered-lt1.true) }
+    record { as_ruled = λ n e. simp (is_round _ c.if-phase-ne-ROUND.false, allowed (goal.at.Then-offered-lt1 c).Else-not-is_of n e, none_stands _ c.if-offered-lt1.true) }
 
 pub returns : goal.returns
 unfolding move_refusal
 returns c =
-    let x = c in
-    record { as_ruled = λ n e. simp (is_round _ x.if-phase-ne-ROUND.false, allowed (goal.at.Else-offered-lt1 x).Else-not-is_of n e, one_stands _ c.if-offered-lt1.false) }
+    record { as_ruled = λ n e. simp (is_round _ c.if-phase-ne-ROUND.false, allowed (goal.at.Else-offered-lt1 c).Else-not-is_of n e, one_stands _ c.if-offered-lt1.false) }

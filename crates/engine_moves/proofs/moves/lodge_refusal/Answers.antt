@@ -25,8 +25,7 @@ returns-then-not-is_of c = record { as_ruled = λ n e. simp (is_ready_lem _ c.if
 pub returns : goal.returns
 unfolding move_refusal
 returns c =
-    let x = c in
     record {
-      as_ruled = λ n e. simp (is_ready_lem _ x.if-phase-ne-READY.false, allowed (goal.at.After-steps_refusal x).Else-not-is_of n e)
+      as_ruled = λ n e. simp (is_ready_lem _ c.if-phase-ne-READY.false, allowed (goal.at.After-steps_refusal c).Else-not-is_of n e)
           (rw c.highest.ensures at c.steps_refusal.ensures);
     }

@@ -25,12 +25,9 @@ returns-then-not-is_of c = record { as_ruled = λ n e. simp (is_round _ c.if-pha
 pub returns-then-offered-ge1 : goal.returns-then-offered-ge1
 unfolding move_refusal
 returns-then-offered-ge1 c =
-    let x = c in
-    record { as_ruled = λ n e. simp (is_round _ x.if-phase-ne-ROUND.false, allowed (goal.at.Then-offered-ge1 x).Else-not-is_of n e, one_stands _ c.if-offered-ge1.true) }
+    record { as_ruled = λ n e. simp (is_round _ c.if-phase-ne-ROUND.false, allowed (goal.at.Then-offered-ge1 c).Else-not-is_of n e, one_stands _ c.if-offered-ge1.true) }
 
 pub returns : goal.returns
 unfolding move_refusal
 returns c =
-    let y = c in
-    let x = y in
-    record { as_ruled = λ n e. simp (is_round _ x.if-phase-ne-ROUND.false, allowed (goal.at.After-steps_refusal x).Else-not-is_of n e, none_stands _ y.if-offered-ge1.false) c.steps_refusal.ensures }
+    record { as_ruled = λ n e. simp (is_round _ c.if-phase-ne-ROUND.false, allowed (goal.at.After-steps_refusal c).Else-not-is_of n e, none_stands _ c.if-offered-ge1.false) c.steps_refusal.ensures }

@@ -7,10 +7,8 @@ returns-then-not-prices_ok c = simp (sym c.prices_ok.ensures ∙ c.if-not-prices
 
 pub returns-then-not-lowers : goal.returns-then-not-lowers
 returns-then-not-lowers c =
-    let x = c in
-    simp (sym x.prices_ok.ensures ∙ x.if-not-prices_ok.false, sym c.lowers.ensures ∙ c.if-not-lowers.true)
+    simp (sym c.prices_ok.ensures ∙ c.if-not-prices_ok.false, sym c.lowers.ensures ∙ c.if-not-lowers.true)
 
 pub returns : goal.returns
 returns c =
-    let x = c in
-    simp (sym x.prices_ok.ensures ∙ x.if-not-prices_ok.false, sym c.lowers.ensures ∙ c.if-not-lowers.false)
+    simp (sym c.prices_ok.ensures ∙ c.if-not-prices_ok.false, sym c.lowers.ensures ∙ c.if-not-lowers.false)
