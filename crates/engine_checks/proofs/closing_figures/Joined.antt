@@ -13,7 +13,6 @@ use Rattle.engine_checks.specs.clock.Held.{held_phase}
 use Rattle.engine_checks.specs.clock.Reading.{demanded_at}
 use Rattle.engine_checks.specs.clock.Demands.{demand_is, remainder_is}
 use Rattle.engine_checks.specs.declared.clock.Settings.{Settings}
-use Rattle.engine_checks.specs.declared.closing_figures.Figures.{Figures}
 use Rattle.engine_checks.specs.closing_figures.Figured.{left_in, Figured, supply_left}
 
 pub figures_are :

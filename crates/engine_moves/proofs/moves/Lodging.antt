@@ -22,7 +22,7 @@ use Rattle.engine_checks.specs.clock.Reading.{clock_in}
 use Rattle.engine_moves.specs.moves.Reading.{entry_in, MoveNumber}
 use Rattle.engine_moves.specs.moves.Entries.{seat, Held, Moves}
 use Rattle.engine_moves.specs.moves.EntryLaws.{kind_number}
-use Rattle.engine_moves.proofs.moves.Deciding.{own, move_read, refused_to, taken_to}
+use Rattle.engine_moves.proofs.moves.Deciding.{move_read, refused_to, taken_to}
 
 module _ (p : ℕ) (s : Settings) (o c k : ℕ) (d : Levels) (q : ℕ) (h : History) (n : ℕ) (v : Bool) (numbered : v ≡ is_number n)
     (ps qs : List ℕ) where

@@ -1,12 +1,10 @@
 -- `levels_ok` is the test `levels_ok`: the loop keeps that what is left rises from the level before exactly if all rise from 0.
-use Prim.Native.Nat.{◌-◌}
 use mathlib.Core.Path.{◌≡◌, ◌∙◌}
 use mathlib.Core.Bool.{false}
 use Rattle.std.proofs.Common.{arith}
-use Rattle.std.proofs.Common.{rules}
-use lib.ListN.{length, get_or}
-use Rattle.rules_auction.specs.Refusals.{levels_ok, rising}
-use Rattle.engine_held.proofs.levels.Reading.{Read, read_first, read_again, read_stop, read_end, rises, rising_in_turn, rises_passes, rises_not}
+use lib.ListN.{get_or}
+use Rattle.rules_auction.specs.Refusals.{levels_ok}
+use Rattle.engine_held.proofs.levels.Reading.{read_first, read_again, read_stop, read_end, rises, rising_in_turn, rises_passes, rises_not}
 use Rattle.engine_held.proofs.levels.Reading.{rises_too_far, levels_none, levels_many, levels_counted}
 use Rattle.engine_held.proofs.levels.levels_ok.Goals as goal
 use Rattle.engine_held.proofs.levels.levels_ok.Goals.{In-loop-i}

@@ -1,8 +1,6 @@
 -- `is_number` decides.
 use mathlib.Core.Bool.{true, false}
 use mathlib.Core.Path.{sym, ◌∙◌}
-use Rattle.std.proofs.Common.{rules}
-use borrow.Author.Tests.{not-true, not-false}
 use Rattle.engine_held.proofs.supply.Greatest.{counts}
 use Rattle.engine_held.proofs.supply.counted.Goals as goal
 

@@ -1,14 +1,10 @@
 -- `greatest_by_project` is `greatest_by_project`: the loop keeps that of the first i developers.
-use Prim.Native.Nat.{◌-◌}
 use Rattle.std.proofs.Common.{arith}
-use Rattle.std.proofs.Common.{rules}
-use mir.Syntax.{w8, w32}
-use Rattle.engine_held.specs.supply.Words.{words_length}
-use Rattle.engine_held.proofs.supply.Greatest.{Raising, raising_first, raising_again, raising_end}
+use Rattle.engine_held.proofs.supply.Greatest.{raising_first, raising_again, raising_end}
 use Rattle.engine_held.proofs.supply.greatest_by_project.Goals as goal
 
 pub loop-i-init : goal.loop-i-init
-loop-i-init c = raising_first _ _ (words_length w8 32 c.args.projects _ c.well_formed.0) (words_length w32 32 c.args.quantities _ c.well_formed.1.0)
+loop-i-init c = raising_first _ _ (omega arith) (omega arith)
 
 pub offset_bounds-best-at : goal.offset_bounds-best-at
 offset_bounds-best-at c = omega (arith, c.place-at.ensures.1)

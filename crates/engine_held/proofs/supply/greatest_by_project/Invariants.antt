@@ -1,10 +1,6 @@
 -- `greatest_by_project` is `greatest_by_project`: the loop keeps that of the first i developers.
 use Prim.Native.Nat.{◌-◌}
-use Rattle.std.proofs.Common.{arith}
-use Rattle.std.proofs.Common.{rules}
-use mir.Syntax.{w8, w32}
-use Rattle.engine_held.specs.supply.Words.{words_length}
-use Rattle.engine_held.proofs.supply.Greatest.{Raising, raising_first, raising_again, raising_end}
+use Rattle.engine_held.proofs.supply.Greatest.{Raising}
 use Rattle.engine_held.proofs.supply.greatest_by_project.Given as goal
 
 abbrev pub invariant-loop-i : goal.invariant-loop-i

@@ -1,10 +1,6 @@
 -- `may_join` is the test `joins`: the loop keeps that the developers that are left allow it exactly if all do.
 use Prim.Native.Nat.{◌-◌}
-use mathlib.Core.Logic.{⊎_elim}
-use Rattle.std.proofs.Common.{rules}
-use mir.Syntax.{w8}
-use Rattle.engine_held.specs.supply.Words.{words_length}
-use Rattle.engine_held.proofs.supply.Joining.{Joining, joining_first, joining_other, joining_again, joining_kind, joining_beside, joining_end}
+use Rattle.engine_held.proofs.supply.Joining.{Joining}
 use Rattle.engine_held.proofs.supply.may_join.Given as goal
 
 abbrev pub invariant-loop-i : goal.invariant-loop-i

@@ -2,8 +2,6 @@
 use mathlib.Core.Bool.{true, false}
 use mathlib.Core.Path.{sym, ◌∙◌}
 use Rattle.std.proofs.Common.{arith}
-use Rattle.std.proofs.Common.{rules}
-use borrow.Author.Tests.{not-true, not-false}
 use Rattle.rules_auction.specs.CheckLaws.{is_number_lem}
 use Rattle.engine_held.proofs.supply.Greatest.{placed}
 use Rattle.engine_held.proofs.supply.place.Goals as goal

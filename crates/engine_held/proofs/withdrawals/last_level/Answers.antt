@@ -1,5 +1,4 @@
 -- `last_level` reads the last place of the withdrawals.
-use Rattle.std.proofs.Common.{rules}
 use Rattle.engine_held.proofs.withdrawals.Reading.{no_last, too_long_lem, last_level_lem}
 use Rattle.engine_held.proofs.withdrawals.last_level.Goals as goal
 

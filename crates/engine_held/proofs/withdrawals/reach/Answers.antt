@@ -1,7 +1,6 @@
 -- `reach` moves the count over the lodged steps that are reached, which stand first.
 use mathlib.Core.Logic.{inl, inr}
 use Rattle.std.proofs.Common.{arith}
-use Rattle.std.proofs.Common.{rules}
 use Rattle.engine_held.proofs.withdrawals.Reaching.{reach_lodged, reached_fits}
 use Rattle.engine_held.proofs.withdrawals.reach.Goals as goal
 

@@ -1,9 +1,7 @@
 -- `reached_count` goes through the lodged steps: the first whose price is below c ends those that are reached.
-use Prim.Native.Nat.{◌-◌}
 use mathlib.Core.Logic.{inl, inr}
 use Rattle.std.proofs.Common.{arith}
-use Rattle.std.proofs.Common.{rules}
-use Rattle.engine_held.proofs.withdrawals.Reaching.{ReachedSoFar, reached_none, reached_more, reached_stop, reached_room, reached_all}
+use Rattle.engine_held.proofs.withdrawals.Reaching.{reached_none, reached_more, reached_stop, reached_room, reached_all}
 use Rattle.engine_held.proofs.withdrawals.reached_count.Goals as goal
 
 pub loop-i-init : goal.loop-i-init

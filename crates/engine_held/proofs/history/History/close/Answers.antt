@@ -1,6 +1,5 @@
 -- `close` moves the count over the steps that stand behind the withdrawals, or stores one withdrawal behind the last.
 use Rattle.std.proofs.Common.{arith}
-use Rattle.std.proofs.Common.{rules}
 use Rattle.engine_held.proofs.history.Writing.{close_offer, close_no_room, close_missing, close_full, close_kept}
 use Rattle.engine_held.proofs.history.History.close.Goals as goal
 

@@ -1,5 +1,4 @@
 -- `lodge` stores the list as an offer behind no withdrawals, and holds its steps as lodged.
-use Rattle.std.proofs.Common.{rules}
 use Rattle.engine_held.proofs.history.Writing.{lodge_list}
 use Rattle.engine_held.proofs.history.History.lodge.Goals as goal
 

@@ -1,9 +1,6 @@
 -- `offer` stores the steps behind the withdrawals, one a turn; where there is room for all it never returns early.
-use Prim.Native.Nat.{◌-◌}
 use Rattle.std.proofs.Common.{arith}
-use lib.ListN.{length}
-use Rattle.std.proofs.Common.{rules}
-use Rattle.engine_held.proofs.history.Writing.{Storing, store_first, store_next, store_end, no_room}
+use Rattle.engine_held.proofs.history.Writing.{store_first, store_next, store_end, no_room}
 use Rattle.engine_held.proofs.history.History.offer.Goals as goal
 
 pub loop-i-init : goal.loop-i-init

@@ -1,9 +1,6 @@
 -- `copied` holds the levels as they are: the loop keeps that the first i are held.
-use Prim.Native.Nat.{◌-◌}
 use mathlib.Core.Logic.{inl, inr}
-use Rattle.std.proofs.Common.{rules}
-use lib.ListN.{length}
-use Rattle.engine_held.proofs.levels.Holding.{Copying, copying_first, copying_again, copying_end}
+use Rattle.engine_held.proofs.levels.Holding.{copying_first, copying_again, copying_end}
 use Rattle.engine_held.proofs.levels.Levels.copied.Goals as goal
 
 pub loop-i-init : goal.loop-i-init

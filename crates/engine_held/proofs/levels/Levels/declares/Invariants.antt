@@ -1,11 +1,6 @@
 -- `declares` is the test `member`: the loop keeps that the level is among those that are left exactly if it is among all.
 use Prim.Native.Nat.{◌-◌}
-use mathlib.Core.Path.{◌≡◌, sym, ◌∙◌}
-use mathlib.Core.Logic.{inl, inr}
-use Rattle.std.proofs.Common.{arith}
-use Rattle.std.proofs.Common.{rules}
-use lib.ListN.{length, length-map}
-use Rattle.engine_held.specs.levels.Sought.{Sought, sought_first, sought_again, sought_found, sought_end}
+use Rattle.engine_held.specs.levels.Sought.{Sought}
 use Rattle.engine_held.proofs.levels.Levels.declares.Given as goal
 
 abbrev pub invariant-loop-i : goal.invariant-loop-i

@@ -1,17 +1,14 @@
 -- `lowers` is the test `lowering`: the loop keeps that what is left lowers the level before exactly if all lower the quantity.
-use Prim.Native.Nat.{◌-◌}
 use mathlib.Core.Path.{◌≡◌, sym, ◌∙◌}
 use mathlib.Core.Bool.{true, false}
-use mathlib.Core.Logic.{inl, inr, ⊎_elim}
-use Rattle.std.proofs.Common.{rules}
-use borrow.Author.Tests.{not-true, not-false}
-use lib.ListN.{length, get_or}
+use mathlib.Core.Logic.{inl, inr}
+use lib.ListN.{get_or}
 use Rattle.rules_auction.specs.Refusals.{lowering}
 use Rattle.engine_held.specs.levels.Held.{levels_in}
-use Rattle.engine_held.proofs.levels.Reading.{Read, read_first, read_again, read_stop, read_end, lowers, lowering_in_turn, lowers_passes}
+use Rattle.engine_held.proofs.levels.Reading.{read_first, read_again, read_stop, read_end, lowers, lowering_in_turn, lowers_passes}
 use Rattle.engine_held.proofs.levels.Reading.{lowers_undeclared, lowers_not}
 use Rattle.engine_held.proofs.levels.Levels.lowers.Goals as goal
-use Rattle.engine_held.proofs.levels.Levels.lowers.Goals.{In-loop-i}
+use Rattle.engine_held.proofs.levels.Levels.lowers.Goals.{In-loop-i, then-v-ne0+else-not-declares, else-v-ne0}
 
 stop :
     (c : In-loop-i) →
@@ -35,14 +32,16 @@ returns-then-last-v c = stop (goal.at.returns-then-last-v c).In-loop-i (lowers_n
 
 pub loop-i-preserved : goal.loop-i-preserved
 loop-i-preserved c =
-    let a = c.args in
     let l = c.loop-i in
-    let e =
-    ⊎_elim {C = lowers (levels_in a.self) l.last (get_or a.levels.now l.i 0) ≡ true}
-    (λ w. lowers_passes _ _ _ (inr (sym w.1.ensures ∙ not-false _ w.2.left)) c.if-last-v.false)
-    (λ w. lowers_passes _ _ _ (inl w.left) c.if-last-v.false)
-    c.if-v-ne0.branch in
-    read_again (lowering_in_turn (levels_in a.self)) _ _ l.last l.i l.invariant c.loop-i-test.true e
+    let declared = levels_in c.args.self in
+    let v = get_or c.args.levels.now l.i 0 in
+    let e : lowers declared l.last v ≡ true =
+    elim c.if-v-ne0.branch [
+      | then-v-ne0+else-not-declares w ↦
+          lowers_passes _ _ _ (inr (sym w.declares.ensures ∙ w.if-not-declares.false)) c.if-last-v.false
+      | else-v-ne0 w ↦ lowers_passes _ _ _ (inl w.if-v-ne0.false) c.if-last-v.false
+    ] in
+    read_again (lowering_in_turn declared) _ _ l.last l.i l.invariant c.loop-i-test.true e
 
 pub returns : goal.returns
 returns c =
