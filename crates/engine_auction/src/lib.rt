@@ -1,5 +1,7 @@
 // The auction: its state, passed by value, and the calls that change it. Each call's contract is an equation with the ledger of document 01, for
 // every list of calls (specs/Called.antt).
+#![tactic(auto)]
+
 ghost use Rattle.std.specs.Prelude.{◌≡◌, ◌&&◌, [], ◌<◌};
 ghost use Rattle.rules_auction.specs.Ledger.{settings_of, Open, By, Offer, Lodge, Cancel};
 ghost use Rattle.rules_auction.specs.Refusals.{settings_ok, is_number};

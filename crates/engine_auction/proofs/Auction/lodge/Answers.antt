@@ -1,0 +1,11 @@
+-- A lodged list, decided over its developer's entry.
+use Rattle.rules_auction.specs.Ledger.{Lodge}
+use Rattle.engine_auction.proofs.Moving.{move_called}
+use Rattle.engine_auction.proofs.Auction.lodge.Goals as goal
+
+pub returns : goal.returns
+returns c =
+    let s = c.args in
+    rw c.with_move.ensures
+    (move_called s.developer (Lodge s.prices.now s.levels.now) _ c.place-i.result _ _ c.place-i.ensures.0
+    (c.lodged-moved.ensures _ _ _ _ c.is_number.ensures))
