@@ -1,4 +1,6 @@
 // The search through the choices: counts against a limit, and the best one.
+#![tactic(auto)]
+
 pub mod ordering;
 pub mod rows_behind;
 pub mod searching;

@@ -1,4 +1,6 @@
 // The table of the levels open at a price, and its number of choices.
+#![tactic(auto)]
+
 pub mod counting;
 pub mod open_levels;
 pub mod reached_levels;

@@ -1,6 +1,6 @@
 -- A closing through a seat: the hall keeps its excess where it is accepted.
 use mathlib.Core.Path.{◌≡◌, sym, ap, subst, ◌∙◌}
-use mathlib.Core.Bool.{Bool, false, cond, not}
+use mathlib.Core.Bool.{Bool, true, cond}
 use mathlib.Core.Logic.{◌⊎◌, ⊎_elim}
 use lib.IntN.{ℤ}
 use borrow.Author.Tests.{eq-eqb, ne_eqb}
@@ -30,7 +30,7 @@ module _ (h k : Hall) (a : Auction) (r : Answered) (x : ℤ) (e : x ≡ r.excess
       (λ w. ap (λ (y : Hall). y.excess) w.1 ∙ sym (ap (λ (b : Bool). cond b r.excess h.excess) (ne_eqb r.number 0 w.0)))
 
   pub closing_made :
-      (s : Seat) (b : Bool) → b ≡ may_make s Close → not b ≡ false → Called Close h.auction a r → Keeps →
+      (s : Seat) (b : Bool) → b ≡ may_make s Close → b ≡ true → Called Close h.auction a r → Keeps →
       CalledThrough s Close h k (record { number = r.number; excess = x; remainder = r.remainder })
   closing_made s b right t called w =
       rw e

@@ -1,6 +1,8 @@
 // The auction hall (document 02, 14): the auction with the excess of its latest closing, and the calls that change it, each through a seat. A call
 // that the seat has no right to make is refused by 20 before every other check and leaves the hall as it is; otherwise it is the auction's own
 // call (specs/Through.antt).
+#![tactic(auto)]
+
 ghost use Rattle.std.specs.Prelude.{◌≡◌};
 ghost use Rattle.rules_auction.specs.Ledger.{Open, By, Offer, Lodge, Cancel};
 ghost use Rattle.rules_seats.specs.Seats.{fresh_hall};

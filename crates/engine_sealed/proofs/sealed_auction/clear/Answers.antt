@@ -1,6 +1,5 @@
 -- The refusals, and the awards of an accepted book.
 use mathlib.Core.Path.{sym, ◌∙◌}
-use Rattle.std.proofs.Common.{rules}
 use Rattle.engine_sealed.specs.sealed_checks.AcceptedBook.{accepted}
 use Rattle.engine_sealed.proofs.sealed_auction.Clearing.{cleared_refused, in_order_within, cleared_given}
 use Rattle.engine_sealed.proofs.sealed_auction.clear.Goals as goal
@@ -20,6 +19,5 @@ share-shared-requires c =
 
 pub returns : goal.returns
 returns c =
-    let n = c in
-    let z = sym n.sealed_refusal-number.ensures ∙ c.if-number-ne0.false in
+    let z = sym c.sealed_refusal-number.ensures ∙ c.if-number-ne0.false in
     cleared_given _ _ _ _ _ _ z (accepted _ _ _ z).at_most_sixteen _ (c.taking_order-order.ensures _ _) _ _ c.share-shared.ensures

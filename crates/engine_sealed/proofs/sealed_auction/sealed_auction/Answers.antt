@@ -1,6 +1,5 @@
 -- The tests in their order: what the book is refused by, no room for the awards, and the awards.
 use Rattle.std.proofs.Common.{arith}
-use Rattle.std.proofs.Common.{rules}
 use Rattle.engine_sealed.specs.sealed_checks.AcceptedBook.{accepted}
 use Rattle.engine_sealed.proofs.sealed_auction.Clearing.{book_accepted, lends_refused, lends_no_room, lends_given}
 use Rattle.engine_sealed.proofs.sealed_auction.sealed_auction.Goals as goal
@@ -13,12 +12,10 @@ returns-then-awards-prices c = lends_no_room _ _ _ _ c.clear-sealed.ensures _ c.
 
 pub put_awards-requires : goal.put_awards-requires
 put_awards-requires c =
-    let t = c in
-    let z = book_accepted _ _ _ _ t.clear-sealed.ensures t.if-sealed-ne0.false in
-    ((accepted _ _ _ z).at_most_sixteen, omega (arith, t.if-awards-prices.false))
+    let z = book_accepted _ _ _ _ c.clear-sealed.ensures c.if-sealed-ne0.false in
+    ((accepted _ _ _ z).at_most_sixteen, omega (arith, c.if-awards-prices.false))
 
 pub returns : goal.returns
 returns c =
-    let p = c in
-    let t = p in
-    lends_given _ _ _ _ t.clear-sealed.ensures _ t.if-sealed-ne0.false (omega (arith, t.if-awards-prices.false)) _ p.put_awards.ensures
+    let t = c in
+    lends_given _ _ _ _ t.clear-sealed.ensures _ t.if-sealed-ne0.false (omega (arith, t.if-awards-prices.false)) _ c.put_awards.ensures

@@ -1,11 +1,6 @@
 -- Each turn puts one award; the loop keeps `Putting`.
-use Prim.Native.Nat.{◌-◌, ◌≤◌}
-use mathlib.Core.Path.{◌≡◌}
-use Rattle.std.proofs.Common.{arith}
-use lib.ListN.{length}
-use Rattle.std.proofs.Common.{rules}
-use Rattle.rules_sealed.specs.Sealed.{most_offers}
-use Rattle.engine_sealed.proofs.sealed_awards.Putting.{Putting, putting_first, putting_long, putting_next, putting_end}
+use Prim.Native.Nat.{◌-◌}
+use Rattle.engine_sealed.proofs.sealed_awards.Putting.{Putting}
 use Rattle.engine_sealed.proofs.sealed_awards.put_awards.Given as goal
 
 abbrev pub invariant-loop-k : goal.invariant-loop-k

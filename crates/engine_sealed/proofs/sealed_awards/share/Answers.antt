@@ -1,14 +1,14 @@
 -- Each turn takes one offer; the loop keeps `Sharing`.
-use Prim.Native.Nat.{◌-◌, ◌<◌}
+use Prim.Native.Nat.{◌<◌}
 use mathlib.Core.Path.{◌≡◌, subst}
 use Rattle.std.proofs.Common.{arith}
 use lib.ListN.{length, take, get_or}
 use lib.Seq.{get_or-take, length-take-le}
 use Rattle.std.proofs.Common.{rules}
 use Rattle.rules_choices.specs.EachChoice.{nth_in}
-use Rattle.engine_sealed.proofs.sealed_awards.Sharing.{Sharing, award_le, sharing_first, sharing_next, sharing_end}
+use Rattle.engine_sealed.proofs.sealed_awards.Sharing.{award_le, sharing_first, sharing_next, sharing_end}
 use Rattle.engine_sealed.proofs.sealed_awards.share.Goals as goal
-use Rattle.engine_sealed.proofs.sealed_awards.share.Goals.{After-award-a, After-loop-i, After-shared_slice_known-in-loop-i-1, After-shared_slice_known-in-loop-i-1-unread, After-shared_slice_known-in-loop-i-2-1-unread, In-loop-i, Start}
+use Rattle.engine_sealed.proofs.sealed_awards.share.Goals.{After-award-a, In-loop-i, Start}
 
 -- the function's start, from its loop's turn, and the turn, from the award
 abbrev start : In-loop-i → Start
@@ -17,16 +17,16 @@ start c = (goal.at.In-loop-i c).Start
 abbrev turn : After-award-a → In-loop-i
 turn c = (goal.at.After-award-a c).In-loop-i
 
-many : (c : Start) → length (take c.args.count c.args.t4) ≡ c.args.count
-many c = let e : length c.args.t4 ≡ 32 = search rules in length-take-le _ _ (omega (arith, c.requires.0))
+many : (c : Start) → length (take c.args.count c.args.order) ≡ c.args.count
+many c = let e : length c.args.order ≡ 32 = search rules in length-take-le _ _ (omega (arith, c.requires.0))
 
 -- the place whose turn it is
 same :
     (c : In-loop-i) →
-    let s = (start c).args in get_or (take s.count s.t4) c.loop-i.i 0 ≡ get_or s.t4 c.loop-i.i 0
+    let s = (start c).args in get_or (take s.count s.order) c.loop-i.i 0 ≡ get_or s.order c.loop-i.i 0
 same c = get_or-take _ _ _ 0 c.loop-i-test.true
 
-place : (c : In-loop-i) → get_or (start c).args.t4 c.loop-i.i 0 < (start c).args.count
+place : (c : In-loop-i) → get_or (start c).args.order c.loop-i.i 0 < (start c).args.count
 place c = subst (λ k. k < (start c).args.count) (same c) ((start c).requires.3 _ (nth_in 0 _ _ (omega (arith, many (start c), c.loop-i-test.true))))
 
 pub loop-i-init : goal.loop-i-init
@@ -36,13 +36,13 @@ pub offset_bounds-quantities-k : goal.offset_bounds-quantities-k
 offset_bounds-quantities-k c = omega (arith, place c, (start c).requires.0)
 
 pub bounds-quantities-k : goal.bounds-quantities-k
-bounds-quantities-k c = let t = c in omega (arith, place (goal.at.After-shared_slice_known-in-loop-i-1-unread t).In-loop-i, (start (goal.at.After-shared_slice_known-in-loop-i-1-unread t).In-loop-i).requires.1)
+bounds-quantities-k c = omega (arith, place (goal.at.bounds-quantities-k c).In-loop-i, (start (goal.at.bounds-quantities-k c).In-loop-i).requires.1)
 
 pub offset_bounds-minimums-k : goal.offset_bounds-minimums-k
-offset_bounds-minimums-k c = let t = c in omega (arith, place (goal.at.After-shared_slice_known-in-loop-i-1 t).In-loop-i, (start (goal.at.After-shared_slice_known-in-loop-i-1 t).In-loop-i).requires.0)
+offset_bounds-minimums-k c = omega (arith, place (goal.at.offset_bounds-minimums-k c).In-loop-i, (start (goal.at.offset_bounds-minimums-k c).In-loop-i).requires.0)
 
 pub bounds-minimums-k : goal.bounds-minimums-k
-bounds-minimums-k c = let t = c in omega (arith, place (goal.at.After-shared_slice_known-in-loop-i-2-1-unread t).In-loop-i, (start (goal.at.After-shared_slice_known-in-loop-i-2-1-unread t).In-loop-i).requires.2)
+bounds-minimums-k c = omega (arith, place (goal.at.bounds-minimums-k c).In-loop-i, (start (goal.at.bounds-minimums-k c).In-loop-i).requires.2)
 
 pub award-a-requires : goal.award-a-requires
 award-a-requires c = tt
@@ -69,5 +69,4 @@ loop-i-preserved c =
 
 pub returns : goal.returns
 returns c =
-    let s = c in
-    sharing_end _ _ _ _ _ _ _ c.loop-i.invariant (omega (arith, many (goal.at.After-loop-i s).Start, c.loop-i-test.false))
+    sharing_end _ _ _ _ _ _ _ c.loop-i.invariant (omega (arith, many (goal.at.returns c).Start, c.loop-i-test.false))

@@ -1,6 +1,5 @@
 -- How many offers there are, the other lists' lengths, then the fields.
 use mathlib.Core.Bool.{and-false}
-use Rattle.std.proofs.Common.{rules}
 use borrow.Author.Tests.{le-leb, lt-leb, eq-eqb, ne_eqb}
 use Rattle.rules_sealed.specs.Sealed.{long_ok, book_ok}
 use Rattle.engine_sealed.proofs.sealed_checks.book_ok.Goals as goal
@@ -24,7 +23,6 @@ returns-then-ages-prices c = simp (ne_eqb _ _ c.if-ages-prices.true, and-false)
 pub returns : goal.returns
 unfolding book_ok long_ok
 returns c =
-    let x = c in
     simp
-    (le-leb _ _ x.if-prices-gt-MOST_OFFERS.false, eq-eqb _ _ x.if-quantities-prices.false, eq-eqb _ _ x.if-minimums-prices.false, eq-eqb _ _ x.if-ages-prices.false)
+    (le-leb _ _ c.if-prices-gt-MOST_OFFERS.false, eq-eqb _ _ c.if-quantities-prices.false, eq-eqb _ _ c.if-minimums-prices.false, eq-eqb _ _ c.if-ages-prices.false)
     c.offers_ok.ensures

@@ -1,12 +1,9 @@
 -- The offers at the places that are left are within their bounds exactly where all are.
 use Prim.Native.Nat.{◌-◌}
-use mathlib.Core.Path.{refl, sym, ◌∙◌}
 use lib.ListN.{length}
-use Rattle.std.proofs.Common.{rules}
-use borrow.Author.Tests.{not-true, not-false}
 use Rattle.rules_numbers.specs.Lists.{all}
 use Rattle.rules_sealed.specs.Sealed.{book_of, offer_at, offers, offer_ok}
-use Rattle.engine_sealed.proofs.sealed_checks.EveryPlace.{StillAll, before_all, fails_here, passes_here, passes_all}
+use Rattle.engine_sealed.proofs.sealed_checks.EveryPlace.{StillAll}
 use Rattle.engine_sealed.proofs.sealed_checks.offers_ok.Given as goal
 
 abbrev pub invariant-loop-i : goal.invariant-loop-i

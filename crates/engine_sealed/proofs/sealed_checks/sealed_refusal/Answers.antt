@@ -3,8 +3,7 @@
 use mathlib.Core.Path.{◌≡◌, sym, ap, ◌∙◌}
 use mathlib.Core.Bool.{Bool, and-false}
 use lib.Dec.{leb}
-use Rattle.std.proofs.Common.{rules}
-use borrow.Author.Tests.{not-true, not-false, lt-leb}
+use borrow.Author.Tests.{lt-leb}
 use Rattle.rules_numbers.specs.Lists.{all}
 use Rattle.rules_auction.specs.Refusals.{check}
 use Rattle.rules_sealed.specs.Sealed.{book_of, sealed_refusal}
@@ -20,13 +19,13 @@ passed :
 passed c =
     let x = c in
     by_ceiling _ _ _
-    (sym x.is_up_to.ensures ∙ not-false _ x.if-not-is_up_to.false)
+    (sym x.is_up_to.ensures ∙ x.if-not-is_up_to.false)
     x.if-demand-gt-MOST_DEMAND.false
-    (sym c.book_ok.ensures ∙ not-false _ c.if-not-book_ok.false)
+    (sym c.book_ok.ensures ∙ c.if-not-book_ok.false)
 
 pub returns-then-not-is_up_to : goal.returns-then-not-is_up_to
 unfolding sealed_refusal
-returns-then-not-is_up_to c = simp (sym c.is_up_to.ensures ∙ not-true _ c.if-not-is_up_to.true)
+returns-then-not-is_up_to c = simp (sym c.is_up_to.ensures ∙ c.if-not-is_up_to.true)
 
 pub returns-then-demand-gt-MOST_DEMAND : goal.returns-then-demand-gt-MOST_DEMAND
 unfolding sealed_refusal
@@ -34,10 +33,10 @@ returns-then-demand-gt-MOST_DEMAND c = simp (lt-leb _ _ c.if-demand-gt-MOST_DEMA
 
 pub returns-then-not-book_ok : goal.returns-then-not-book_ok
 unfolding sealed_refusal
-returns-then-not-book_ok c = simp (sym c.book_ok.ensures ∙ not-true _ c.if-not-book_ok.true, and-false)
+returns-then-not-book_ok c = simp (sym c.book_ok.ensures ∙ c.if-not-book_ok.true, and-false)
 
 pub returns-then-not-within_ceiling : goal.returns-then-not-within_ceiling
-returns-then-not-within_ceiling c = sym (passed (goal.at.returns-then-not-within_ceiling c).Else-not-book_ok ∙ ap (λ (t : Bool). check t 19 0) (sym c.within_ceiling.ensures ∙ not-true _ c.if-not-within_ceiling.true))
+returns-then-not-within_ceiling c = sym (passed (goal.at.returns-then-not-within_ceiling c).Else-not-book_ok ∙ ap (λ (t : Bool). check t 19 0) (sym c.within_ceiling.ensures ∙ c.if-not-within_ceiling.true))
 
 pub returns : goal.returns
-returns c = sym (passed (goal.at.returns c).Else-not-book_ok ∙ ap (λ (t : Bool). check t 19 0) (sym c.within_ceiling.ensures ∙ not-false _ c.if-not-within_ceiling.false))
+returns c = sym (passed (goal.at.returns c).Else-not-book_ok ∙ ap (λ (t : Bool). check t 19 0) (sym c.within_ceiling.ensures ∙ c.if-not-within_ceiling.false))

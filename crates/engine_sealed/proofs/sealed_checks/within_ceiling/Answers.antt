@@ -1,13 +1,9 @@
 -- The prices at the places that are left are at most the ceiling exactly where all are.
-use Prim.Native.Nat.{◌-◌}
 use mathlib.Core.Path.{sym, ap}
-use lib.Dec.{leb}
-use lib.ListN.{length, get_or}
-use Rattle.std.proofs.Common.{rules}
 use borrow.Author.Tests.{le-leb, lt-leb}
 use Rattle.rules_numbers.specs.Lists.{all}
 use Rattle.engine_sealed.specs.sealed_checks.Listed.{listed}
-use Rattle.engine_sealed.proofs.sealed_checks.EveryPlace.{StillAll, before_all, fails_here, passes_here, passes_all}
+use Rattle.engine_sealed.proofs.sealed_checks.EveryPlace.{before_all, fails_here, passes_here, passes_all}
 use Rattle.engine_sealed.proofs.sealed_checks.within_ceiling.Goals as goal
 
 pub loop-i-init : goal.loop-i-init
