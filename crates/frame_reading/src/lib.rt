@@ -1,3 +1,5 @@
 // A line's call, and its arguments.
+#![tactic(auto)]
+
 pub mod arguments;
 pub mod frames;

@@ -1,5 +1,7 @@
 // The frame of a call (document 02, 2), by the table of field widths that the reader uses, with its 0A, written at the start of a lent buffer.
 // The contracts are equations with the definitions of the crate `rules_format`.
+#![tactic(auto)]
+
 ghost use Rattle.std.specs.Prelude.{◌≡◌, true, ◌≤◌, length};
 ghost use Rattle.rules_numbers.specs.Tails.{laid};
 ghost use Rattle.rules_format.specs.Fields.{raw_call};

@@ -1,4 +1,6 @@
 // The replies to a closing and to a settling, and the values of their fields.
+#![tactic(auto)]
+
 ghost use Rattle.std.specs.Prelude.{◌≡◌, cond, min, ◌*◌, replicate};
 ghost use Rattle.rules_numbers.specs.Lists.{padded};
 ghost use Rattle.rules_auction.specs.Rounds.{Answered};

@@ -1,5 +1,7 @@
 // What stands around a reply in words and decimal numbers, an item a line: before a closing's its preview, below an accepted one what it says, and
 // the supply curve; below an accepted settling what it says. Each writer takes a place in the lent buffer and gives the place behind what it wrote.
+#![tactic(auto)]
+
 ghost use Rattle.std.specs.Prelude.{◌+◌, ◌≤◌, length};
 ghost use Rattle.trace_text.specs.Words.{closed_lines, preview_line, point_line, lines_before, lines_below};
 ghost use Rattle.trace_text.specs.decimal_text.Puts.{Puts};

@@ -1,9 +1,9 @@
 -- The loop keeps that the line is all digits exactly if the bytes passed and those left are.
-use Prim.Native.Nat.{◌+◌, ◌-◌, ◌≤◌}
+use Prim.Native.Nat.{◌+◌}
 use mathlib.Core.Path.{◌≡◌, refl, ap, sym, ◌∙◌}
 use mathlib.Core.Bool.{Bool, true, false, ◌&&◌}
 use Rattle.std.proofs.Common.{arith}
-use lib.ListN.{length, drop, drop_of_length-le}
+use lib.ListN.{drop, drop_of_length-le}
 use Rattle.rules_numbers.specs.Lists as lists
 use Rattle.rules_format.specs.Hex.{all_hex}
 use Rattle.rules_format.specs.HexLaws.{hex_step}

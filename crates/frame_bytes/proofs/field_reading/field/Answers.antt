@@ -2,7 +2,6 @@
 use Prim.Native.Nat.{ℕ, ◌+◌, ◌-◌}
 use mathlib.Core.Path.{◌≡◌, ap, ◌∙◌}
 use Rattle.std.proofs.Common.{arith}
-use Rattle.std.proofs.Common.{rules}
 use lib.ListN.{take, drop}
 use Rattle.rules_format.specs.Hex.{hex_number}
 use Rattle.frame_bytes.proofs.field_reading.field.Goals as goal

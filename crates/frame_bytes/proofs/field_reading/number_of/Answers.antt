@@ -1,9 +1,8 @@
 -- The loop keeps that the digits left, read on behind the number so far, make the number; no number on the way is larger.
-use Prim.Native.Nat.{ℕ, ◌+◌, ◌-◌, ◌*◌, ◌^◌, ◌≤◌, ◌<◌}
+use Prim.Native.Nat.{ℕ, ◌+◌, ◌*◌, ◌^◌, ◌<◌}
 use mathlib.Core.Path.{◌≡◌, refl, ap, sym, ◌∙◌}
 use Rattle.std.proofs.Common.{arith}
-use Rattle.std.proofs.Common.{rules}
-use lib.ListN.{length, drop, get_or, drop_of_length-le}
+use lib.ListN.{drop, get_or, drop_of_length-le}
 use Rattle.rules_format.specs.Hex.{hex_number, number_from, value_of}
 use Rattle.rules_format.specs.HexLaws.{number_step, number_from_le, number_fits}
 use Rattle.frame_bytes.proofs.field_reading.number_of.Goals as goal

@@ -2,7 +2,6 @@
 use Prim.Native.Nat.{◌-◌, ◌*◌, ◌≤◌}
 use mathlib.Core.Path.{◌≡◌, sym, ◌∙◌}
 use Rattle.std.proofs.Common.{arith}
-use Rattle.std.proofs.Common.{rules}
 use lib.ListN.{get_or}
 use Rattle.rules_format.specs.Fields.{repeats}
 use Rattle.frame_bytes.specs.field_table.Fitting.{repeats_none, repeats_are}

@@ -1,13 +1,10 @@
 -- The widths of the row are copied up to the 0 that ends them; the loop keeps `Shaping`, of whatever kind has these widths.
-use Prim.Native.Nat.{ℕ, ◌+◌, ◌-◌, ◌≤◌, ◌<◌}
-use mathlib.Core.Path.{◌≡◌}
+use Prim.Native.Nat.{◌+◌, ◌≤◌, ◌<◌}
 use Rattle.std.proofs.Common.{arith}
 use lib.ListN.{get_or}
-use Rattle.rules_numbers.specs.Lists.{padded}
-use Rattle.rules_format.specs.Fields as format
 use Rattle.frame_bytes.specs.field_table.Fitting.{fitting_kind}
 use Rattle.frame_bytes.specs.field_table.RowLaws.{width_small, width_inside}
-use Rattle.frame_bytes.proofs.field_table.Shaping.{Shaping, shaping_first, shaping_room, shaping_next, shaping_end}
+use Rattle.frame_bytes.proofs.field_table.Shaping.{shaping_first, shaping_room, shaping_next, shaping_end}
 use Rattle.frame_bytes.proofs.field_table.shape_of.Goals as goal
 use Rattle.frame_bytes.proofs.field_table.shape_of.Goals.{At-loop-count, In-loop-count, Start}
 

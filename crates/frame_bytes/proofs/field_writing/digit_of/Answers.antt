@@ -1,5 +1,4 @@
 -- The two cases of `char_of`.
-use Rattle.std.proofs.Common.{rules}
 use borrow.Author.Tests.{lt-ltb, le-ltb}
 use Rattle.rules_format.specs.Hex.{char_of}
 use Rattle.frame_bytes.proofs.field_writing.digit_of.Goals as goal

@@ -1,5 +1,4 @@
 -- One byte set is that byte and the rest.
-use Rattle.std.proofs.Common.{rules}
 use lib.Seq.{set_split}
 use Rattle.rules_numbers.specs.Tails.{laid}
 use Rattle.frame_bytes.proofs.field_writing.put_byte.Goals as goal

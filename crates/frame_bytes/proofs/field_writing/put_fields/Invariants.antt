@@ -1,9 +1,7 @@
 -- Each turn writes one field into the tail behind those before; the loop keeps `Putting`.
-use Prim.Native.Nat.{◌+◌, ◌-◌, ◌≤◌}
-use Rattle.std.proofs.Common.{arith}
-use Rattle.std.proofs.Common.{rules}
-use lib.ListN.{length, get_or}
-use Rattle.frame_bytes.proofs.field_writing.Putting.{Putting, putting_first, putting_room, putting_tail, putting_next, putting_end}
+use Prim.Native.Nat.{◌-◌}
+use lib.ListN.{length}
+use Rattle.frame_bytes.proofs.field_writing.Putting.{Putting}
 use Rattle.frame_bytes.proofs.field_writing.put_fields.Given as goal
 
 abbrev pub invariant-loop-j : goal.invariant-loop-j

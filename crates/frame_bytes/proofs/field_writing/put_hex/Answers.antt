@@ -1,7 +1,5 @@
 -- The digits are written from the low end; the loop keeps `Writing`.
-use Prim.Native.Nat.{◌-◌}
-use Rattle.std.proofs.Common.{arith}
-use Rattle.frame_bytes.proofs.field_writing.Writing.{Writing, writing_first, writing_next, writing_end}
+use Rattle.frame_bytes.proofs.field_writing.Writing.{writing_first, writing_next, writing_end}
 use Rattle.frame_bytes.proofs.field_writing.put_hex.Goals as goal
 
 pub loop-i-init : goal.loop-i-init

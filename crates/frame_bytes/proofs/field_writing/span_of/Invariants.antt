@@ -1,9 +1,7 @@
 -- What was added and what is left make the sum.
-use Prim.Native.Nat.{◌+◌, ◌-◌}
-use Rattle.std.proofs.Common.{arith}
-use Rattle.std.proofs.Common.{rules}
-use lib.ListN.{length, get_or}
-use Rattle.frame_bytes.proofs.field_writing.Putting.{Adding, adding_first, adding_next, adding_end}
+use Prim.Native.Nat.{◌-◌}
+use lib.ListN.{length}
+use Rattle.frame_bytes.proofs.field_writing.Putting.{Adding}
 use Rattle.frame_bytes.proofs.field_writing.span_of.Given as goal
 
 abbrev pub invariant-loop-j : goal.invariant-loop-j

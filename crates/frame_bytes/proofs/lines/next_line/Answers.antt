@@ -6,7 +6,6 @@ use lib.ListN.{length, take, drop, length-drop}
 use lib.Seq.{take_all}
 use Rattle.rules_format.specs.Lines.{run}
 use Rattle.rules_format.specs.LineLaws.{start_in, start_out, end_in, end_out}
-use Rattle.std.proofs.Common.{rules}
 use Rattle.frame_bytes.proofs.lines.next_line.Goals as goal
 
 pub returns-then-len-at : goal.returns-then-len-at

@@ -1,11 +1,8 @@
 -- The loop keeps that the bytes passed and the run of what is left make the run of all.
 use Prim.Native.Nat.{◌+◌, ◌-◌, ◌≤◌}
 use mathlib.Core.Path.{◌≡◌}
-use Rattle.std.proofs.Common.{arith}
-use Rattle.std.proofs.Common.{rules}
 use lib.ListN.{length, drop}
 use Rattle.rules_format.specs.Lines.{run}
-use Rattle.rules_format.specs.LineLaws.{run_stop, run_more, run_end}
 use Rattle.frame_bytes.proofs.lines.run_of.Given as goal
 
 abbrev pub invariant-loop-n : goal.invariant-loop-n

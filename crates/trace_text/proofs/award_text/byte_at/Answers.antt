@@ -1,0 +1,12 @@
+-- An element of an array of bytes.
+use mathlib.Core.Path.{refl}
+use mir.Syntax.{w8}
+use mir.Val.{Fits}
+use lib.ListN.{get_or}
+use Rattle.std.proofs.Common.{rules}
+use Rattle.trace_text.proofs.award_text.byte_at.Goals as goal
+
+pub returns : goal.returns
+returns c =
+    let f : Fits w8 (get_or c.args.awards c.args.i 0) = search rules in
+    (refl, f.fits)
