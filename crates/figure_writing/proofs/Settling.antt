@@ -15,7 +15,7 @@ use Rattle.rules_auction.specs.Award.{admissible}
 use Rattle.rules_auction.specs.Clearing.{closing_price}
 use Rattle.rules_auction.specs.Refusals.{check, is_closed}
 use Rattle.rules_auction.specs.Rounds.{ledger}
-use Rattle.rules_auction.specs.Settling.{records, settlement_at, settlement, settling_refusal}
+use Rattle.rules_auction.specs.Settling.{settlement_at, settlement, settling_refusal}
 use Rattle.rules_replies.specs.Lengths.{six, records_room}
 use Rattle.rules_seats.specs.figures.Figures.{figures_refusal, settlement_figures, award_bytes, settlement_refusal}
 use Rattle.rules_seats.specs.figures.FigureLaws.{settling_clamped, awards_few}

@@ -1,6 +1,8 @@
 // The figures of an auction, written into the numbers that a host lends: its state, the supply curve, the settlement, and what a seat reads. Each leaves
 // all that was lent where it refuses, and tests last whether the figures fit (11). The contracts are equations with the ledger, for every list of calls
 // (specs/Writes.antt).
+#![tactic(auto)]
+
 ghost use Rattle.seats.specs.Rights.{seat_in};
 ghost use Rattle.figure_writing.specs.Writes.{WritesState, WritesCurve, WritesSettlement, WritesReading};
 

@@ -1,7 +1,7 @@
 -- The closings that are accepted so far, and the excess of the latest one: what is left of the lines adds to them.
 use Prim.Native.Nat.{ℕ, ◌+◌, ◌≤◌}
 use mathlib.Core.Path.{◌≡◌, refl, sym, ap, ap₂, ◌∙◌}
-use mathlib.Core.Bool.{Bool, false, cond}
+use mathlib.Core.Bool.{Bool, false}
 use mathlib.Core.List.{List, [], ◌∷◌, ◌++◌}
 use native.Mathlib.Omega.{arith}
 use borrow.Author.Tests.{eq-eqb, ne_eqb}
@@ -10,9 +10,9 @@ use lib.ListN.{length}
 use Rattle.rules_format.specs.LineLaws.{no_line}
 use Rattle.rules_auction.specs.Ledger.{Call, SetUp, Register, Open, By, Close, Ledger}
 use Rattle.rules_auction.specs.Refusals.{refusal}
-use Rattle.rules_auction.specs.Rounds.{step_all, ledger, Answered, answer}
+use Rattle.rules_auction.specs.Rounds.{step_all, ledger, Answered}
 use Rattle.laws_ledger.specs.reachable.Steps.{ledger_append}
-use Rattle.rules_replies.specs.Orders.{Order, Asks, Settle, ordered}
+use Rattle.rules_replies.specs.Orders.{ordered}
 use Rattle.rules_replies.specs.Replies.{call_kind}
 use Rattle.rules_replies.specs.record_calls.Calls.{asked_calls}
 use Rattle.rules_seats.specs.Seats.{HallLedger, latest_excess}

@@ -13,7 +13,7 @@ use Rattle.rules_numbers.specs.Lists.{part}
 use Rattle.rules_format.specs.Lines.{line_start, line_end}
 use Rattle.rules_auction.specs.Ledger.{Call}
 use Rattle.rules_auction.specs.Rounds.{ledger}
-use Rattle.rules_replies.specs.Orders.{Order, Settle}
+use Rattle.rules_replies.specs.Orders.{Settle}
 use Rattle.rules_replies.specs.Replies.{award_room, answer_line, reply_to}
 use Rattle.rules_replies.specs.record_calls.Calls.{asked_calls}
 use Rattle.rules_seats.specs.figures.Figures.{hall_after, closings_from}

@@ -1,5 +1,7 @@
 // The replies to the lines of a record or of a session, from an auction on (document 01, Frames), in one loop. It keeps the auction as its one local: a line
 // is read and decided from the clock and what the auction holds where the call reaches, and only what changes is stored.
+#![tactic(auto)]
+
 ghost use Rattle.std.specs.Prelude.{◌≡◌, ◌<◌};
 ghost use Rattle.record_replies.specs.Runs.{Runs};
 ghost use Rattle.reply_writing.specs.Placed.{most};

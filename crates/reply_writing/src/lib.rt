@@ -1,4 +1,6 @@
 // A reply's text written at the start of the tail that it is handed.
+#![tactic(auto)]
+
 ghost use Rattle.std.specs.Prelude.{◌≡◌, ◌*◌, ◌≤◌, ◌<◌, length, take};
 ghost use mathlib.Core.List.{[], map, flatten};
 ghost use Rattle.rules_format.specs.Hex.{digits};

@@ -1,6 +1,6 @@
 -- The call that a frame of each kind asks, and its arguments.
 use Prim.Native.Nat.{ℕ, ◌<◌}
-use mathlib.Core.Path.{◌≡◌, refl, sym, ap, ◌∙◌, subst}
+use mathlib.Core.Path.{◌≡◌, refl, sym, ap, ◌∙◌}
 use mathlib.Core.Logic.{◌⊎◌, inl, inr, ⊎_elim}
 use mathlib.Core.Bool.{Bool, true, false, ◌||◌}
 use mathlib.Core.List.{List}
@@ -8,10 +8,9 @@ use native.Mathlib.Omega.{arith}
 use lib.Dec.{eqb}
 use lib.ListN.{get_or, drop}
 use borrow.Author.Tests.{eqb-true}
-use Rattle.rules_format.specs.Fields.{raw_call, fixed}
-use Rattle.rules_auction.specs.Ledger.{Agency, Own, Named, agent_for, Call, Developer, Move, Offer, Lodge, Cancel, By, Open, Ledger}
+use Rattle.rules_format.specs.Fields.{fixed}
+use Rattle.rules_auction.specs.Ledger.{Own, Named, Developer, Offer, Lodge, Cancel, Open, Ledger}
 use Rattle.rules_replies.specs.Orders.{Asks, firsts, seconds, set_up_of, registration_of, registration_for_of, order_of}
-use Rattle.rules_replies.specs.Replies.{call_kind}
 use Rattle.frame_reading.specs.declared.frames.Frame.{Frame}
 use Rattle.frame_reading.specs.arguments.FrameFields.{fields_in}
 use Rattle.frame_reading.specs.arguments.FieldColumns.{below}
@@ -23,7 +22,7 @@ use Rattle.engine_auction.specs.Decided.{AnswersClock, with_round, Enters}
 use Rattle.engine_auction.specs.declared.Auction.{Auction}
 use Rattle.engine_auction.specs.declared.ClockAnswer.{ClockAnswer}
 use Rattle.engine_auction.specs.declared.Entered.{Entered}
-use Rattle.record_lines.specs.line_calls.Decisions.{is_move, is_registration, is_clock, MoveFrame, RegistrationFrame, ClockFrame, Asked, developer_of}
+use Rattle.record_lines.specs.line_calls.Decisions.{is_move, MoveFrame, RegistrationFrame, ClockFrame, developer_of}
 use Rattle.record_lines.specs.line_calls.Decisions.{DecidesMove, DecidesRegistration, DecidesClock}
 use Rattle.record_lines.specs.line_calls.DecisionLaws.{framed, ordered_as}
 

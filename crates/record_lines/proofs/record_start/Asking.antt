@@ -1,16 +1,16 @@
 -- A line of 48 digits and kind 01 is a set-up's, by the table of field widths.
-use Prim.Native.Nat.{ℕ, ◌+◌, ◌*◌, ◌≤◌}
-use mathlib.Core.Path.{◌≡◌, refl, sym, ap, ap₂, ◌∙◌}
+use Prim.Native.Nat.{ℕ, ◌+◌}
+use mathlib.Core.Path.{◌≡◌, sym, ap, ap₂, ◌∙◌}
 use mathlib.Core.Bool.{true}
 use mathlib.Core.List.{List, [], ◌∷◌}
 use mathlib.Core.Option.{some}
 use native.Mathlib.Nat.{zero-mul}
 use native.Mathlib.Omega.{arith}
-use lib.ListN.{length, take, drop, replicate}
+use lib.ListN.{length, take, drop}
 use lib.Seq.{drop-drop}
 use Rattle.rules_numbers.specs.Lists.{total, any}
 use Rattle.rules_format.specs.Hex.{all_hex, hex_number}
-use Rattle.rules_format.specs.Fields.{RawCall, raw_call, known, fixed, each, count, repeats, layout, fields_at, kind_of, asked_widths, call_of, read}
+use Rattle.rules_format.specs.Fields.{raw_call, known, fixed, each, count, repeats, layout, fields_at, kind_of, asked_widths, call_of, read}
 use Rattle.rules_format.specs.FieldLaws.{WellFormed, reads}
 
 -- the field of this width at this place

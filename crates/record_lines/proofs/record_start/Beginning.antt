@@ -1,5 +1,5 @@
 -- What a set-up makes of the fresh auction, and the reply to it.
-use Prim.Native.Nat.{ℕ, ◌+◌, ◌≤◌, ◌<◌}
+use Prim.Native.Nat.{ℕ, ◌+◌, ◌≤◌}
 use mathlib.Core.Path.{◌≡◌, refl, sym, ap, ◌∙◌, subst}
 use mathlib.Core.Bool.{false}
 use mathlib.Core.List.{List, [], ◌∷◌}
@@ -11,7 +11,7 @@ use Rattle.rules_format.specs.Fields.{raw_call, read}
 use Rattle.rules_format.specs.Lines.{line_start, line_end}
 use Rattle.rules_auction.specs.Ledger.{start}
 use Rattle.rules_auction.specs.Rounds.{step_all, ledger, Answered, bare_answer}
-use Rattle.rules_replies.specs.Orders.{Order, Asks, order_of, ordered, order_in}
+use Rattle.rules_replies.specs.Orders.{Asks, order_of, ordered, order_in}
 use Rattle.rules_replies.specs.Replies.{answer_line, reply_to}
 use Rattle.rules_seats.specs.sessions.LinesRead.{order_as}
 use Rattle.rules_seats.specs.sessions.LinesReadLaws.{plain_free}

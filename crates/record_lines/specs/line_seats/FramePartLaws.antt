@@ -15,7 +15,7 @@ use Rattle.rules_seats.specs.sessions.SeatedLines.{order_kind, is_barred}
 use Rattle.rules_seats.specs.sessions.LinesRead.{order_as, barred_as}
 use Rattle.rules_seats.specs.sessions.LinesReadLaws.{barred_frame, kind_barred}
 use Rattle.seats.specs.session_lines.FramePartLaws.{frame_asks, barred_read, unread_free}
-use Rattle.frame_reading.specs.frames.Decoded.{raw_call_in, call_in, call_none, call_some}
+use Rattle.frame_reading.specs.frames.Decoded.{call_in, call_none, call_some}
 use Rattle.frame_reading.specs.declared.frames.Frame.{Frame}
 use Rattle.frame_reading.specs.arguments.FrameFields.{fields_in}
 use Rattle.record_lines.specs.line_seats.FrameParts.{frame_part, barred_by}
