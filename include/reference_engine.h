@@ -1,6 +1,6 @@
 /*
  * The Reference Engine of the firm-energy clock auction, for hosts in C.
- * Link with target/staticlib/libhost.a, made by: rt staticlib host
+ * Link with target/staticlib/libhost.a, made by: tools/build host
  *
  * Quantities are whole kWh per day; prices are whole thousandths of US$ per MWh.
  *

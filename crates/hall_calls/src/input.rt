@@ -60,7 +60,7 @@ fn with_digit(n: u64, b: u8) -> u64 {
     if 57 < b {
         return n;
     }
-    std::num::wrapping_add_u64(n % 1844674407370955162 * 10, (b - 48) as u64)
+    (n % 1844674407370955162 * 10).wrapping_add((b - 48) as u64)
 }
 
 fn word(n: u64) -> u32 {

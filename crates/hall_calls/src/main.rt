@@ -1,8 +1,10 @@
 // Makes the calls on standard input on the hall, a line each, through the seat that the line names, and prints what each answers, then what the
 // seat reads. No frame can say them. The independent implementation makes the same calls and has to print the same.
+#![tactic(auto)]
+
 use hall::Hall;
 use input::Line;
-use libc::STDIN_FILENO;
+use std::io;
 
 mod calls;
 mod input;
@@ -20,38 +22,39 @@ struct Session {
 }
 
 // Goes on with the next bytes of the input.
-fn run(before: Session, text: &[u8]) -> Session {
+fn run(rt: &impl Print, before: Session, text: &[u8]) -> io::Result<Session> {
     let mut hall = before.hall;
     let mut line = before.line;
     let mut i: usize = 0;
     while i < text.len() {
         line = line.with_byte(text[i]);
-        hall = calls::made(hall, line);
+        hall = calls::made(rt, hall, line)?;
         i += 1;
     }
-    Session {
+    Ok(Session {
         hall: hall,
         line: line,
         ended: text.len() == 0,
-    }
+    })
 }
 
-fn read_on(before: Session) -> Session {
-    let mut text = io::large_buffer();
-    let n = io::read_full(STDIN_FILENO, &mut text);
-    run(before, &text[..n])
+fn read_on(rt: &(impl Input + Print), before: Session) -> io::Result<Session> {
+    let mut text = program_input::large_buffer();
+    let n = program_input::read_full(&mut rt.reader(), &mut text)?;
+    run(rt, before, &text[..n])
 }
 
-fn main() {
+fn main(rt: HostRuntime) -> io::Result<()> {
     let mut session = Session {
         hall: Hall::new(),
         line: Line::new(),
         ended: false,
     };
     for _ in 0..MOST_BUFFERS {
-        session = read_on(session);
+        session = read_on(&rt, session)?;
         if session.ended {
-            return;
+            return Ok(());
         }
     }
+    Ok(())
 }

@@ -1,5 +1,9 @@
 // Reads a record from standard input and writes what `print` gives for it: its replies, or FF0B where it is longer than 65,536 bytes or they are.
+#![tactic(auto)]
+
 ghost use Rattle.std.specs.Prelude.{◌≡◌, length};
+
+use std::io;
 
 // One byte more than a record may have, so that a longer one is seen.
 fn input() -> [u8; 65537]
@@ -8,10 +12,10 @@ fn input() -> [u8; 65537]
     [0; 65537]
 }
 
-fn main() {
+fn main(rt: HostRuntime) -> io::Result<()> {
     let mut record = input();
-    let n = io::read_full(libc::STDIN_FILENO, &mut record);
-    let mut out = io::large_buffer();
+    let n = program_input::read_full(&mut rt.stdin(), &mut record)?;
+    let mut out = program_input::large_buffer();
     let written = record_replay::print(&record[..n], &mut out);
-    io::write_all(libc::STDOUT_FILENO, &out[..written]);
+    rt.write_all(&out[..written])
 }

@@ -1,14 +1,17 @@
 // Replays the record on standard input, at most 65,536 bytes, and writes each reply, below it what it says in words and decimal numbers, before a
 // closing's what a preview says, and below an accepted one the supply curve; FF0B alone where the record is longer. What it writes is collected in a
 // buffer, which is written out when it may have no room for more.
-ghost use Rattle.std.specs.Prelude.{◌≡◌, ◌+◌, ◌≤◌, min, length};
-ghost use Rattle.io.specs.Counts.{IsPrefixLen};
+#![tactic(auto)]
+
+ghost use Rattle.std.specs.Prelude.{◌≡◌, ◌+◌, ◌≤◌, min, length, IfOk};
+ghost use Rattle.std.specs.Io.{ReadsAtMost};
 
 use engine_auction::Auction;
 use engine_looks::readings;
 use frame_bytes::lines;
 use frame_reading::frames;
 use record_replies::Ran;
+use std::io;
 use trace_text::{NO_PREVIEW, PreviewShown};
 
 // The most bytes of a record (document 01, Frames).
@@ -40,15 +43,15 @@ fn least(x: usize, y: usize) -> usize
 }
 
 // Where there is room for more: behind what is collected, or at the start once that is written out.
-fn with_room(text: &[u8], end: usize) -> usize
+fn with_room(rt: &impl Print, text: &[u8], end: usize) -> io::Result<usize>
     requires { (end ≤ length text.now) × (4096 ≤ length text.now) }
-    ensures { result + 4096 ≤ length text.now }
+    ensures { IfOk result (λ at. at + 4096 ≤ length text.now) }
 {
     if ROOM <= text.len() - end {
-        return end;
+        return Ok(end);
     }
-    io::write_all(libc::STDOUT_FILENO, &text[..end]);
-    0
+    rt.write_all(&text[..end])?;
+    Ok(0)
 }
 
 // What a closing would answer; only before one is it looked at.
@@ -78,17 +81,23 @@ fn points_shown(auction: Auction, kind: usize, accepted: bool) -> usize {
 }
 
 // Puts the first points of the supply curve (document 02, 9), one a line, and gives the place behind them.
-fn put_curve(text: &mut [u8], from: usize, auction: Auction, points: usize) -> usize
+fn put_curve(
+    rt: &impl Print,
+    text: &mut [u8],
+    from: usize,
+    auction: Auction,
+    points: usize,
+) -> io::Result<usize>
     requires { (from ≤ length text.old) × (4096 ≤ length text.old) }
-    ensures { result ≤ length text.old }
+    ensures { IfOk result (λ end. end ≤ length text.old) }
 {
     let mut end = from;
     for place in 0..points {
         let point = readings::supply_point(auction, place);
-        let at = with_room(text, end);
+        let at = with_room(rt, text, end)?;
         end = trace_text::put_point(text, at, point.price, point.before, point.after);
     }
-    end
+    Ok(end)
 }
 
 // Puts the reply to a line, which stands with its 0A.
@@ -99,9 +108,9 @@ fn put_reply(text: &mut [u8], at: usize, auction: Auction, line: &[u8]) -> Ran
 }
 
 // Puts the trace of a record's lines, and gives the place behind what is not yet written out.
-fn put_lines(bytes: &[u8], text: &mut [u8]) -> usize
+fn put_lines(rt: &impl Print, bytes: &[u8], text: &mut [u8]) -> io::Result<usize>
     requires { 4096 ≤ length text.old }
-    ensures { IsPrefixLen result text.new }
+    ensures { ReadsAtMost result text.new }
 {
     let mut auction = Auction::new();
     let mut end: usize = 0;
@@ -111,7 +120,7 @@ fn put_lines(bytes: &[u8], text: &mut [u8]) -> usize
         let next = least(at + line.len() + 1, bytes.len());
         let kind = frames::decode(line).kind;
         let preview = look(auction, kind);
-        let start = with_room(text, end);
+        let start = with_room(rt, text, end)?;
         let reply = trace_text::put_before(text, start, kind, preview);
         let ran = put_reply(text, reply, auction, &bytes[at..next]);
         let n = least(ran.written, LONGEST_REPLY);
@@ -128,20 +137,25 @@ fn put_lines(bytes: &[u8], text: &mut [u8]) -> usize
             awards,
         );
         auction = ran.auction;
-        end = put_curve(text, below, auction, points_shown(auction, kind, accepted));
+        end = put_curve(
+            rt,
+            text,
+            below,
+            auction,
+            points_shown(auction, kind, accepted),
+        )?;
         at = next;
     }
-    end
+    Ok(end)
 }
 
-fn main() {
+fn main(rt: HostRuntime) -> io::Result<()> {
     let mut record = input();
-    let n = io::read_full(libc::STDIN_FILENO, &mut record);
+    let n = program_input::read_full(&mut rt.stdin(), &mut record)?;
     if LONGEST_RECORD < n {
-        io::write_all(libc::STDOUT_FILENO, b"FF0B\n");
-        return;
+        return rt.write_all(b"FF0B\n");
     }
-    let mut text = io::large_buffer();
-    let end = put_lines(&record[..n], &mut text);
-    io::write_all(libc::STDOUT_FILENO, &text[..end]);
+    let mut text = program_input::large_buffer();
+    let end = put_lines(&rt, &record[..n], &mut text)?;
+    rt.write_all(&text[..end])
 }
