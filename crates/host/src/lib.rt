@@ -1,4 +1,6 @@
 // The calls that a C host links: plain numbers and slices of them, no preconditions.
+#![tactic(auto)]
+
 ghost use Rattle.std.specs.Prelude.{◌≡◌, length};
 ghost use Rattle.rules_demand.specs.Answer.{demand_answer};
 ghost use Rattle.rules_auction.specs.Ledger.{settings_of, Offer, Lodge, Cancel, SetUp, Open, By, Close};

@@ -1,5 +1,7 @@
 // The figures of the auction that a record, or where `seated` says so a session, leaves behind, in lent numbers: what a C host gets of them
 // (include/reference_engine.h). Nothing is held between calls: the record is the state.
+#![tactic(auto)]
+
 ghost use Rattle.record_replay.specs.record_auction.Leaves.{ledger_of};
 ghost use Rattle.record_figures.specs.Told.{TellsState, TellsPreview, TellsCurve, TellsSettlement};
 

@@ -1,4 +1,6 @@
 // A record or a session replayed into a lent buffer (document 01, Frames). Nothing is written unless all fits.
+#![tactic(auto)]
+
 ghost use Rattle.std.specs.Prelude.{◌≡◌, cond, [], ◌≤◌, ◌<◌, length};
 ghost use Rattle.rules_numbers.specs.Tails.{laid};
 ghost use Rattle.rules_replies.specs.Replies.{answer_line, replies};

@@ -9,8 +9,6 @@ use lib.IntN.{pos}
 use lib.ListN.{drop}
 use borrow.Author.Tests.{eq-eqb}
 use Rattle.rules_numbers.specs.Lists.{total, any, all}
-use Rattle.rules_demand.specs.Demand.{InBounds, InRange}
-use Rattle.rules_demand.specs.Remainder.{remainder}
 use Rattle.rules_demand.specs.Range.{in_bounds_test, in_range_test}
 use Rattle.rules_demand.specs.Answer.{demand_answer}
 use Rattle.rules_format.specs.Hex.{is_hex, value_of, number_from}
@@ -28,7 +26,6 @@ use Rattle.laws_ledger.specs.reachable.Bounds.{closing_in_range}
 use Rattle.laws_ledger.specs.reachable.Steps.{answer_accepted, ledger_snoc}
 use Rattle.rules_replies.specs.Orders.{firsts, seconds, order_of, ordered, order_in}
 use Rattle.rules_replies.specs.Replies.{twos_complement}
-use Rattle.rules_seats.specs.Seats.{HallLedger}
 use Rattle.rules_seats.specs.figures.Figures.{one_if, hall_after, closes_round, closings_from, preview_figures}
 use Rattle.rules_seats.specs.figures.FigureLaws.{closing_excess}
 use Rattle.rules_seats.specs.sessions.LinesRead.{order_as, barred_as, asked_as, calls_as}

@@ -1,0 +1,8 @@
+-- The library's answer, as the host's number.
+use Rattle.host.specs.Forcing.{host_forcing_lem, record_forcing}
+use Rattle.host.proofs.who_can_force.Goals as goal
+
+pub returns : goal.returns
+returns c =
+    let told = record_forcing _ _ _ _ _ _ _ c.who_can_force-told.ensures in
+    record { value = host_forcing_lem _ _ _ _ _ _ _ _ told c.host_number.ensures; chosen_after = told.buffer }

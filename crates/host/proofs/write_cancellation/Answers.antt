@@ -1,0 +1,6 @@
+-- The library's answer, as the host's number.
+use Rattle.host.specs.Writing.{host_writes}
+use Rattle.host.proofs.write_cancellation.Goals as goal
+
+pub returns : goal.returns
+returns c = host_writes _ _ _ _ _ c.write_cancellation.ensures c.host_bytes.ensures

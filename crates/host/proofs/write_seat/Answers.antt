@@ -1,0 +1,6 @@
+-- The refusal that is told, or four bytes.
+use Rattle.host.specs.Writing.{host_writes_seat}
+use Rattle.host.proofs.write_seat.Goals as goal
+
+pub returns : goal.returns
+returns c = let w = c.write_seat.ensures in host_writes_seat _ _ _ _ _ _ w.value w.out_after c.host_number.ensures
