@@ -2,12 +2,10 @@
 use Prim.Native.Nat.{ℕ, min, ◌≤◌, ◌<◌}
 use mathlib.Core.Path.{◌≡◌}
 use lib.Dec.{leb}
-use native.Mathlib.Omega.{arith}
-use borrow.Author.Rules.{rules}
+use Rattle.std.proofs.Common.{arith}
 use borrow.Author.Tests.{le-leb, lt-leb}
 use Rattle.rules_auction.specs.Refusals.{check}
-use Rattle.engine_settling.proofs.refusal_again.Statement.{statement}
-use Rattle.engine_settling.proofs.refusal_again.Tie as tie
+use Rattle.engine_settling.proofs.refusal_again.Goals as goal
 
 module _ (choices limit capped : ℕ) (e : capped ≡ min limit 65536) where
   over : capped < choices → 10 ≡ check (leb choices (min limit 65536)) 10 0
@@ -16,14 +14,8 @@ module _ (choices limit capped : ℕ) (e : capped ≡ min limit 65536) where
   within : choices ≤ capped → 0 ≡ check (leb choices (min limit 65536)) 10 0
   within h = rw (le-leb choices (min limit 65536) (omega arith))
 
-returns : tie.Need-returns
-returns c = over _ _ _ c.before.before.capped-limit.ensures c.if1.true
+pub returns-then-capped_limit-settled : goal.returns-then-capped_limit-settled
+returns-then-capped_limit-settled c = over _ _ _ c.capped_limit.ensures c.if-capped_limit-settled.true
 
-returns_2 : tie.Need-returns-2
-returns_2 c = within _ _ _ c.before.before.capped-limit.ensures c.if1.false
-
-pub refusal_again_spec : {M : Type 1} → statement M
-refusal_again_spec = tie.close (tie.spec
-    (λ c κs. search rules)
-    returns
-    returns_2)
+pub returns : goal.returns
+returns c = within _ _ _ c.capped_limit.ensures c.if-capped_limit-settled.false
