@@ -1,4 +1,6 @@
 // Developers of the awarded levels, award records, participation and the price paid.
+#![tactic(auto)]
+
 pub mod award_records;
 pub mod awarding;
 pub mod participation;

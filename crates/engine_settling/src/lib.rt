@@ -1,4 +1,6 @@
 // Settling a closed auction: closing price, award, counts, and the award records in the lent buffer (document 01, Closing price and award).
+#![tactic(auto)]
+
 ghost use Rattle.engine_settling.specs.Settles.{Settles, refused_with};
 ghost use Rattle.engine_settling.specs.Accepted.{accepted_with};
 ghost use Rattle.engine_settling.specs.Kept.{refusal_again};
