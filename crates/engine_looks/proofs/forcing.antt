@@ -1,3 +1,3 @@
 mod Listing
 mod Games
-mod Answers
+mod Answering
