@@ -136,9 +136,9 @@ module _ (a : Auction) (b : Courses) (v : SupplyCurve) (f : Figures) (x : ℤ) (
     figures_held : f ≡ figures_of l
     unfolding held_auction
     figures_held =
-        let read-so : Figured (held_settings l.settings) l.closing (held_auction l).projects (of_each (λ x. (after_round l x).quantity) l) f =
+        let read_so : Figured (held_settings l.settings) l.closing (held_auction l).projects (of_each (λ x. (after_round l x).quantity) l) f =
         subst₂ (λ (x : Auction) (qs : List ℕ). Figured x.settings x.closing x.projects qs f) h after.0 k.figures in
-        read-so.as_ruled bounds in_range_lem ∙ figures_read
+        read_so.as_ruled bounds in_range_lem ∙ figures_read
 
     courses_after : applied_only ≡ held_auction (later l)
     unfolding applied

@@ -88,9 +88,9 @@ module _ (c : ℕ) (a : Auction) where
     number_held : (n : ℕ) → Numbered n → n ≡ refusal l (Open c)
     unfolding held_auction
     number_held n w =
-        let read-so : OpeningNumber c (held_phase l.phase) (held_settings l.settings) l.closing (held_auction l).projects (held_auction l).quantities n =
+        let read_so : OpeningNumber c (held_phase l.phase) (held_settings l.settings) l.closing (held_auction l).projects (held_auction l).quantities n =
         subst (λ (x : Auction). OpeningNumber c x.phase x.settings x.closing x.projects x.quantities n) h w in
-        read-so.as_ruled (λ r. s.settings (ready_not_fresh l.phase (ap is_ready (sym (phase_read l.phase)) ∙ r))) ∙ number_read l s c
+        read_so.as_ruled (λ r. s.settings (ready_not_fresh l.phase (ap is_ready (sym (phase_read l.phase)) ∙ r))) ∙ number_read l s c
 
   pub open_refused : (n : ℕ) → Numbered n → (n ≡ 0 → ⊥) → Refused (Open c) a n
   open_refused n w z = refused _ a n z (λ l s h. number_held l s h n w)

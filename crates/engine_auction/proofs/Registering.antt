@@ -99,10 +99,10 @@ module _ (a : Auction) (n : ℕ) (ls : List ℕ) (r : Entered) where
   unfolding held_auction
   number_held w l s h =
       let numbered = is_number r.project && is_number n && is_number r.agent in
-      let read-so : RegistrationNumber (held_auction l).phase (held_auction l).projects (held_auction l).kinds numbered r.project n r.kind ls
+      let read_so : RegistrationNumber (held_auction l).phase (held_auction l).projects (held_auction l).kinds numbered r.project n r.kind ls
       r.number =
       subst (λ (x : Auction). RegistrationNumber x.phase x.projects x.kinds numbered r.project n r.kind ls r.number) h w in
-      read-so.as_ruled (Named r.agent) r.study r.day refl ∙ number_read l s n (Named r.agent) declaration
+      read_so.as_ruled (Named r.agent) r.study r.day refl ∙ number_read l s n (Named r.agent) declaration
 
   module _ (e : Numbered) where
     pub register_refused : (r.number ≡ 0 → ⊥) → Refused call a r.number

@@ -55,28 +55,28 @@ module _ (cs : List Call) where
 
 module _
     (a : Auction) (limit cap : ℕ) (zeros own : List ℕ) (s : Settled) (w : Settles a cap zeros own s) (capped : cap ≡ min limit 65536)
-    (long : length zeros ≡ 192) (old oldBytes : List ℕ)
+    (long : length zeros ≡ 192) (old old_bytes : List ℕ)
   where
     own_number : (cs : List Call) → a ≡ held_auction (ledger cs) → settling_refusal (ledger cs) limit 192 ≡ s.number
     own_number cs h = sym (w.number cs h ∙ ap₂ (settling_refusal (ledger cs)) capped long ∙ settling_clamped (ledger cs) limit 192)
 
     lent_number : (cs : List Call) → a ≡ held_auction (ledger cs) →
-        settling_refusal (ledger cs) limit (length oldBytes) ≡ cond (eqb s.number 0) (check (leb (size (ledger cs)) (length oldBytes)) 11 0) s.number
-    lent_number cs h = into_room cs limit (length oldBytes)
-        ∙ ap (λ (n : ℕ). cond (eqb n 0) (check (leb (size (ledger cs)) (length oldBytes)) 11 0) n) (own_number cs h)
+        settling_refusal (ledger cs) limit (length old_bytes) ≡ cond (eqb s.number 0) (check (leb (size (ledger cs)) (length old_bytes)) 11 0) s.number
+    lent_number cs h = into_room cs limit (length old_bytes)
+        ∙ ap (λ (n : ℕ). cond (eqb n 0) (check (leb (size (ledger cs)) (length old_bytes)) 11 0) n) (own_number cs h)
 
     -- refused by n, from the settling's own number into the lent bytes
     refused :
-        (n : ℕ) → (n ≡ 0 → ⊥) → ((cs : List Call) → a ≡ held_auction (ledger cs) → n ≡ settlement_refusal (ledger cs) limit (length old) (length oldBytes)) →
-        WritesSettlement a limit old old oldBytes oldBytes n
+        (n : ℕ) → (n ≡ 0 → ⊥) → ((cs : List Call) → a ≡ held_auction (ledger cs) → n ≡ settlement_refusal (ledger cs) limit (length old) (length old_bytes)) →
+        WritesSettlement a limit old old old_bytes old_bytes n
     refused n z f = record {
       same = λ _. (refl, refl);
       number = f;
       lent = λ cs h. (gives_refused (settlement_figures (settlement (ledger cs))) old n z).lent;
-      awards = λ cs h. (gives_refused (award_bytes (settlement (ledger cs))) oldBytes n z).lent;
+      awards = λ cs h. (gives_refused (award_bytes (settlement (ledger cs))) old_bytes n z).lent;
     }
 
-    pub settlement_refused : (s.number ≡ 0 → ⊥) → WritesSettlement a limit old old oldBytes oldBytes s.number
+    pub settlement_refused : (s.number ≡ 0 → ⊥) → WritesSettlement a limit old old old_bytes old_bytes s.number
     unfolding settlement_refusal
     settlement_refused z = refused s.number z (λ cs h.
         let fs = settlement_figures (settlement (ledger cs)) in
@@ -90,32 +90,32 @@ module _
           omega (arith, records_room (ledger cs) limit (own_number cs h ∙ z))
 
       taken : (cs : List Call) → a ≡ held_auction (ledger cs) →
-          settling_refusal (ledger cs) limit (length oldBytes) ≡ check (leb (size (ledger cs)) (length oldBytes)) 11 0
+          settling_refusal (ledger cs) limit (length old_bytes) ≡ check (leb (size (ledger cs)) (length old_bytes)) 11 0
       taken cs h = lent_number cs h ∙ rw z
 
-      pub awards_short : length oldBytes < filled → WritesSettlement a limit old old oldBytes oldBytes 11
+      pub awards_short : length old_bytes < filled → WritesSettlement a limit old old old_bytes old_bytes 11
       unfolding settlement_refusal
       awards_short v = refused 11 (omega arith) (λ cs h.
           let fs = settlement_figures (settlement (ledger cs)) in
           (gives_refused fs old 11 (omega arith)).number
           ∙ ap (λ (k : ℕ). figures_refusal k fs (length old))
-          (sym (taken cs h ∙ rw (lt-leb (size (ledger cs)) (length oldBytes) (omega (arith, filled_size cs h))))))
+          (sym (taken cs h ∙ rw (lt-leb (size (ledger cs)) (length old_bytes) (omega (arith, filled_size cs h))))))
 
-      module _ (room : filled ≤ length oldBytes) where
-        none_refused : (cs : List Call) → a ≡ held_auction (ledger cs) → settling_refusal (ledger cs) limit (length oldBytes) ≡ 0
-        none_refused cs h = taken cs h ∙ rw (le-leb (size (ledger cs)) (length oldBytes) (omega (arith, filled_size cs h)))
+      module _ (room : filled ≤ length old_bytes) where
+        none_refused : (cs : List Call) → a ≡ held_auction (ledger cs) → settling_refusal (ledger cs) limit (length old_bytes) ≡ 0
+        none_refused cs h = taken cs h ∙ rw (le-leb (size (ledger cs)) (length old_bytes) (omega (arith, filled_size cs h)))
 
-        pub figures_short : length old < 12 → WritesSettlement a limit old old oldBytes oldBytes 11
+        pub figures_short : length old < 12 → WritesSettlement a limit old old old_bytes old_bytes 11
         unfolding settlement_refusal settlement_figures
         figures_short v = refused 11 (omega arith) (λ cs h.
             let fs = settlement_figures (settlement (ledger cs)) in
             (gives_short fs old v).number ∙ ap (λ (k : ℕ). figures_refusal k fs (length old)) (sym (none_refused cs h)))
 
         pub settlement_written :
-            (numbers new newBytes : List ℕ) → 12 ≤ length old → numbers ≡ settled_figures s → new ≡ laid numbers old →
-            newBytes ≡ laid (take filled own) oldBytes → WritesSettlement a limit old new oldBytes newBytes 0
+            (numbers new new_bytes : List ℕ) → 12 ≤ length old → numbers ≡ settled_figures s → new ≡ laid numbers old →
+            new_bytes ≡ laid (take filled own) old_bytes → WritesSettlement a limit old new old_bytes new_bytes 0
         unfolding settlement_refusal settlement_figures laid
-        settlement_written numbers new newBytes v k e f = record {
+        settlement_written numbers new new_bytes v k e f = record {
           same = λ r. absurd (r refl);
           number = λ cs h.
               let fs = settlement_figures (settlement (ledger cs)) in
@@ -125,7 +125,7 @@ module _
               let bytes = award_bytes (settlement (ledger cs)) in
               let n : length bytes ≡ filled = flat_length 6 (settlement (ledger cs)).records (six (ledger cs)) ∙ sym (filled_size cs h) in
               let first : take filled own ≡ bytes = ap (take filled) (w.buffer cs h z) ∙ take_at bytes (drop (length bytes) zeros) filled n in
-              (gives_all bytes oldBytes newBytes (omega arith) (f ∙ ap (λ (t : List ℕ). laid t oldBytes) first)).lent;
+              (gives_all bytes old_bytes new_bytes (omega arith) (f ∙ ap (λ (t : List ℕ). laid t old_bytes) first)).lent;
         }
           where
             figures : (cs : List Call) → a ≡ held_auction (ledger cs) → new ≡ laid (settlement_figures (settlement (ledger cs))) old

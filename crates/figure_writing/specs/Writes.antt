@@ -24,12 +24,12 @@ pub record WritesCurve (a : Auction) (old new : List ℕ) (r : Counted) : Type 0
   pub same : (r.number ≡ 0 → ⊥) → new ≡ old
   pub curve_is : (cs : List Call) → a ≡ held_auction (ledger cs) → Counts (length (supply_curve (ledger cs))) (curve_figures (supply_curve (ledger cs))) old new r
 
--- two buffers: `oldBytes` and `newBytes` are those of the award records
-pub record WritesSettlement (a : Auction) (limit : ℕ) (old new oldBytes newBytes : List ℕ) (n : ℕ) : Type 0 where
-  pub same : (n ≡ 0 → ⊥) → (new ≡ old) × (newBytes ≡ oldBytes)
-  pub number : (cs : List Call) → a ≡ held_auction (ledger cs) → n ≡ settlement_refusal (ledger cs) limit (length old) (length oldBytes)
+-- two buffers: `old_bytes` and `new_bytes` are those of the award records
+pub record WritesSettlement (a : Auction) (limit : ℕ) (old new old_bytes new_bytes : List ℕ) (n : ℕ) : Type 0 where
+  pub same : (n ≡ 0 → ⊥) → (new ≡ old) × (new_bytes ≡ old_bytes)
+  pub number : (cs : List Call) → a ≡ held_auction (ledger cs) → n ≡ settlement_refusal (ledger cs) limit (length old) (length old_bytes)
   pub lent : (cs : List Call) → a ≡ held_auction (ledger cs) → new ≡ lent_after n (settlement_figures (settlement (ledger cs))) old
-  pub awards : (cs : List Call) → a ≡ held_auction (ledger cs) → newBytes ≡ lent_after n (award_bytes (settlement (ledger cs))) oldBytes
+  pub awards : (cs : List Call) → a ≡ held_auction (ledger cs) → new_bytes ≡ lent_after n (award_bytes (settlement (ledger cs))) old_bytes
 
 -- it counts the numbers
 pub record WritesReading (a : Auction) (e : ℤ) (s : Seat) (old new : List ℕ) (r : Counted) : Type 0 where

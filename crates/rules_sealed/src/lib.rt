@@ -1,1 +1,2 @@
 // The sealed auction for long builds. Specifications only: see specs/.
+#![tactic(auto)]

@@ -30,13 +30,13 @@ module _
     (highests : Highests a.declared r.highest)
     (supplied : first ≡ supply_of a.projects r.highest)
     (priced : ClosingPrice a.settings a.closing (ByCurve a.curve.words a.curve.count first) r.price)
-    (lows-at : Lows a.histories r.highest r.price r.lows)
+    (lows_at : Lows a.histories r.highest r.price r.lows)
     (above : next ≡ next_price r.price)
-    (highs-at : Lows a.histories r.highest next r.highs)
+    (highs_at : Lows a.histories r.highest next r.highs)
     (second_at : SecondPrice a.settings a.closing a.projects a.kinds a.histories r.highest r.price
     (record { price = r.second; short = r.short }))
-    (demand-at : r.demand ≡ (demanded_at a.settings r.price).value)
-    (remainder-at : r.remainder ≡ (demanded_at a.settings r.price).remainder)
+    (demand_at : r.demand ≡ (demanded_at a.settings r.price).value)
+    (remainder_at : r.remainder ≡ (demanded_at a.settings r.price).remainder)
   where
     abbrev p : ℕ
     p = r.price
@@ -72,7 +72,7 @@ module _
 
       highs_are : r.highs ≡ of_each (high p) l
       unfolding held_auction high low
-      highs_are = subst (λ (q : ℕ). r.highs ≡ of_each (low q) l) next_is (highs-at.lows_are l s (ap (λ (x : Auction). x.histories) h) firsts)
+      highs_are = subst (λ (q : ℕ). r.highs ≡ of_each (low q) l) next_is (highs_at.lows_are l s (ap (λ (x : Auction). x.histories) h) firsts)
 
       seconds : (r.second ≡ second_price l) × (r.short ≡ short l)
       unfolding held_auction
@@ -88,9 +88,9 @@ module _
           (λ i. record {
             highest = firsts i;
             price = p;
-            demand = (demand-at ∙ ap (λ (x : Auction). (demanded_at x.settings p).value) h ∙ demand_is _ _ _ _ _ b in_range_lem) i;
-            remainder = (remainder-at ∙ ap (λ (x : Auction). (demanded_at x.settings p).remainder) h ∙ remainder_is _ _ _ _ _ b in_range_lem) i;
-            lows = lows-at.lows_are l s (ap (λ (x : Auction). x.histories) h) firsts i;
+            demand = (demand_at ∙ ap (λ (x : Auction). (demanded_at x.settings p).value) h ∙ demand_is _ _ _ _ _ b in_range_lem) i;
+            remainder = (remainder_at ∙ ap (λ (x : Auction). (demanded_at x.settings p).remainder) h ∙ remainder_is _ _ _ _ _ b in_range_lem) i;
+            lows = lows_at.lows_are l s (ap (λ (x : Auction). x.histories) h) firsts i;
             highs = highs_are i;
             second = seconds.0 i;
             short = seconds.1 i;

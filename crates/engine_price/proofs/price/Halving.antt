@@ -7,7 +7,7 @@ use native.Mathlib.Omega.{arith}
 use lib.Dec.{leb}
 use Rattle.rules_numbers.specs.Least.{Bracket as Brackets, bracket_start, bracket_down, bracket_up, bracket_end}
 use Rattle.rules_auction.specs.Ledger.{Ledger}
-use Rattle.rules_auction.specs.Clearing.{high as highAt, low as lowAt, supply, covered, of_each}
+use Rattle.rules_auction.specs.Clearing.{high as high_at, low as low_at, supply, covered, of_each}
 use Rattle.laws_ledger.specs.Parts.{Part}
 use Rattle.laws_ledger.specs.clearing.ClosingPrice.{settings_facts, passed_in_range, part_demand, covered_rises, part_closing_price}
 use Rattle.rules_supply_curve.specs.Curve.{supply_curve, supplied_at}
@@ -31,26 +31,26 @@ use Rattle.engine_price.specs.price.Prices.{HoldsSettings, ByCurve, ByHistories,
 module _ (settings : Settings) (p s : ℕ) where
   -- s is total supply at p, for a price that the clock passed
   pub record SupplyAt (By : Ledger → Ledger → Type 0) : Type 0 where
-    pub supply_is : (l m : Ledger) → HoldsSettings settings l → Part l m → By l m → l.closing ≤ p → p ≤ l.settings.a → s ≡ supply (highAt p) m
+    pub supply_is : (l m : Ledger) → HoldsSettings settings l → Part l m → By l m → l.closing ≤ p → p ≤ l.settings.a → s ≡ supply (high_at p) m
 
   pub supply_looked_up : (words : List ℕ) (count first : ℕ) → SuppliedAt words count first p s → SupplyAt (ByCurve words count first)
   supply_looked_up words count first w = record {
     supply_is = λ l m q t v low high.
         w.supply_is (supply_curve l) v.curve_is (curve_few l q.sound) (curve_fits l q.sound)
-        ∙ ap (λ (n : ℕ). supplied_at n (supply_curve l) p) v.first_is ∙ looked_up l p ∙ ap (supply (highAt p)) (sym v.all);
+        ∙ ap (λ (n : ℕ). supplied_at n (supply_curve l) p) v.first_is ∙ looked_up l p ∙ ap (supply (high_at p)) (sym v.all);
   }
 
   pub supply_walked :
       (projects : List ℕ) (histories : List History) (firsts : List ℕ) (next : ℕ) (highs : List ℕ) →
       next ≡ next_price p → Lows histories firsts next highs → s ≡ supply_of projects highs → SupplyAt (ByHistories projects histories firsts)
-  unfolding highAt lowAt
+  unfolding high_at low_at
   supply_walked projects histories firsts next highs n w f = record {
     supply_is = λ l m q t v low high.
         let b = settings_facts l q.sound q.began in
         let k : next ≡ suc p = n ∙ next_price_lem p (let z = b.bounds.ce_high in let y = b.high in omega arith) in
-        let ls : highs ≡ of_each (lowAt next) l = w.lows_are l q.sound v.histories_are v.firsts_are in
-        let hs : highs ≡ of_each (highAt p) l = subst (λ (x : ℕ). highs ≡ of_each (lowAt x) l) k ls in
-        f ∙ ap₂ supply_of v.projects_are hs ∙ supply_of_part (highAt p) l m t.each;
+        let ls : highs ≡ of_each (low_at next) l = w.lows_are l q.sound v.histories_are v.firsts_are in
+        let hs : highs ≡ of_each (high_at p) l = subst (λ (x : ℕ). highs ≡ of_each (low_at x) l) k ls in
+        f ∙ ap₂ supply_of v.projects_are hs ∙ supply_of_part (high_at p) l m t.each;
   }
 
   -- covered at p

@@ -67,7 +67,7 @@ Stepping at count prices levels o xs i =
     Behind at (steps_in ps qs) o xs (steps_in (drop i ps) (drop i qs)) (at + 2 * i)
 
 module _
-    (at count : ℕ) (prices levels o : List ℕ) (few : count ≤ length prices) (few-levels : count ≤ length levels) (room : at + 2 * count ≤ length o)
+    (at count : ℕ) (prices levels o : List ℕ) (few : count ≤ length prices) (few_levels : count ≤ length levels) (room : at + 2 * count ≤ length o)
   where
     abbrev ps : List ℕ
     ps = take count prices
@@ -79,7 +79,7 @@ module _
     ps_long = length-take-le count prices few
 
     qs_long : length qs ≡ count
-    qs_long = length-take-le count levels few-levels
+    qs_long = length-take-le count levels few_levels
 
     steps_room : at + length (steps_in ps qs) ≤ length o
     steps_room = omega (arith, steps_length ps qs (qs_long ∙ sym ps_long), ps_long)

@@ -112,7 +112,7 @@ module _ (a : Auction) (o out : List ℕ) (r : Ran) (ran : Runs a closing_line f
 
   module _
       (bits rest mark : ℕ) (new : List ℕ) (n : ℕ) (some : r.closings ≡ 0 → ⊥) (bits_are : bits ≡ twos_complement r.excess)
-      (rest-is : rest ≡ host_remainder (demand_answer a.settings.ce a.settings.d a.settings.m1 a.settings.m2 a.closing))
+      (rest_is : rest ≡ host_remainder (demand_answer a.settings.ce a.settings.d a.settings.m1 a.settings.m2 a.closing))
       (mark_is : mark ≡ one_if (eqb r.auction.phase 4)) (f : GivesFigures 0 (bits ∷ rest ∷ mark ∷ []) old new n)
     where
       module _ (cs : List Call) (h : a ≡ held_auction (ledger cs)) where
@@ -143,7 +143,7 @@ module _ (a : Auction) (o out : List ℕ) (r : Ran) (ran : Runs a closing_line f
         remainder_is : rest ≡ remainder_at (ledger cs) (ledger cs).closing
         unfolding held_auction
         remainder_is =
-            rest-is
+            rest_is
             ∙ (λ i. host_remainder (demand_answer (h i).settings.ce (h i).settings.d (h i).settings.m1 (h i).settings.m2 (h i).closing))
             ∙ remainder_given (ledger cs) (sound cs) in_round_lem
 
