@@ -5,7 +5,8 @@
  * Quantities are whole kWh per day; prices are whole thousandths of US$ per MWh.
  *
  * No call takes memory of the heap. The stack of a thread that makes calls should have 128 KiB or
- * more for them: `replay` took at most 74 KiB, `who_can_force` 56 KiB, in every record that was measured.
+ * more for them: `replay` took at most 74 KiB, `who_can_force` 56 KiB, in every record that was
+ * measured (with the older kit).
  */
 #ifndef REFERENCE_ENGINE_H
 #define REFERENCE_ENGINE_H

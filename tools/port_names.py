@@ -93,6 +93,18 @@ def imported(text):
     return names
 
 
+PATHS = re.compile(r"(\s*(?:pub )?(?:ghost )?(?:use|mod) )([^{;\n]*)(.*)$", re.S)
+
+
+def turn_line(text, names, kept):
+    """A line of code: of the path of an import, a module's name stays."""
+    path = PATHS.match(text)
+    if not path:
+        return turn_text(text, names, kept)
+    named, word, alias = path[2].partition(" as ")
+    return path[1] + named + word + turn_text(alias, names, kept) + turn_text(path[3], names, kept)
+
+
 def turn_text(text, names, kept=()):
     return TOKEN.sub(lambda m: m[0] if m[0] in kept else names.get(m[0], m[0]), text)
 
@@ -102,7 +114,7 @@ def turn_antt(text, names, kept):
     out = []
     for line in text.split("\n"):
         code, dash, comment = (line, "", "") if not re.match(r"\s*--|.*\s--\s", line) else re.match(r"(.*?)((?:^|(?<=\s))--)(.*)$", line).groups()
-        out.append(turn_text(code, names, kept) + dash + re.sub(r"`[^`]*`", lambda m: turn_text(m[0], names), comment))
+        out.append(turn_line(code, names, kept) + dash + re.sub(r"`[^`]*`", lambda m: turn_text(m[0], names), comment))
     return "\n".join(out)
 
 

@@ -83,7 +83,7 @@ module _
         (gives_refused fs old s.number z).number
         ∙ ap (λ (k : ℕ). figures_refusal k fs (length old)) (sym (lent_number cs h ∙ rw (ne_eqb s.number 0 z))))
 
-    module _ (z : s.number ≡ 0) (filled : ℕ) (Filled-is : filled ≡ 6 * min s.records 32) where
+    module _ (z : s.number ≡ 0) (filled : ℕ) (filled_is : filled ≡ 6 * min s.records 32) where
       filled_size : (cs : List Call) → a ≡ held_auction (ledger cs) → filled ≡ size (ledger cs)
       filled_size cs h =
           let n : s.records ≡ length (settlement (ledger cs)).records = ap (λ (x : Settled). x.records) (w.answer cs h z) in

@@ -16,10 +16,10 @@ pub record Tells (n v : ℕ) (figures old new : List ℕ) (r : ℕ) : Type 0 whe
   pub lent : new ≡ lent_after n figures old
 
 -- the same with award records in lent bytes
-pub record TellsBoth (n : ℕ) (figures bytes oldF newF oldA newA : List ℕ) (r : ℕ) : Type 0 where
+pub record TellsBoth (n : ℕ) (figures bytes old_f new_f old_a new_a : List ℕ) (r : ℕ) : Type 0 where
   pub number : r ≡ host_number (value_answer n 0)
-  pub lent : newF ≡ lent_after n figures oldF
-  pub awards : newA ≡ lent_after n bytes oldA
+  pub lent : new_f ≡ lent_after n figures old_f
+  pub awards : new_a ≡ lent_after n bytes old_a
 
 -- ---- of a record
 
@@ -37,8 +37,8 @@ TellsCurve l old new r =
     Tells (figures_refusal 0 (curve_figures (supply_curve l)) (length old)) (length (supply_curve l)) (curve_figures (supply_curve l)) old new r
 
 abbrev pub TellsSettlement : Ledger → ℕ → List ℕ → List ℕ → List ℕ → List ℕ → ℕ → Type 0
-TellsSettlement l limit oldF newF oldA newA r =
-    TellsBoth (settlement_refusal l limit (length oldF) (length oldA)) (settlement_figures (settlement l)) (award_bytes (settlement l)) oldF newF oldA newA r
+TellsSettlement l limit old_f new_f old_a new_a r =
+    TellsBoth (settlement_refusal l limit (length old_f) (length old_a)) (settlement_figures (settlement l)) (award_bytes (settlement l)) old_f new_f old_a new_a r
 
 -- ---- behind a session, through the seat of this kind and number: 20 first
 
@@ -57,6 +57,6 @@ TellsCurveThrough session kind number old new r =
     (session_curve session) old new r
 
 abbrev pub TellsSettlementThrough : List ℕ → ℕ → ℕ → ℕ → List ℕ → List ℕ → List ℕ → List ℕ → ℕ → Type 0
-TellsSettlementThrough session kind number limit oldF newF oldA newA r =
-    TellsBoth (session_settlement_refusal session kind number limit (length oldF) (length oldA)) (session_settlement session)
-    (award_bytes (settlement (session_ledger session))) oldF newF oldA newA r
+TellsSettlementThrough session kind number limit old_f new_f old_a new_a r =
+    TellsBoth (session_settlement_refusal session kind number limit (length old_f) (length old_a)) (session_settlement session)
+    (award_bytes (settlement (session_ledger session))) old_f new_f old_a new_a r

@@ -60,11 +60,11 @@ state_told bytes closings old new n r ec w er =
     gives_tells (record_state bytes) old new r 0 n (subst (λ (x : List ℕ). GivesFigures 0 x old new n) e w) er
 
 pub settlement_told :
-    (l : Ledger) (limit : ℕ) (oldF newF oldA newA : List ℕ) (n r : ℕ) → n ≡ settlement_refusal l limit (length oldF) (length oldA) →
-    newF ≡ lent_after n (settlement_figures (settlement l)) oldF → newA ≡ lent_after n (award_bytes (settlement l)) oldA →
-    r ≡ host_number (value_answer n 0) → TellsSettlement l limit oldF newF oldA newA r
-settlement_told l limit oldF newF oldA newA n r e f a er =
-    let t : TellsBoth n (settlement_figures (settlement l)) (award_bytes (settlement l)) oldF newF oldA newA r =
+    (l : Ledger) (limit : ℕ) (old_f new_f old_a new_a : List ℕ) (n r : ℕ) → n ≡ settlement_refusal l limit (length old_f) (length old_a) →
+    new_f ≡ lent_after n (settlement_figures (settlement l)) old_f → new_a ≡ lent_after n (award_bytes (settlement l)) old_a →
+    r ≡ host_number (value_answer n 0) → TellsSettlement l limit old_f new_f old_a new_a r
+settlement_told l limit old_f new_f old_a new_a n r e f a er =
+    let t : TellsBoth n (settlement_figures (settlement l)) (award_bytes (settlement l)) old_f new_f old_a new_a r =
     record { number = er; lent = f; awards = a } in
     rw e at t
 
@@ -76,9 +76,9 @@ module _ (bytes : List ℕ) where
   pub record_curve_told : (old new : List ℕ) (r : ℕ) → TellsCurve (ledger_of false bytes) old new r → TellsCurve (ledger (calls_in bytes)) old new r
   record_curve_told old new r w = subst (λ (l : Ledger). TellsCurve l old new r) (record_ledger_of bytes) w
 
-  pub record_settlement_told : (limit : ℕ) (oldF newF oldA newA : List ℕ) (r : ℕ) →
-      TellsSettlement (ledger_of false bytes) limit oldF newF oldA newA r → TellsSettlement (ledger (calls_in bytes)) limit oldF newF oldA newA r
-  record_settlement_told limit oldF newF oldA newA r w = subst (λ (l : Ledger). TellsSettlement l limit oldF newF oldA newA r) (record_ledger_of bytes) w
+  pub record_settlement_told : (limit : ℕ) (old_f new_f old_a new_a : List ℕ) (r : ℕ) →
+      TellsSettlement (ledger_of false bytes) limit old_f new_f old_a new_a r → TellsSettlement (ledger (calls_in bytes)) limit old_f new_f old_a new_a r
+  record_settlement_told limit old_f new_f old_a new_a r w = subst (λ (l : Ledger). TellsSettlement l limit old_f new_f old_a new_a r) (record_ledger_of bytes) w
 
 -- ---- by the right
 
@@ -132,13 +132,13 @@ module _ (session : List ℕ) (kind number : ℕ) where
     curve_seated e w =
         seated (seat_may may_conduct kind number) _ _ _ _ _ _ e (subst (λ (k : Ledger). TellsCurve k old new r) (session_ledger_of session) w)
 
-  module _ (limit : ℕ) (oldF newF oldA newA : List ℕ) (r : ℕ) where
-    pub settlement_barred : seat_may may_settle kind number ≡ false → r ≡ host_number (value_answer 20 0) → newF ≡ oldF → newA ≡ oldA →
-        TellsSettlementThrough session kind number limit oldF newF oldA newA r
+  module _ (limit : ℕ) (old_f new_f old_a new_a : List ℕ) (r : ℕ) where
+    pub settlement_barred : seat_may may_settle kind number ≡ false → r ≡ host_number (value_answer 20 0) → new_f ≡ old_f → new_a ≡ old_a →
+        TellsSettlementThrough session kind number limit old_f new_f old_a new_a r
     unfolding session_settlement_refusal lent_after
     settlement_barred e er en ea = rw e (record { number = er; lent = en; awards = ea })
 
-    pub settlement_seated : seat_may may_settle kind number ≡ true → TellsSettlement (ledger_of true session) limit oldF newF oldA newA r →
-        TellsSettlementThrough session kind number limit oldF newF oldA newA r
+    pub settlement_seated : seat_may may_settle kind number ≡ true → TellsSettlement (ledger_of true session) limit old_f new_f old_a new_a r →
+        TellsSettlementThrough session kind number limit old_f new_f old_a new_a r
     unfolding session_settlement_refusal session_settlement
-    settlement_seated e w = rw e (subst (λ (k : Ledger). TellsSettlement k limit oldF newF oldA newA r) (session_ledger_of session) w)
+    settlement_seated e w = rw e (subst (λ (k : Ledger). TellsSettlement k limit old_f new_f old_a new_a r) (session_ledger_of session) w)

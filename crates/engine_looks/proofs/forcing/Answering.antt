@@ -71,13 +71,13 @@ module _ (a : Auction) (m n : ℕ) (ps : List ℕ) where
       played_held = subst Held (sym game_is) (game_held a.settings _ _ ps at_most_ten)
 
       module _ (x y : Rival) (ex : x ≡ keeping (get_or a.quantities (m - 1) 0)) (ey : y ≡ keeping (get_or a.quantities (n - 1) 0)) where
-        module _ (l : Ledger) (sound-l : Sound l) (h : a ≡ held_auction l) where
+        module _ (l : Ledger) (sound_l : Sound l) (h : a ≡ held_auction l) where
           ours_asked : Question l m n ps
-          ours_asked = question_facts l m n ps (sym (number_held l sound-l h) ∙ sym e ∙ z)
+          ours_asked = question_facts l m n ps (sym (number_held l sound_l h) ∙ sym e ∙ z)
 
           -- the ledger's game
           abbrev ours : Game
-          ours = game sound-l ours_asked.between m n pair ps ours_asked.list
+          ours = game sound_l ours_asked.between m n pair ps ours_asked.list
 
           ours_is : g ≡ ours
           unfolding held_auction
@@ -90,10 +90,10 @@ module _ (a : Auction) (m n : ℕ) (ps : List ℕ) where
           second_is = ey ∙ ap keeping (quantity_at_lem n a l h pair.second_low pair.second_high)
 
           value_is : high_in g 0 x y ≡ forced_outcome l m n ps
-          value_is = (λ i. high_in (ours_is i) 0 (first_is i) (second_is i)) ∙ value_played sound-l ours_asked.between m n pair ps ours_asked.list
+          value_is = (λ i. high_in (ours_is i) 0 (first_is i) (second_is i)) ∙ value_played sound_l ours_asked.between m n pair ps ours_asked.list
 
           move_is : withdraws_in g x y ≡ withdraws_by (first_move l m n ps)
-          move_is = (λ i. withdraws_in (ours_is i) (first_is i) (second_is i)) ∙ move_played sound-l ours_asked.between m n pair ps ours_asked.list
+          move_is = (λ i. withdraws_in (ours_is i) (first_is i) (second_is i)) ∙ move_played sound_l ours_asked.between m n pair ps ours_asked.list
 
         pub forcing_answered :
             (v : ℕ) (w : Bool) → v ≡ high_in g 0 x y → w ≡ withdraws_in g x y →

@@ -1,5 +1,5 @@
 -- A turn of the game at a place of the listed prices: what its value is by the values one place on.
-use Prim.Native.Nat.{ℕ, min, max, ◌+◌, ◌≤◌, ◌<◌}
+use Prim.Native.Nat.{ℕ, min, max, ◌+◌, ◌-◌, ◌≤◌, ◌<◌}
 use mathlib.Core.Path.{◌≡◌, refl, sym, ap, ap₂, ◌∙◌}
 use mathlib.Core.Bool.{Bool, true, false, cond, ◌&&◌}
 use mathlib.Core.List.{List, [], ◌∷◌}
@@ -21,6 +21,15 @@ module _ (g : Game) (at : ℕ) where
     where
       none : drop at (listed_in g) ≡ []
       none = ap (λ (i : ℕ). drop i (listed_in g)) e ∙ none_of g.count g.prices
+
+  -- what a call asks that moves one place on
+  pub on_asks :
+      (t : ℕ) → g.count - at ≡ t → Held g × (at ≤ g.count) → (at ≡ g.count → ⊥) →
+      (g.count - (at + 1) < t) × (Held g × (at + 1 ≤ g.count))
+  on_asks t e h n = let a = h.1 in (omega arith, (h.0, omega arith))
+
+  pub place_fits : Held g × (at ≤ g.count) → (at ≡ g.count → ⊥) → at < 10
+  place_fits h n = let a = h.1 in let f = h.0.at_most_ten in omega arith
 
   module _ (h : Held g) (k : at ≤ g.count) (n : at ≡ g.count → ⊥) (x y : Rival) where
     abbrev price : ℕ

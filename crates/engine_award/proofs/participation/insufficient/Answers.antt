@@ -27,17 +27,17 @@ loop-i-preserved c =
     let new = c.new_level-level.ensures in
     let winner = get_or a.winners l.i 0 in
     let is_new = is_new_one a.kinds winner in
-    let toSmall = is_small (judged_in a.d a.agents a.kinds a.highest) (at_number a.agents winner) in
+    let to_small = is_small (judged_in a.d a.agents a.kinds a.highest) (at_number a.agents winner) in
     elim c.if-level-gt0.branch [
       | then-level-gt0 w ↦ rw (w.new_award-is, w.to_small-is) (
         summing_next _ _ _ l.invariant.0 _ h (search rules) new,
-        summing_next _ _ _ l.invariant.1 _ h (search rules) (both is_new toSmall _ new w.small_level-small.ensures),
+        summing_next _ _ _ l.invariant.1 _ h (search rules) (both is_new to_small _ new w.small_level-small.ensures),
       )
       | else-level-gt0 w ↦
           let none : 0 ≡ c.new_level-level.result = omega (arith, w.if-level-gt0.false) in
           rw (w.new_award-is, w.to_small-is) (
             summing_none _ _ _ l.invariant.0 h (none ∙ new),
-            summing_none _ _ _ l.invariant.1 h (neither is_new toSmall _ (none ∙ new)),
+            summing_none _ _ _ l.invariant.1 h (neither is_new to_small _ (none ∙ new)),
           )
     ]
 
