@@ -1,7 +1,7 @@
 #!/usr/bin/env python3
 """Brings the names of this repository's definitions, lemmas, fields and constructors to the spelling of today's Rattle: snake case.
 
-usage: python3 tools/port_names.py [--report]      at the top of the repository, once, right after /opt/rattle/port/port.py
+usage: python3 tools/port_names.py [--report]      at the top of the repository, once, right after the kit's port.py
 
 `inBounds` and `in-bounds` become `in_bounds`. Where a lemma and a definition would fall together, the lemma's name gets `_lem`. Names that
 begin with a capital, names of the library, functions of src/, exported names and strings keep theirs. In documents, names between backticks
