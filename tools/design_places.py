@@ -212,6 +212,15 @@ class Types:
             found.append((m.start(), m.group(1), m.group(2), m.group(3)))
         for m in re.finditer(r"\bfor (\w+) in ", body):
             found.append((m.start(), m.group(1), "usize", None))
+        for m in re.finditer(r"\bfor (?:\((\w+), )?&?(\w+)\)? in &?(?:mut )?([\w.]+?)(?:\.iter\(\))?(\.enumerate\(\))? \{", body):
+            if m.group(1) and m.group(4):
+                found.append((m.start(), m.group(1), "usize", None))
+            if bool(m.group(1)) == bool(m.group(4)):
+                found.append((m.start() + 1, m.group(2), None, m.group(3) + "[0]"))
+        for m in re.finditer(r"\bif let (?:Some|Ok)\((\w+)\) = ([^{]+?) \{|\bmatch ([^{]+?) \{\s*(?:Some|Ok)\((\w+)\) =>", body):
+            found.append((m.start(), m.group(1) or m.group(4), None, (m.group(2) or m.group(3)) + ".unwrap()"))
+        for m in re.finditer(r"\b([\w.]+)\.map\(\|(\w+)\|", body):
+            found.append((m.start(), m.group(2), None, m.group(1) + ".unwrap()"))
         for m in re.finditer(r"(\w+)::(\w+)\(([\w, ]+)\) =>", body):
             if m.group(1) in tree.enums:
                 for v in tree.enums[m.group(1)]:
@@ -277,7 +286,7 @@ class Types:
             return None
         path, rest = m.group(1), e[m.end():]
         if rest.startswith("("):
-            kind = self.call(path)
+            kind = path.split("::")[0] if re.fullmatch(r"(?:%s)::from" % "|".join(NUMBERS), path) else self.call(path)
             rest = rest[closing(rest, 0) + 1:]
         elif path in self.names:
             kind = self.names[path]
@@ -296,6 +305,10 @@ class Types:
                 rest = rest[n.end():]
                 if rest.startswith("("):
                     rest = rest[closing(rest, 0) + 1:]
+                    held = re.match(r"(?:Option|Result)<([^<>,]*)", plain(kind))
+                    if n.group(1) in ("unwrap", "unwrap_or") and held:
+                        kind = held.group(1)
+                        continue
                     kind = "usize" if n.group(1) == "len" else kind if n.group(1) in ("min", "max") else self.call(n.group(1), plain(kind))
                 else:
                     kind = self.field(kind, n.group(1))
@@ -459,7 +472,7 @@ def point_1(tree):
             if none.search(file.comment(line)):
                 tree.say(1, file, line, "number or nothing for none", "struct %s: %s" % (name, none.search(file.comment(line)).group(0)))
     for f in tree.own():
-        if none.search(f.comment) and f.result and f.result != "bool":
+        if none.search(f.comment) and f.result and f.result != "bool" and not f.result.startswith(("Option<", "Result<")):
             tree.say(1, f.file, f.line, "number or nothing for none", "result %s of %s: %s" % (f.result, f.name, none.search(f.comment).group(0)))
 
 
@@ -657,6 +670,8 @@ def point_4(tree):
             source = " ".join(cast_source(f.body, m.start()).split())
             kind = plain(types.of(source) or "")
             size = {"bool": 1}.get(kind, NUMBERS.get(kind))
+            if kind in tree.enums or kind == "Self":
+                size = NUMBERS[m.group(1)]  # the number of a case is no narrower type
             if size is None:
                 size = 0 if re.fullmatch(r"\d+", source) else None
             line = f.file.line(f.start + 1 + m.start())

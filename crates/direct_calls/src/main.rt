@@ -3,57 +3,37 @@
 // chosen lengths. The independent implementation (tests/independent/src/bin/direct_calls.rs) makes the same calls and has to print the same.
 #![tactic(auto)]
 
-use engine_auction::{Answer, Auction};
+use engine_auction::Auction;
+use engine_refusals::{Refusal, answer_number};
+use engine_settling::Settlement;
 use lists::{FALLS, LEVELS, PRICES};
+use program_input::{byte, with_digit, word};
 use std::io;
 
 mod lists;
 
-fn write(rt: &impl Print, text: &[u8]) -> io::Result<()> {
-    rt.write_all(text)
-}
-
-fn write_number(rt: &impl Print, n: u64) -> io::Result<()> {
-    write(rt, b" ")?;
-    rt.print(n)
-}
-
 fn write_bytes(rt: &impl Print, bytes: &[u8]) -> io::Result<()> {
-    let mut i: usize = 0;
-    while i < bytes.len() {
-        let n = wide(bytes[i]);
-        print!(rt; "{n:02x}")?;
-        i += 1;
+    for byte in bytes {
+        print!(rt; "{byte:02x}")?;
     }
     Ok(())
 }
 
-fn wide(byte: u8) -> u64 {
-    byte as u64
-}
-
-fn word(n: u64) -> u32 {
-    (n % 4294967296) as u32
-}
-
 // The first n numbers of a list, or all where it has no more.
-fn first<'a>(list: &'a [u32], n: usize) -> &'a [u32] {
-    if n < list.len() {
-        return &list[0..n];
-    }
-    list
+fn first(list: &[u32], n: usize) -> &[u32] {
+    &list[..n.min(list.len())]
 }
 
-// The line of a call: its kind and its number.
-fn write_answer(rt: &impl Print, kind: u64, number: u8) -> io::Result<()> {
-    rt.print(kind)?;
-    write_number(rt, number as u64)?;
-    write(rt, b"\n")
-}
-
-fn answered(rt: &impl Print, kind: u64, answer: Answer) -> io::Result<Auction> {
-    write_answer(rt, kind, answer.number)?;
-    Ok(answer.auction)
+// Prints the line of a call, its kind and its number, and gives the auction behind it: where it is refused, the one before.
+fn answered(
+    rt: &impl Print,
+    kind: u64,
+    before: Auction,
+    answer: Result<Auction, Refusal>,
+) -> io::Result<Auction> {
+    let number = answer_number(&answer);
+    println!(rt; "{kind} {number}")?;
+    Ok(answer.unwrap_or(before))
 }
 
 fn offer(
@@ -63,32 +43,46 @@ fn offer(
     n: usize,
     m: usize,
 ) -> io::Result<Auction> {
-    let developer = (developer % 256) as u8;
+    let developer = byte(developer);
     let prices = first(&PRICES, n);
     let levels = first(&FALLS, m);
-    answered(rt, 4, auction.offer(developer, prices, levels))
+    let answer = auction.offer(developer, prices, levels);
+    answered(rt, 4, auction, answer)
 }
 
 fn close(rt: &impl Print, auction: Auction) -> io::Result<Auction> {
-    let answer = auction.close();
-    write_answer(rt, 5, answer.number)?;
-    Ok(answer.auction)
+    let answer = auction.close().map(|closing| closing.auction);
+    answered(rt, 5, auction, answer)
+}
+
+// A settling's number and the numbers that it answers: of a refused one all 0.
+fn write_settling(rt: &impl Print, answer: Result<Settlement, Refusal>) -> io::Result<()> {
+    match answer {
+        Ok(settlement) => {
+            let Settlement {
+                price,
+                demand,
+                total,
+                choices,
+                covering,
+                records,
+                ..
+            } = settlement;
+            print!(rt; "6 0 {price} {demand} {total} {choices} {covering} {records} ")
+        }
+        Err(refusal) => {
+            let number = u8::from(refusal);
+            print!(rt; "6 {number} 0 0 0 0 0 0 ")
+        }
+    }
 }
 
 // Settles with this buffer for the awards.
 fn settle_in(rt: &impl Print, auction: Auction, limit: u32, awards: &mut [u8]) -> io::Result<()> {
-    let s = engine_settling::settle(auction, limit, awards);
-    rt.print(6)?;
-    write_number(rt, s.number as u64)?;
-    write_number(rt, s.price as u64)?;
-    write_number(rt, s.demand)?;
-    write_number(rt, s.total)?;
-    write_number(rt, s.choices)?;
-    write_number(rt, s.covering)?;
-    write_number(rt, s.records as u64)?;
-    write(rt, b" ")?;
+    let answer = engine_settling::settle(auction, limit, awards);
+    write_settling(rt, answer)?;
     write_bytes(rt, awards)?;
-    write(rt, b"\n")
+    rt.write_all(b"\n")
 }
 
 // The same with the first `lent` bytes of a buffer of 200.
@@ -105,79 +99,50 @@ fn settle(rt: &impl Print, auction: Auction, limit: u32, lent: u32) -> io::Resul
 struct Line {
     numbers: [u64; 6],
     at: usize,
-    ended: bool,
 }
 
-// The line to which the next byte belongs.
-fn going_on(line: Line) -> Line {
-    if line.ended {
-        return Line {
+impl Line {
+    fn new() -> Line {
+        Line {
             numbers: [0; 6],
             at: 0,
-            ended: false,
-        };
+        }
     }
-    line
-}
 
-fn with_byte(before: Line, b: u8) -> Line {
-    let mut line = going_on(before);
-    let i = line.at % 6;
-    if b == 10 {
-        line.ended = true;
-        return line;
+    // Goes on with a byte, which is not the line's end.
+    fn add(&mut self, b: u8) {
+        let i = self.at % 6;
+        if b == b',' {
+            self.at = i + 1;
+        } else {
+            self.numbers[i] = with_digit(self.numbers[i], b);
+        }
     }
-    if b == 44 {
-        line.at = i + 1;
-        return line;
-    }
-    line.numbers[i] = with_digit(line.numbers[i], b);
-    line
-}
-
-fn with_digit(n: u64, b: u8) -> u64 {
-    if b < 48 {
-        return n;
-    }
-    if 57 < b {
-        return n;
-    }
-    (n % 1844674407370955162 * 10).wrapping_add((b - 48) as u64)
 }
 
 // A registration, by the kind of its frame: of six numbers, the last is its agent (document 02, 10).
 fn register(rt: &impl Print, auction: Auction, line: Line) -> io::Result<Auction> {
     let n = line.numbers;
-    let project = (n[1] % 256) as u8;
-    let developer = (n[2] % 256) as u8;
-    let kind = (n[3] % 256) as u8;
+    let project = byte(n[1]);
+    let developer = byte(n[2]);
+    let kind = byte(n[3]);
     let levels = first(&LEVELS, n[4] as usize);
     if line.at == 5 {
-        let agent = (n[5] % 256) as u8;
-        return answered(
-            rt,
-            8,
-            auction.register_for(project, developer, kind, agent, 0, 0, levels),
-        );
+        let agent = byte(n[5]);
+        let answer = auction.register_for(project, developer, kind, agent, 0, 0, levels);
+        return answered(rt, 8, auction, answer);
     }
-    answered(
-        rt,
-        2,
-        auction.register(project, developer, kind, 0, 0, levels),
-    )
+    let answer = auction.register(project, developer, kind, 0, 0, levels);
+    answered(rt, 2, auction, answer)
 }
 
-// Makes a line's call once it has ended. Its first number is the kind that document 01 gives the call's frame, or 7 for a fresh auction.
+// Makes the call of a line. Its first number is the kind that document 01 gives the call's frame, or 7 for a fresh auction.
 fn made(rt: &impl Print, auction: Auction, line: Line) -> io::Result<Auction> {
-    if !line.ended {
-        return Ok(auction);
-    }
     let n = line.numbers;
-    let kind = n[0];
-    match kind {
-        1 => answered(rt, 1, auction.set_up(n[1], n[2], n[3], n[4], n[5])),
+    match n[0] {
+        1 => answered(rt, 1, auction, auction.set_up(n[1], n[2], n[3], n[4], n[5])),
         2 => register(rt, auction, line),
-        3 => answered(rt, 3, auction.open(word(n[1]))),
+        3 => answered(rt, 3, auction, auction.open(word(n[1]))),
         4 => offer(rt, auction, n[1], n[2] as usize, n[3] as usize),
         5 => close(rt, auction),
         6 => settle(rt, auction, word(n[1]), word(n[2])),
@@ -188,22 +153,20 @@ fn made(rt: &impl Print, auction: Auction, line: Line) -> io::Result<Auction> {
 
 fn run(rt: &impl Print, text: &[u8]) -> io::Result<()> {
     let mut auction = Auction::new();
-    let mut line = Line {
-        numbers: [0; 6],
-        at: 0,
-        ended: false,
-    };
-    let mut i: usize = 0;
-    while i < text.len() {
-        line = with_byte(line, text[i]);
-        auction = made(rt, auction, line)?;
-        i += 1;
+    let mut line = Line::new();
+    for b in text {
+        if *b == b'\n' {
+            auction = made(rt, auction, line)?;
+            line = Line::new();
+        } else {
+            line.add(*b);
+        }
     }
     Ok(())
 }
 
 fn main(rt: HostRuntime) -> io::Result<()> {
-    let mut text = program_input::large_buffer();
+    let mut text = [0; 65_536];
     let n = program_input::read_full(&mut rt.stdin(), &mut text)?;
     run(&rt, &text[..n])
 }

@@ -1,8 +1,6 @@
 -- A call that is refused and a call that is accepted, over the ledger that the auction holds.
 use Prim.Native.Nat.{ℕ}
-use mathlib.Core.Path.{◌≡◌, refl, sym, ap, ◌∙◌, subst}
-use mathlib.Core.Bool.{Bool, cond}
-use borrow.Author.Tests.{ne_eqb}
+use mathlib.Core.Path.{◌≡◌, refl, sym, ap, ◌∙◌}
 use Rattle.rules_auction.specs.Ledger.{Call, Ledger}
 use Rattle.rules_auction.specs.Refusals.{refusal}
 use Rattle.rules_auction.specs.Rounds.{accepted, ledger, Answered, bare_answer, granted}
@@ -11,8 +9,7 @@ use Rattle.laws_ledger.specs.reachable.Reachable.{sound}
 pub use Rattle.engine_moves.specs.moves.EntryLaws.{where_true}
 use Rattle.engine_auction.specs.declared.Auction.{Auction}
 use Rattle.engine_auction.specs.Holds.{held_auction, Holding}
-use Rattle.engine_auction.specs.Called.{Called, refused_answer}
-use Rattle.engine_auction.specs.Decided.{unless_refused}
+use Rattle.engine_auction.specs.Called.{Called}
 
 -- refused by n
 abbrev pub Refused : Call → Auction → ℕ → Type 0
@@ -38,11 +35,3 @@ taken c a b r z f = record {
   answer = λ cs h. let t = f (ledger cs) (sound cs) h in t.answer ∙ sym (answer_accepted (ledger cs) c t.number);
   next = λ cs h. let t = f (ledger cs) (sound cs) h in t.next ∙ ap held_auction (sym (ledger_snoc cs c ∙ step_accepted (ledger cs) c t.number));
 }
-
--- ---- stored unless it is refused
-
-pub answer_kept : (a b : Auction) (k : ℕ) → (k ≡ 0 → ⊥) → refused_answer a k ≡ unless_refused a b k
-answer_kept a b k z = ap (λ (t : Bool). refused_answer (cond t b a) k) (sym (ne_eqb k 0 z))
-
-pub answer_stored : (a b : Auction) (k : ℕ) → k ≡ 0 → refused_answer b 0 ≡ unless_refused a b k
-answer_stored a b k z = subst (λ (j : ℕ). refused_answer b 0 ≡ unless_refused a b j) (sym z) refl

@@ -3,12 +3,11 @@
 use Prim.Native.Nat.{ℕ, ◌-◌}
 use mathlib.Core.Path.{◌≡◌, refl, sym, ap, ◌∙◌, subst₂}
 use mathlib.Core.Logic.{⊎_elim}
-use mathlib.Core.Bool.{true, cond}
+use mathlib.Core.Bool.{true, false, cond}
 use mathlib.Core.List.{List, [], ◌∷◌, ◌++◌, append-nil}
 use native.Mathlib.Omega.{arith}
 use lib.IntN.{ℤ, pos, ◌-ℤ◌}
 use lib.ListN.{length, get_or, length-append}
-use borrow.Author.Tests.{eq-eqb, ne_eqb}
 use Rattle.rules_numbers.specs.Lists.{keep}
 use Rattle.rules_auction.specs.Ledger.{Close, Step, Round, Between, Closed, Ledger, nobody, with_developers}
 use Rattle.rules_demand.specs.Demand.{InBounds, InRange}
@@ -36,11 +35,12 @@ use Rattle.engine_moves.specs.declared.closing_entries.Courses.{Courses}
 use Rattle.engine_moves.specs.closing_entries.Courses.{after_round, OffersApplied}
 use Rattle.engine_moves.specs.closing_entries.Places.{numbered_length, each_at}
 use Rattle.engine_auction.proofs.Calls.{Refused, refused, Taken, taken}
-use Rattle.engine_auction.specs.PhaseNumbers.{round_is}
+use Rattle.engine_auction.specs.PhaseHeld.{phase_is}
+use Rattle.engine_checks.specs.clock.Reading.{phase_in}
 
-pub close_phase : (a : Auction) → (a.phase ≡ 2 → ⊥) → Refused Close a 2
+pub close_phase : (a : Auction) → in_round (phase_in a.clock.phase) ≡ false → Refused Close a 2
 unfolding refusal
-close_phase a z = refused Close a 2 (omega arith) (λ l s h. simp (round_is a l h ∙ ne_eqb _ 2 z))
+close_phase a z = refused Close a 2 (omega arith) (λ l s h. simp (ap in_round (sym (phase_is a l h)) ∙ z))
 
 -- ---- the supply curve
 
@@ -56,10 +56,10 @@ CurveAfter a b v =
 
 pub curve_extended :
     (a : Auction) (b : Courses) (firsts : List ℕ) (v : SupplyCurve) → Highests a.declared firsts →
-    Extended a.curve a.projects firsts b.histories a.opening v → CurveAfter a b v
+    Extended a.curve a.projects firsts b.histories a.clock.opening v → CurveAfter a b v
 unfolding held_auction
 curve_extended a b firsts v highests extended l s round h after =
-    extended.curve_is l s round (λ i. (h i).curve) (λ i. (h i).projects) (highests.highest_are l s (λ i. (h i).declared)) after (λ i. (h i).opening)
+    extended.curve_is l s round (λ i. (h i).curve) (λ i. (h i).projects) (highests.highest_are l s (λ i. (h i).declared)) after (λ i. (h i).clock.opening)
 
 none_added : (ws vs : List Step) → length (ws ++ vs) ≡ length ws → ws ++ vs ≡ ws
 none_added ws [] e = append-nil ws
@@ -86,10 +86,10 @@ curve_left a b e l s round h after =
 
 -- what the engine computed of the auction a: the courses b with the offers applied, the curve and the figures; x is the excess as it is answered
 pub record Computed (a : Auction) (b : Courses) (v : SupplyCurve) (f : Figures) (x : ℤ) : Type 0 where
-  pub round : a.phase ≡ 2
-  pub applied : OffersApplied a.kinds a.quantities a.histories a.opening a.closing b
+  pub round : in_round (phase_in a.clock.phase) ≡ true
+  pub applied : OffersApplied a.kinds a.quantities a.histories a.clock.opening a.clock.closing b
   pub curve : CurveAfter a b v
-  pub figures : Figured a.settings a.closing a.projects b.quantities f
+  pub figures : Figured a.clock.settings a.clock.closing a.projects b.quantities f
   pub excess : x ≡ f.excess
 
 module _ (a : Auction) (b : Courses) (v : SupplyCurve) (f : Figures) (x : ℤ) (k : Computed a b v f x) where
@@ -98,11 +98,11 @@ module _ (a : Auction) (b : Courses) (v : SupplyCurve) (f : Figures) (x : ℤ) (
   applied_only = with_courses a b.quantities b.histories v
 
   abbrev pub closed : Auction
-  closed = with_clock applied_only f.phase a.settings a.opening a.closing
+  closed = with_clock applied_only (record { phase = f.phase; settings = a.clock.settings; opening = a.clock.opening; closing = a.clock.closing })
 
   module _ (l : Ledger) (s : Sound l) (h : a ≡ held_auction l) where
     open_round : in_round l.phase ≡ true
-    open_round = round_is a l h ∙ eq-eqb _ 2 k.round
+    open_round = ap in_round (sym (phase_is a l h)) ∙ k.round
 
     round : l.phase ≡ Round
     round = in_round_lem l.phase open_round
@@ -115,7 +115,7 @@ module _ (a : Auction) (b : Courses) (v : SupplyCurve) (f : Figures) (x : ℤ) (
 
     after : (b.quantities ≡ of_each (λ x. (after_round l x).quantity) l) × (b.histories ≡ of_each (λ x. held_course (after_round l x)) l)
     unfolding held_auction
-    after = k.applied.as_ruled l s round (λ i. (h i).kinds) (λ i. (h i).quantities) (λ i. (h i).histories) (λ i. (h i).opening) (λ i. (h i).closing)
+    after = k.applied.as_ruled l s round (λ i. (h i).kinds) (λ i. (h i).quantities) (λ i. (h i).histories) (λ i. (h i).clock.opening) (λ i. (h i).clock.closing)
 
     -- the ledger that the figures read: it stands at the quantities after the round
     abbrev left : Ledger
@@ -137,7 +137,7 @@ module _ (a : Auction) (b : Courses) (v : SupplyCurve) (f : Figures) (x : ℤ) (
     unfolding held_auction
     figures_held =
         let read_so : Figured (held_settings l.settings) l.closing (held_auction l).projects (of_each (λ x. (after_round l x).quantity) l) f =
-        subst₂ (λ (x : Auction) (qs : List ℕ). Figured x.settings x.closing x.projects qs f) h after.0 k.figures in
+        subst₂ (λ (x : Auction) (qs : List ℕ). Figured x.clock.settings x.clock.closing x.projects qs f) h after.0 k.figures in
         read_so.as_ruled bounds in_range_lem ∙ figures_read
 
     courses_after : applied_only ≡ held_auction (later l)
@@ -150,8 +150,12 @@ module _ (a : Auction) (b : Courses) (v : SupplyCurve) (f : Figures) (x : ℤ) (
       number = simp open_round;
       answer = λ i. record { number = 0; excess = (k.excess ∙ ap (λ (y : Figures). y.excess) figures_held) i; remainder = (figures_held i).remainder };
       next =
-          clock_held applied_only (later l) (phase_after l) l.settings courses_after (λ i. (figures_held i).phase) (λ i. (h i).settings) (λ i. (h i).opening)
-          (λ i. (h i).closing);
+          clock_held applied_only (later l) (phase_after l) l.settings l.opening l.closing courses_after (λ i. record {
+            phase = (figures_held i).phase;
+            settings = (h i).clock.settings;
+            opening = (h i).clock.opening;
+            closing = (h i).clock.closing;
+          });
     }
 
   pub close_taken : Called Close a closed (record { number = 0; excess = x; remainder = f.remainder })

@@ -5,7 +5,9 @@ use mathlib.Core.Bool.{Bool, true, false, cond, not, ◌||◌}
 use mathlib.Core.List.{[]}
 use lib.Dec.{leb}
 use Rattle.rules_numbers.specs.Lists.{last_or}
-use Rattle.rules_auction.specs.Ledger.{Open, Phase, Fresh, Ready, Round, Between, Closed, Ledger}
+use Rattle.rules_auction.specs.Ledger.{Open, Phase, Fresh, Ready, Between, Closed, Ledger}
+use Rattle.rules_auction.specs.Ledger as rules
+use Rattle.engine_checks.specs.declared.clock.Phase.TheVariants.{Round}
 use Rattle.rules_auction.specs.Clearing.{of_each, quantity_after, high, supply, demand_at, covered}
 use Rattle.rules_auction.specs.Refusals.{is_fresh, is_ready, opening_price, closing_ok, start_covered, refusal}
 use Rattle.rules_auction.specs.Rounds.{last_level, accepted, bare_answer, granted}
@@ -14,7 +16,7 @@ use Rattle.laws_ledger.specs.reachable.Supplies.{supply_same}
 use Rattle.laws_ledger.specs.clearing.Course.{courses}
 use Rattle.engine_held.specs.supply.ByProjectLaws.{supply_of_lem}
 use Rattle.engine_auction.specs.declared.Auction.{Auction}
-use Rattle.engine_auction.specs.Holds.{held_phase, held_settings, held_auction}
+use Rattle.engine_auction.specs.Holds.{held_clock, held_auction}
 use Rattle.engine_auction.specs.Called.{Called}
 use Rattle.engine_auction.specs.Parts.{with_clock, clock_held}
 use Rattle.engine_checks.specs.clock.Reading.{clock_in, ledger_in}
@@ -31,7 +33,7 @@ ready_supply l s r = supply_same (high l.settings.a) (λ x. x.quantity) l l (λ 
     unstarted : (p : Phase) → is_ready p ≡ true → started p ≡ false
     unstarted Fresh e = refl
     unstarted Ready e = refl
-    unstarted Round e = sym e
+    unstarted rules.Round e = sym e
     unstarted Between e = sym e
     unstarted Closed e = sym e
 
@@ -43,7 +45,7 @@ ready_supply l s r = supply_same (high l.settings.a) (λ x. x.quantity) l l (λ 
 ready_not_fresh : (p : Phase) → is_ready p ≡ true → is_fresh p ≡ false
 ready_not_fresh Fresh e = sym e
 ready_not_fresh Ready e = refl
-ready_not_fresh Round e = refl
+ready_not_fresh rules.Round e = refl
 ready_not_fresh Between e = refl
 ready_not_fresh Closed e = refl
 
@@ -55,12 +57,12 @@ first_only false h = refl
 module _ (l : Ledger) (s : Sound l) where
   -- the ledger that an opening reads
   abbrev read : Ledger
-  read = ledger_in (held_phase l.phase) (held_settings l.settings) 0 l.closing (of_each (λ x. x.declared.project) l) [] (of_each (λ x. x.quantity) l)
+  read = ledger_in (held_clock l) (of_each (λ x. x.declared.project) l) [] (of_each (λ x. x.quantity) l)
 
   covered_read : is_ready l.phase ≡ true → covered read l.settings.a ≡ covered l l.settings.a
   unfolding covered high quantity_after last_or
   covered_read r = ap (λ (q : ℕ). leb (demand_at l l.settings.a) q)
-      (sym (supply_in (held_phase l.phase) (held_settings l.settings) 0 l.closing _ [] _ (numbered_length _) (numbered_length _)
+      (sym (supply_in (held_clock l) _ [] _ (numbered_length _) (numbered_length _)
       (high l.settings.a) (λ i. refl)) ∙ supply_of_lem (λ x. x.quantity) l
       ∙ sym (ready_supply l s r))
 
@@ -76,20 +78,20 @@ module _ (l : Ledger) (s : Sound l) where
 
 module _ (c : ℕ) (a : Auction) where
   abbrev pub Numbered : ℕ → Type 0
-  Numbered = OpeningNumber c a.phase a.settings a.closing a.projects a.quantities
+  Numbered = OpeningNumber c a.clock a.projects a.quantities
 
   module _ (l : Ledger) (s : Sound l) (h : a ≡ held_auction l) where
-    opening_held : opening_price (clock_in a.phase a.settings 0 a.closing) ≡ opening_price l
+    opening_held : opening_price (clock_in a.clock) ≡ opening_price l
     unfolding opening_price held_auction
     opening_held =
-        ap (λ (x : Auction). opening_price (clock_in x.phase x.settings 0 x.closing)) h
+        ap (λ (x : Auction). opening_price (clock_in x.clock)) h
         ∙ ap (λ (p : Phase). cond (is_ready p) l.settings.a l.closing) (phase_read l.phase)
 
     number_held : (n : ℕ) → Numbered n → n ≡ refusal l (Open c)
     unfolding held_auction
     number_held n w =
-        let read_so : OpeningNumber c (held_phase l.phase) (held_settings l.settings) l.closing (held_auction l).projects (held_auction l).quantities n =
-        subst (λ (x : Auction). OpeningNumber c x.phase x.settings x.closing x.projects x.quantities n) h w in
+        let read_so : OpeningNumber c (held_clock l) (held_auction l).projects (held_auction l).quantities n =
+        subst (λ (x : Auction). OpeningNumber c x.clock x.projects x.quantities n) h w in
         read_so.as_ruled (λ r. s.settings (ready_not_fresh l.phase (ap is_ready (sym (phase_read l.phase)) ∙ r))) ∙ number_read l s c
 
   pub open_refused : (n : ℕ) → Numbered n → (n ≡ 0 → ⊥) → Refused (Open c) a n
@@ -97,13 +99,18 @@ module _ (c : ℕ) (a : Auction) where
 
   -- the auction with the round open, from o
   abbrev pub opened : ℕ → Auction
-  opened o = with_clock a 2 a.settings o c
+  opened o = with_clock a (record { phase = Round; settings = a.clock.settings; opening = o; closing = c })
 
-  pub open_taken : (n o : ℕ) → Numbered n → n ≡ 0 → o ≡ opening_price (clock_in a.phase a.settings 0 a.closing) →
+  pub open_taken : (n o : ℕ) → Numbered n → n ≡ 0 → o ≡ opening_price (clock_in a.clock) →
       Called (Open c) a (opened o) (bare_answer 0)
   unfolding granted accepted held_auction
   open_taken n o w z eo = taken _ a (opened o) _ refl (λ l s h. record {
     number = sym (number_held l s h n w) ∙ z;
     answer = refl;
-    next = clock_held a l Round l.settings h refl (λ i. (h i).settings) (eo ∙ opening_held l s h) refl;
+    next = clock_held a l rules.Round l.settings (opening_price l) c h (λ i. record {
+      phase = Round;
+      settings = (h i).clock.settings;
+      opening = (eo ∙ opening_held l s h) i;
+      closing = c;
+    });
   })

@@ -6,10 +6,9 @@ use mathlib.Core.Logic.{⊎_elim}
 use mathlib.Core.Bool.{Bool, true, false, cond, ◌&&◌}
 use mathlib.Core.List.{List, [], map}
 use native.Mathlib.Omega.{arith}
-use lib.Dec.{eqb}
 use lib.ListN.{length, get_or, set, take}
 use lib.Seq.{take_all}
-use borrow.Author.Tests.{le-leb, eqb-true, eqb-false}
+use borrow.Author.Tests.{le-leb}
 use Rattle.rules_numbers.specs.Cases.{clash}
 use Rattle.rules_numbers.specs.Lists.{one_to, last_or}
 use Rattle.rules_auction.specs.Ledger.{Declaration, Agency, Own, Named, agent_for, Call, Register, Developer, Ledger, nobody, put, newcomer}
@@ -21,7 +20,7 @@ use Rattle.laws_ledger.specs.Sound.{started, Sound}
 use Rattle.rules_supply_curve.specs.Closings.{curve_empty}
 use Rattle.laws_ledger.specs.reachable.Held.{by_put, is_ready_lem}
 use Rattle.laws_ledger.specs.reachable.Steps.{ledger_snoc}
-use Rattle.engine_checks.specs.registrations.Numbers.{books_in, RegistrationNumber}
+use Rattle.engine_checks.specs.registrations.Numbers.{in_phase, books_in, RegistrationNumber}
 use Rattle.laws_ledger.specs.reachable.Checks.{RegisterPassed, register_passed, Numbers, numbers_facts, declaration_facts, levels_facts}
 use Rattle.engine_curve.specs.kept_curve.Held.{held_curve}
 use Rattle.engine_held.specs.levels.Held.{held_levels, levels_in, levels_read}
@@ -29,14 +28,18 @@ use Rattle.engine_held.specs.declared.levels.Levels.{Levels}
 use Rattle.engine_held.specs.supply.ByProject.{place_of}
 use Rattle.engine_held.specs.supply.ByProjectLaws.{joins_of}
 use Rattle.engine_moves.specs.moves.EntryLaws.{seat_is, place_below}
+use Rattle.std.specs.Prelude.{Ok, Err}
+use Rattle.engine_refusals.specs.Numbers.{number_of}
+use Rattle.engine_refusals.specs.NumberLaws.{number_not_0}
+use Rattle.engine_refusals.specs.declared.Refusal.{Refusal}
 use Rattle.engine_auction.specs.declared.Auction.{Auction}
-use Rattle.engine_auction.specs.declared.Entered.{Entered}
+use Rattle.engine_auction.specs.declared.Newcomer.{Newcomer}
 use Rattle.engine_auction.specs.Holds.{held_phase, held_course, held_auction, Holding}
 use Rattle.engine_auction.specs.Called.{Called, registers_by, registers, registers_for}
-use Rattle.engine_auction.specs.Decided.{with_books, with_entered, Enters}
+use Rattle.engine_auction.specs.Decided.{with_newcomer, Enters}
 use Rattle.engine_moves.specs.closing_entries.Places.{numbered_length, each_at, put_at, put_keeps}
 use Rattle.engine_auction.proofs.Calls.{Refused, refused, taken}
-use Rattle.engine_checks.specs.clock.Reading.{no_settings, standing_at, developers_in}
+use Rattle.engine_checks.specs.clock.Reading.{standing_at, developers_in}
 use Rattle.engine_checks.specs.clock.ReadingLaws.{phase_read, joins_in}
 
 -- ---- the number
@@ -68,7 +71,7 @@ module _ (l : Ledger) (s : Sound l) where
   read = books_in (held_phase l.phase) (of_each (λ x. x.declared.project) l) (of_each (λ x. x.declared.kind) l)
 
   joins_read : (k kind : ℕ) → may_join read k kind ≡ may_join l k kind
-  joins_read k kind = sym (joins_in (held_phase l.phase) no_settings 0 0 _ _ [] (numbered_length _) (numbered_length _) k kind) ∙ joins_of l k kind
+  joins_read k kind = sym (joins_in (in_phase (held_phase l.phase)) _ _ [] (numbered_length _) (numbered_length _) k kind) ∙ joins_of l k kind
 
   number_read : (n : ℕ) (w : Agency) (x : Declaration) → refusal read (Register n w x) ≡ refusal l (Register n w x)
   unfolding refusal declaration_ok
@@ -80,7 +83,7 @@ unused_nobody s n e = ⊎_elim (λ w. w) (λ r. let low = r.developer.declared.p
 
 -- ---- registration
 
-module _ (a : Auction) (n : ℕ) (ls : List ℕ) (r : Entered) where
+module _ (a : Auction) (n : ℕ) (ls : List ℕ) (r : Newcomer) (j : ℕ) where
   abbrev declaration : Declaration
   declaration = record { project = r.project; kind = r.kind; study = r.study; day = r.day; levels = ls }
 
@@ -92,30 +95,25 @@ module _ (a : Auction) (n : ℕ) (ls : List ℕ) (r : Entered) where
 
   abbrev Numbered : Type 0
   Numbered =
-      RegistrationNumber a.phase a.projects a.kinds (is_number r.project && is_number n && is_number r.agent) r.project n r.kind ls
-      r.number
+      RegistrationNumber a.clock.phase a.projects a.kinds (is_number r.project && is_number n && is_number r.agent) r.project n r.kind ls j
 
-  number_held : Numbered → Holding a (λ l. r.number ≡ refusal l call)
+  number_held : Numbered → Holding a (λ l. j ≡ refusal l call)
   unfolding held_auction
   number_held w l s h =
       let numbered = is_number r.project && is_number n && is_number r.agent in
-      let read_so : RegistrationNumber (held_auction l).phase (held_auction l).projects (held_auction l).kinds numbered r.project n r.kind ls
-      r.number =
-      subst (λ (x : Auction). RegistrationNumber x.phase x.projects x.kinds numbered r.project n r.kind ls r.number) h w in
+      let read_so : RegistrationNumber (held_auction l).clock.phase (held_auction l).projects (held_auction l).kinds numbered r.project n r.kind ls j =
+      subst (λ (x : Auction). RegistrationNumber x.clock.phase x.projects x.kinds numbered r.project n r.kind ls j) h w in
       read_so.as_ruled (Named r.agent) r.study r.day refl ∙ number_read l s n (Named r.agent) declaration
 
   module _ (e : Numbered) where
-    pub register_refused : (r.number ≡ 0 → ⊥) → Refused call a r.number
-    register_refused z = refused _ a r.number z (number_held e)
+    pub register_refused : (j ≡ 0 → ⊥) → Refused call a j
+    register_refused z = refused _ a j z (number_held e)
 
     module _ (place : r.place ≡ place_of n) (copied : r.declared ≡ held_levels (take 8 ls)) (highest : r.quantity ≡ last_or 0 (levels_in r.declared)) where
-      holds : Holding a (λ l. refusal l call ≡ 0 → with_entered a r ≡ held_auction (accepted l call))
+      holds : Holding a (λ l. refusal l call ≡ 0 → with_newcomer a r ≡ held_auction (accepted l call))
       unfolding accepted held_auction
       holds l s h e = λ i. record {
-        phase = (h i).phase;
-        settings = (h i).settings;
-        opening = (h i).opening;
-        closing = (h i).closing;
+        clock = (h i).clock;
         projects = stored (λ x. x.declared.project) (λ j. (h j).projects) refl i;
         kinds = stored (λ x. x.declared.kind) (λ j. (h j).kinds) refl i;
         agents = stored (λ x. x.agent) (λ j. (h j).agents) refl i;
@@ -160,9 +158,9 @@ module _ (a : Auction) (n : ℕ) (ls : List ℕ) (r : Entered) where
           stored f {xs} {w} d g =
               ap (λ ys. set ys r.place w) d ∙ ap (λ (j : ℕ). set (of_each f l) j w) here ∙ put_at f l n new w numbers.number_low numbers.number_high g
 
-      pub register_taken : r.number ≡ 0 → Called call a (with_entered a r) (bare_answer 0)
+      pub register_taken : j ≡ 0 → Called call a (with_newcomer a r) (bare_answer 0)
       unfolding granted
-      register_taken z = taken _ a (with_entered a r) _ refl (λ l s h.
+      register_taken z = taken _ a (with_newcomer a r) _ refl (λ l s h.
           let passes : refusal l call ≡ 0 = sym (number_held e l s h) ∙ z in
           record { number = passes; answer = refl; next = holds l s h passes })
 
@@ -186,26 +184,20 @@ by_agency Own k n kind g study day ls a b r e c =
     own_named k n kind study day ls a b r (subst (λ (j : ℕ). Called (registers_for k n kind j study day ls) a b r) (sym e) c)
 by_agency (Named h) k n kind g study day ls a b r e c = subst (λ (j : ℕ). Called (registers_for k n kind j study day ls) a b r) (sym e) c
 
--- ---- what `entering` decides, and what it leaves once it is stored
+-- ---- what `entering` decides
 
-pub entered :
-    (p : ℕ) (ks hs : List ℕ) (n : ℕ) (ls : List ℕ) (r : Entered) →
-    RegistrationNumber p ks hs (is_number r.project && is_number n && is_number r.agent) r.project n r.kind ls r.number → r.place ≡ place_of n →
-    r.declared ≡ held_levels (take 8 ls) → r.quantity ≡ last_or 0 (levels_in r.declared) →
-    Enters p ks hs r.project n r.kind r.agent r.study r.day ls r
-entered p ks hs n ls r e place copied highest = record {
-  inside = rw place (place_below n);
-  refused = λ w q a z. by_agency w _ n _ _ _ _ ls _ _ _ q (register_refused (with_books a p ks hs) n ls r e z);
-  taken = λ w q a z. by_agency w _ n _ _ _ _ ls _ _ _ q (register_taken (with_books a p ks hs) n ls r e place copied highest z);
-}
+module _ (a : Auction) (n : ℕ) (ls : List ℕ) (r : Newcomer) (j : ℕ)
+    (e : RegistrationNumber a.clock.phase a.projects a.kinds (is_number r.project && is_number n && is_number r.agent) r.project n r.kind ls j) where
+  pub entering_refused : (f : Refusal) → j ≡ number_of f → Enters a r.project n r.kind r.agent r.study r.day ls (Err f)
+  entering_refused f q = record {
+    inside = tt;
+    entered = λ w z. by_agency w _ n _ _ _ _ ls _ _ _ z (rw q at (register_refused a n ls r j e (λ h. number_not_0 f (sym q ∙ h))));
+  }
 
-pub entered_called :
-    (a : Auction) (w : Agency) (k n kind g study day : ℕ) (ls : List ℕ) (r : Entered) →
-    Enters a.phase a.projects a.kinds k n kind g study day ls r → agent_for n w ≡ g →
-    Called (registers_by w k n kind study day ls) a (cond (eqb r.number 0) (with_entered a r) a) (bare_answer r.number)
-entered_called a w k n kind g study day ls r x q = go (eqb r.number 0) refl
-  where
-    go : (b : Bool) → eqb r.number 0 ≡ b → Called (registers_by w k n kind study day ls) a (cond b (with_entered a r) a) (bare_answer r.number)
-    go true e = let z = eqb-true r.number 0 e in
-        subst (λ (j : ℕ). Called (registers_by w k n kind study day ls) a (with_entered a r) (bare_answer j)) (sym z) (x.taken w q a z)
-    go false e = x.refused w q a (eqb-false r.number 0 e)
+  pub entering_taken :
+      j ≡ 0 → r.place ≡ place_of n → r.declared ≡ held_levels (take 8 ls) → r.quantity ≡ last_or 0 (levels_in r.declared) →
+      Enters a r.project n r.kind r.agent r.study r.day ls (Ok r)
+  entering_taken z place copied highest = record {
+    inside = rw place (place_below n);
+    entered = λ w q. by_agency w _ n _ _ _ _ ls _ _ _ q (register_taken a n ls r j e place copied highest z);
+  }

@@ -1,11 +1,13 @@
 -- Set-up: each check in its order, and the settings held.
 use Prim.Native.Nat.{ℕ, ◌<◌}
-use mathlib.Core.Path.{◌≡◌, refl, ◌∙◌}
+use mathlib.Core.Path.{◌≡◌, refl, sym, ap, ◌∙◌}
 use mathlib.Core.Bool.{Bool, true, false}
 use native.Mathlib.Omega.{arith}
-use borrow.Author.Tests.{ne_eqb, eq-eqb}
-use Rattle.rules_auction.specs.Ledger.{settings_of, Ready}
-use Rattle.rules_auction.specs.Refusals.{settings_ok, refusal}
+use Rattle.rules_auction.specs.Ledger.{settings_of}
+use Rattle.rules_auction.specs.Ledger as rules
+use Rattle.engine_checks.specs.declared.clock.Phase.TheVariants.{Ready}
+use Rattle.engine_checks.specs.clock.Reading.{phase_in}
+use Rattle.rules_auction.specs.Refusals.{is_fresh, settings_ok, refusal}
 use Rattle.rules_auction.specs.CheckLaws.{in_settings}
 use Rattle.rules_auction.specs.Rounds.{accepted, bare_answer, granted}
 use Rattle.engine_auction.specs.declared.Auction.{Auction}
@@ -13,7 +15,7 @@ use Rattle.engine_auction.specs.Holds.{held_settings, held_auction}
 use Rattle.engine_auction.specs.Called.{Called, sets_up}
 use Rattle.engine_auction.specs.Parts.{with_clock, clock_held}
 use Rattle.engine_auction.proofs.Calls.{Refused, refused, taken}
-use Rattle.engine_auction.specs.PhaseNumbers.{fresh_is}
+use Rattle.engine_auction.specs.PhaseHeld.{phase_is}
 
 -- A is at most 2 CE, and CE at most 500,000
 pub above_top : (ce d m1 m2 a : ℕ) → 1000000 < a → false ≡ settings_ok (settings_of ce d m1 m2 a)
@@ -24,22 +26,27 @@ above_top ce d m1 m2 a h = go (settings_ok (settings_of ce d m1 m2 a)) refl
     go false e = refl
 
 module _ (a : Auction) (ce d m1 m2 a₀ : ℕ) where
-  pub set_up_phase : (a.phase ≡ 0 → ⊥) → Refused (sets_up ce d m1 m2 a₀) a 2
+  pub set_up_phase : is_fresh (phase_in a.clock.phase) ≡ false → Refused (sets_up ce d m1 m2 a₀) a 2
   unfolding refusal
-  set_up_phase z = refused _ a 2 (omega arith) (λ l s h. simp (fresh_is a l h ∙ ne_eqb _ 0 z))
+  set_up_phase z = refused _ a 2 (omega arith) (λ l s h. simp (ap is_fresh (sym (phase_is a l h)) ∙ z))
 
-  pub set_up_settings : a.phase ≡ 0 → settings_ok (settings_of ce d m1 m2 a₀) ≡ false → Refused (sets_up ce d m1 m2 a₀) a 1
+  pub set_up_settings : is_fresh (phase_in a.clock.phase) ≡ true → settings_ok (settings_of ce d m1 m2 a₀) ≡ false → Refused (sets_up ce d m1 m2 a₀) a 1
   unfolding refusal
-  set_up_settings z f = refused _ a 1 (omega arith) (λ l s h. simp (fresh_is a l h ∙ eq-eqb _ 0 z, f))
+  set_up_settings z f = refused _ a 1 (omega arith) (λ l s h. simp (ap is_fresh (sym (phase_is a l h)) ∙ z, f))
 
   -- the auction with the settings, set up
   abbrev pub set_up : Auction
-  set_up = with_clock a 1 (held_settings (settings_of ce d m1 m2 a₀)) a.opening a.closing
+  set_up = with_clock a (record { phase = Ready; settings = held_settings (settings_of ce d m1 m2 a₀); opening = a.clock.opening; closing = a.clock.closing })
 
-  pub set_up_taken : a.phase ≡ 0 → settings_ok (settings_of ce d m1 m2 a₀) ≡ true → Called (sets_up ce d m1 m2 a₀) a set_up (bare_answer 0)
+  pub set_up_taken : is_fresh (phase_in a.clock.phase) ≡ true → settings_ok (settings_of ce d m1 m2 a₀) ≡ true → Called (sets_up ce d m1 m2 a₀) a set_up (bare_answer 0)
   unfolding refusal granted accepted held_auction
   set_up_taken z f = taken _ a set_up _ refl (λ l s h. record {
-    number = simp (fresh_is a l h ∙ eq-eqb _ 0 z, f);
+    number = simp (ap is_fresh (sym (phase_is a l h)) ∙ z, f);
     answer = refl;
-    next = clock_held a l Ready (settings_of ce d m1 m2 a₀) h refl refl (λ i. (h i).opening) (λ i. (h i).closing);
+    next = clock_held a l rules.Ready (settings_of ce d m1 m2 a₀) l.opening l.closing h (λ i. record {
+      phase = Ready;
+      settings = held_settings (settings_of ce d m1 m2 a₀);
+      opening = (h i).clock.opening;
+      closing = (h i).clock.closing;
+    });
   })

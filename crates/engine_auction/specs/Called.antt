@@ -1,9 +1,10 @@
 -- What each call of the auction ensures. `a` is the auction before, `b` the auction after, `r` the answer.
-use Rattle.std.specs.Prelude.{ℕ, ◌≡◌, List, [], ◌∷◌, ◌++◌}
+use Rattle.std.specs.Prelude.{ℕ, ◌≡◌, List, [], ◌∷◌, ◌++◌, Result, Ok, Err}
 use Rattle.rules_auction.specs.Ledger.{settings_of, Agency, Own, Named, Call, SetUp, Register, Close}
 use Rattle.rules_auction.specs.Rounds.{ledger, Answered, bare_answer, answer}
 use Rattle.engine_auction.specs.declared.Auction.{Auction}
-use Rattle.engine_auction.specs.declared.Answer.{Answer}
+use Rattle.engine_refusals.specs.Numbers.{number_of, number_in, after}
+use Rattle.engine_refusals.specs.declared.Refusal.{Refusal}
 use Rattle.engine_auction.specs.declared.Closing.{Closing}
 use Rattle.engine_auction.specs.Holds.{held_auction}
 
@@ -16,19 +17,25 @@ pub record Called (c : Call) (a b : Auction) (r : Answered) : Type 0 where
   pub next : (cs : List Call) → a ≡ held_auction (ledger cs) → b ≡ held_auction (ledger (cs ++ (c ∷ [])))
 
 -- the numbers and values of an answer
-abbrev pub answer_in : Answer → Answered
-answer_in r = bare_answer r.number
+abbrev pub answer_in : {T : Type 0} → Result T Refusal → Answered
+answer_in r = bare_answer (number_in r)
 
-abbrev pub closing_in : Closing → Answered
-closing_in r = record { number = r.number; excess = r.excess; remainder = r.remainder }
+abbrev pub closing_in : Result Closing Refusal → Answered
+closing_in (Ok x) = record { number = 0; excess = x.excess; remainder = x.remainder }
+closing_in (Err e) = bare_answer (number_of e)
 
--- a call that answers with a number alone
-abbrev pub AnswersCall : Call → Auction → Answer → Type 0
-AnswersCall c a r = Called c a r.auction (answer_in r)
+-- the auction after a closing: the one before where it is refused
+abbrev pub after_closing : Auction → Result Closing Refusal → Auction
+after_closing a (Ok x) = x.auction
+after_closing a (Err e) = a
+
+-- a call that answers with the next auction alone
+abbrev pub AnswersCall : Call → Auction → Result Auction Refusal → Type 0
+AnswersCall c a r = Called c a (after a r) (answer_in r)
 
 -- a closing
-abbrev pub AnswersClosing : Auction → Closing → Type 0
-AnswersClosing a r = Called Close a r.auction (closing_in r)
+abbrev pub AnswersClosing : Auction → Result Closing Refusal → Type 0
+AnswersClosing a r = Called Close a (after_closing a r) (closing_in r)
 
 abbrev pub sets_up : ℕ → ℕ → ℕ → ℕ → ℕ → Call
 sets_up ce d m1 m2 a = SetUp (settings_of ce d m1 m2 a)
@@ -43,7 +50,3 @@ registers = registers_by Own
 -- the agent g is named (document 02, 10)
 abbrev pub registers_for : ℕ → ℕ → ℕ → ℕ → ℕ → ℕ → List ℕ → Call
 registers_for k n kind g study day ls = registers_by (Named g) k n kind study day ls
-
--- a refusal, with the auction as it was
-abbrev pub refused_answer : Auction → ℕ → Answer
-refused_answer a n = record { number = n; auction = a }

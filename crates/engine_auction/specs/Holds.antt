@@ -8,15 +8,12 @@ use Rattle.rules_supply_curve.specs.Curve.{supply_curve}
 use Rattle.engine_held.specs.levels.Held.{held_levels}
 pub use Rattle.engine_moves.specs.closing_entries.Courses.{held_course}
 use Rattle.engine_curve.specs.kept_curve.Held.{held_curve}
-pub use Rattle.engine_checks.specs.clock.Held.{held_phase, held_settings}
+pub use Rattle.engine_checks.specs.clock.Held.{held_phase, held_settings, held_clock}
 use Rattle.engine_auction.specs.declared.Auction.{Auction}
 
 unfoldable pub held_auction : Ledger → Auction
 held_auction l = record {
-  phase = held_phase l.phase;
-  settings = held_settings l.settings;
-  opening = l.opening;
-  closing = l.closing;
+  clock = held_clock l;
   projects = of_each (λ x. x.declared.project) l;
   kinds = of_each (λ x. x.declared.kind) l;
   agents = of_each (λ x. x.agent) l;

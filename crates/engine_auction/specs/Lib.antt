@@ -1,5 +1,5 @@
 pub mod Holds
-pub mod PhaseNumbers
+pub mod PhaseHeld
 pub mod Called
 pub mod CalledLaws
 pub mod Parts

@@ -13,18 +13,15 @@ use Rattle.engine_held.specs.levels.Held.{held_levels}
 use Rattle.engine_held.specs.declared.history.History.{History}
 use Rattle.engine_curve.specs.kept_curve.Held.{held_curve}
 use Rattle.engine_curve.specs.declared.kept_curve.SupplyCurve.{SupplyCurve}
-use Rattle.engine_checks.specs.declared.clock.Settings.{Settings}
+use Rattle.engine_checks.specs.declared.clock.Clock.{Clock}
 use Rattle.engine_auction.specs.declared.Auction.{Auction}
-use Rattle.engine_auction.specs.Holds.{held_phase, held_settings, held_course, held_auction}
+use Rattle.engine_auction.specs.Holds.{held_clock, held_course, held_auction}
 
--- ---- another phase, settings and prices
+-- ---- another clock
 
-abbrev pub with_clock : Auction → ℕ → Settings → ℕ → ℕ → Auction
-with_clock a phase settings opening closing = record {
-  phase = phase;
-  settings = settings;
-  opening = opening;
-  closing = closing;
+abbrev pub with_clock : Auction → Clock → Auction
+with_clock a t = record {
+  clock = t;
   projects = a.projects;
   kinds = a.kinds;
   agents = a.agents;
@@ -40,15 +37,12 @@ abbrev pub clocked : Ledger → Phase → rules.Settings → ℕ → ℕ → Led
 clocked l p s opening closing = with_phase (with_prices (with_settings l s) opening closing) p
 
 pub clock_held :
-    (a : Auction) (l : Ledger) (p : Phase) (s : rules.Settings) {n o c o' c' : ℕ} {t : Settings} → a ≡ held_auction l →
-    n ≡ held_phase p → t ≡ held_settings s → o ≡ o' → c ≡ c' →
-    with_clock a n t o c ≡ held_auction (clocked l p s o' c')
+    (a : Auction) (l : Ledger) (p : Phase) (s : rules.Settings) (o' c' : ℕ) {t : Clock} → a ≡ held_auction l →
+    t ≡ held_clock (clocked l p s o' c') →
+    with_clock a t ≡ held_auction (clocked l p s o' c')
 unfolding held_auction
-clock_held a l p s {o' = o'} {c' = c'} h en et eo ec = λ i. record {
-  phase = en i;
-  settings = et i;
-  opening = eo i;
-  closing = ec i;
+clock_held a l p s o' c' h et = λ i. record {
+  clock = et i;
   projects = (h i).projects;
   kinds = (h i).kinds;
   agents = (h i).agents;
@@ -64,10 +58,7 @@ clock_held a l p s {o' = o'} {c' = c'} h en et eo ec = λ i. record {
 
 abbrev pub with_courses : Auction → List ℕ → List History → SupplyCurve → Auction
 with_courses a quantities histories curve = record {
-  phase = a.phase;
-  settings = a.settings;
-  opening = a.opening;
-  closing = a.closing;
+  clock = a.clock;
   projects = a.projects;
   kinds = a.kinds;
   agents = a.agents;
@@ -96,10 +87,7 @@ module _ (a : Auction) (l : Ledger) (f : ℕ → Developer) (h : a ≡ held_auct
       with_courses a qs hs k ≡ held_auction next
   unfolding held_auction
   courses_held eq eh ek = λ i. record {
-    phase = (h i).phase;
-    settings = (h i).settings;
-    opening = (h i).opening;
-    closing = (h i).closing;
+    clock = (h i).clock;
     projects = keeps (λ y. y.declared.project) (λ j. (h j).projects) i;
     kinds = keeps (λ y. y.declared.kind) (λ j. (h j).kinds) i;
     agents = keeps (λ y. y.agent) (λ j. (h j).agents) i;

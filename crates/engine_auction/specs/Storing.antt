@@ -16,6 +16,7 @@ use Rattle.engine_held.specs.supply.ByProject.{place_of}
 use Rattle.engine_held.specs.levels.Held.{no_levels, held_levels}
 use Rattle.engine_held.specs.declared.history.History.{History}
 use Rattle.engine_moves.specs.closing_entries.Places.{each_at, put_stores, put_keeps}
+use Rattle.engine_moves.specs.declared.moves.Entry.{Entry}
 use Rattle.engine_moves.specs.moves.Entries.{no_history, seat, Held, MovedTo}
 use Rattle.engine_moves.specs.moves.EntryLaws.{seat_is, place_below, kind_number}
 use Rattle.engine_auction.specs.declared.Auction.{Auction}
@@ -33,21 +34,26 @@ at_place f l n d =
     let e : place_of n ≡ seat n - 1 = omega arith in
     ap (λ (j : ℕ). get_or (of_each f l) j d) e ∙ each_at f l (seat n) d (omega arith) (omega (arith, place_below n))
 
+-- what is held at place i
+abbrev pub entry_at : Auction → ℕ → Entry
+entry_at a i = record {
+  kind = get_or a.kinds i 0;
+  declared = get_or a.declared i no_levels;
+  quantity = get_or a.quantities i 0;
+  history = get_or a.histories i no_history;
+}
+
 pub entry_held :
-    (a : Auction) (l : Ledger) (n i : ℕ) → a ≡ held_auction l → i ≡ place_of n →
-    Held a.phase a.settings a.opening a.closing (get_or a.kinds i 0) (get_or a.declared i no_levels) (get_or a.quantities i 0)
-    (get_or a.histories i no_history)
-    l (l.developers (seat n))
+    (a : Auction) (l : Ledger) (n i : ℕ) → a ≡ held_auction l → i ≡ place_of n → Held a.clock (entry_at a i) l (l.developers (seat n))
 unfolding held_auction
 entry_held a l n i h ei = rw ei record {
-  phase = λ j. (h j).phase;
-  settings = λ j. (h j).settings;
-  opening = λ j. (h j).opening;
-  closing = λ j. (h j).closing;
-  kind = ap (λ (x : Auction). get_or x.kinds (place_of n) 0) h ∙ at_place (λ x. x.declared.kind) l n 0;
-  declared = ap (λ (x : Auction). get_or x.declared (place_of n) no_levels) h ∙ at_place (λ x. held_levels x.declared.levels) l n no_levels;
-  quantity = ap (λ (x : Auction). get_or x.quantities (place_of n) 0) h ∙ at_place (λ x. x.quantity) l n 0;
-  history = ap (λ (x : Auction). get_or x.histories (place_of n) no_history) h ∙ at_place held_course l n no_history;
+  clock = λ j. (h j).clock;
+  entry = λ j. record {
+    kind = (ap (λ (x : Auction). get_or x.kinds (place_of n) 0) h ∙ at_place (λ x. x.declared.kind) l n 0) j;
+    declared = (ap (λ (x : Auction). get_or x.declared (place_of n) no_levels) h ∙ at_place (λ x. held_levels x.declared.levels) l n no_levels) j;
+    quantity = (ap (λ (x : Auction). get_or x.quantities (place_of n) 0) h ∙ at_place (λ x. x.quantity) l n 0) j;
+    history = (ap (λ (x : Auction). get_or x.histories (place_of n) no_history) h ∙ at_place held_course l n no_history) j;
+  };
 }
 
 -- ---- one entry stored

@@ -12,15 +12,7 @@ pub const RECORD: usize = 6;
 pub fn count_awards(award: [u32; 32]) -> usize
     ensures { (result ≡ award_count award) × (result ≤ 32) }
 {
-    let mut n: usize = 0;
-    let mut i: usize = 0;
-    while i < 32 {
-        if 0 < award[i] {
-            n += 1;
-        }
-        i += 1;
-    }
-    n
+    award.iter().filter(|level| 0 < **level).count()
 }
 
 // The records of the awards, by rising project, from the buffer's start; the bytes behind them stay.
@@ -29,26 +21,22 @@ pub fn write_awards(awards: &mut [u8], award: [u32; 32], winners: [u8; 32])
     ensures { awards.new ≡ laid (flatten (records_of 1 award winners)) awards.old }
 {
     let mut used: usize = 0;
-    let mut i: usize = 0;
-    while i < 32 {
+    for i in 0..32 {
         let v = award[i];
         if 0 < v {
             write_record(&mut awards[used..], (i + 1) as u8, winners[i], v);
             used += RECORD;
         }
-        i += 1;
     }
 }
 
 // One award record, 6 bytes: project, developer, level with the high byte first.
+#[tactic(auto, unfolding(rules_numbers::specs::Tails::laid))]
 fn write_record(out: &mut [u8], project: u8, developer: u8, level: u32)
     requires { 6 ≤ length out.old }
     ensures { out.new ≡ laid (record_of project developer level) out.old }
 {
     out[0] = project;
     out[1] = developer;
-    out[2] = (level / 16777216 % 256) as u8;
-    out[3] = (level / 65536 % 256) as u8;
-    out[4] = (level / 256 % 256) as u8;
-    out[5] = (level % 256) as u8;
+    out[2..RECORD].copy_from_slice(&level.to_be_bytes());
 }

@@ -3,4 +3,5 @@
 
 pub mod award_records;
 pub mod awarding;
+mod by_number;
 pub mod participation;

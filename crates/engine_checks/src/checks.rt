@@ -10,19 +10,11 @@ use engine_held::{levels, supply};
 // ---- set-up
 
 // Whether the settings are within their bounds and A is above CE/2 and at most 2 CE.
+#[tactic(auto, unfolding(rules_auction::specs::Refusals::settings_ok))]
 pub fn settings_ok(ce: u64, d: u64, m1: u64, m2: u64, a: u64) -> bool
     ensures { result ≡ settings_ok (settings_of ce d m1 m2 a) }
 {
-    if !engine_demand::settings_in_bounds(ce, d, m1, m2) {
-        return false;
-    }
-    if a <= ce / 2 {
-        return false;
-    }
-    if 2 * ce < a {
-        return false;
-    }
-    true
+    engine_demand::settings_in_bounds(ce, d, m1, m2) && ce / 2 < a && a <= 2 * ce
 }
 
 // ---- registration
@@ -31,10 +23,7 @@ pub fn settings_ok(ce: u64, d: u64, m1: u64, m2: u64, a: u64) -> bool
 fn is_kind(kind: u8) -> bool
     ensures { result ≡ is_kind kind }
 {
-    if kind == supply::EXISTING {
-        return true;
-    }
-    kind == supply::NEW
+    kind == supply::EXISTING || kind == supply::NEW
 }
 
 // Whether the kind and the levels are sound, and a developer of this kind may join the project.
@@ -47,11 +36,5 @@ pub fn declaration_ok(
 ) -> bool
     ensures { result ≡ is_kind kind && levels_ok levels.now && joins projects kinds project kind }
 {
-    if !is_kind(kind) {
-        return false;
-    }
-    if !levels::levels_ok(levels) {
-        return false;
-    }
-    supply::may_join(projects, kinds, project, kind)
+    is_kind(kind) && levels::levels_ok(levels) && supply::may_join(projects, kinds, project, kind)
 }

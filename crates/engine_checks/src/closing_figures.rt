@@ -1,16 +1,16 @@
 // The figures of a closing, from the quantities that it leaves: the excess at C, the remainder of Dem(C), and the phase.
 ghost use Rattle.engine_checks.specs.closing_figures.Figured.{Figured};
 
-use crate::clock::Settings;
+use crate::clock::{Phase, Settings};
 use crate::{clock, closing_checks};
 use engine_held::supply;
 
-// The excess, the remainder of Dem(C) (document 02, 4) and the number of the phase after the closing.
+// The excess, the remainder of Dem(C) (document 02, 4) and the phase after the closing.
 #[derive(Clone, Copy)]
 pub struct Figures {
     pub excess: i64,
     pub remainder: u32,
-    pub phase: u8,
+    pub phase: Phase,
 }
 
 pub fn figures_at(
@@ -27,8 +27,8 @@ pub fn figures_at(
     let excess = closing_checks::excess_of(supply, demand);
     let cleared = closing_checks::clears(supply, demand, closing, settings.ce / 2);
     Figures {
-        excess: excess,
-        remainder: remainder,
+        excess,
+        remainder,
         phase: clock::phase_after(cleared),
     }
 }

@@ -1,12 +1,15 @@
-// The number that a registration answers, over what an auction holds: 0, or a refusal's (specs/registrations/Numbers.antt).
+// Whether a registration is accepted, by what an auction holds (specs/registrations/Numbers.antt).
+ghost use Rattle.engine_refusals.specs.Numbers.{number_in};
 ghost use Rattle.engine_checks.specs.registrations.Numbers.{RegistrationNumber};
 
-use crate::{checks, clock};
+use crate::checks;
+use crate::clock::Phase;
 use engine_held::supply;
+use engine_refusals::Refusal;
 
-// Of a developer's registration; `numbered` if project, developer and agent (document 02, 10) have numbers 1 to 32. Checks: 2, 3, 4.
-pub fn registration_refusal(
-    phase: u8,
+// `numbered` if project, developer and agent (document 02, 10) have numbers 1 to 32. Checks: 2, 3, 4.
+pub fn check_registration(
+    phase: Phase,
     projects: [u8; 32],
     kinds: [u8; 32],
     numbered: bool,
@@ -14,21 +17,21 @@ pub fn registration_refusal(
     developer: u8,
     kind: u8,
     levels: &[u32],
-) -> u8
-    ensures { RegistrationNumber phase projects kinds numbered project developer kind levels.now result }
+) -> Result<(), Refusal>
+    ensures { RegistrationNumber phase projects kinds numbered project developer kind levels.now (number_in result) }
 {
-    if phase != clock::READY {
-        return engine_refusals::NOT_IN_THIS_PHASE;
+    if !phase.is_ready() {
+        return Err(Refusal::NotInThisPhase);
     }
     if !numbered {
-        return engine_refusals::BAD_NUMBER;
+        return Err(Refusal::BadNumber);
     }
     let i = supply::place(developer);
     if projects[i] != 0 {
-        return engine_refusals::BAD_NUMBER;
+        return Err(Refusal::BadNumber);
     }
     if !checks::declaration_ok(projects, kinds, project, kind, levels) {
-        return engine_refusals::BAD_REGISTRATION;
+        return Err(Refusal::BadRegistration);
     }
-    0
+    Ok(())
 }

@@ -1,6 +1,6 @@
 // The checks of offers and lodged lists that need no auction: whose they are, and their prices.
 // Each ensures the rule's own test (crate `rules_auction`).
-ghost use Rattle.std.specs.Prelude.{◌≡◌, ◌&&◌, eqb};
+ghost use Rattle.std.specs.Prelude.{ℕ, ◌≡◌, ◌&&◌, eqb, map};
 ghost use Rattle.rules_auction.specs.Refusals.{falling, prices_ok};
 
 use engine_held::history::History;
@@ -9,41 +9,30 @@ use engine_held::history::History;
 pub fn is_of(numbered: bool, kind: u8, wanted: u8) -> bool
     ensures { result ≡ numbered && eqb kind wanted }
 {
-    if !numbered {
-        return false;
-    }
-    kind == wanted
+    numbered && kind == wanted
 }
 
 // Whether there are as many prices as levels, at most 8, and the prices fall from below `opening` and are at least `closing`.
+#[tactic(auto, unfolding(rules_auction::specs::Refusals::prices_ok))]
 pub fn prices_ok(closing: u32, opening: u32, prices: &[u32], levels: &[u32]) -> bool
     ensures { result ≡ prices_ok closing opening prices.now levels.now }
 {
-    if prices.len() != levels.len() {
-        return false;
-    }
-    if History::MOST < prices.len() {
-        return false;
-    }
-    prices_fall(closing, opening, prices)
+    prices.len() == levels.len()
+        && prices.len() <= History::MOST
+        && prices_fall(u64::from(closing), u64::from(opening), prices)
 }
 
-// Whether the prices fall strictly from below the opening price and are at least the closing price.
-fn prices_fall(closing: u32, opening: u32, prices: &[u32]) -> bool
-    ensures { result ≡ falling closing opening prices.now }
+// Whether the prices fall strictly from below the opening price and are at least the closing price; n is what a price of this type is as a number.
+pub fn prices_fall<P: Copy + Into<u64>>(closing: u64, opening: u64, prices: &[P]) -> bool
+    ensures { (n : P → ℕ) → ((p : P) (m : ℕ) → P.converts p m → m ≡ n p) → result ≡ falling closing opening (map n prices.now) }
 {
     let mut last = opening;
-    let mut i: usize = 0;
-    while i < prices.len() {
-        let p = prices[i];
-        if p < closing {
-            return false;
-        }
-        if last <= p {
+    for &price in prices {
+        let p: u64 = price.into();
+        if p < closing || last <= p {
             return false;
         }
         last = p;
-        i += 1;
     }
     true
 }

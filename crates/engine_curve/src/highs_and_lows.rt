@@ -5,20 +5,13 @@ ghost use Rattle.engine_curve.specs.highs_and_lows.Lows.{Highests, Lows, next_pr
 use engine_held::history::History;
 use engine_held::levels::Levels;
 use engine_held::withdrawals;
-
-// The last number of 32 bits, above every price.
-const LAST: u32 = 4_294_967_295;
+use std::array;
 
 // The highest level of each developer.
 pub fn highest_levels(declared: [Levels; 32]) -> [u32; 32]
     ensures { Highests declared result }
 {
-    let mut out = [0u32; 32];
-    for i in 0..32 {
-        let levels = declared[i];
-        out[i] = levels.highest();
-    }
-    out
+    array::from_fn(|i| declared[i].highest())
 }
 
 // The low of each developer at p, from its highest level.
@@ -27,18 +20,15 @@ pub fn lows_at(histories: [History; 32], highest: [u32; 32], p: u32) -> [u32; 32
 {
     let mut out = [0u32; 32];
     for i in 0..32 {
-        let history = histories[i];
-        out[i] = withdrawals::level_at(history, highest[i], p);
+        out[i] = withdrawals::level_at(histories[i], highest[i], p);
     }
     out
 }
 
-// The next price. High at p is low there.
+// The next price. High at p is low there. The last number of 32 bits is above every price.
+#[tactic(auto, unfolding(crate::specs::highs_and_lows::Lows::next_price))]
 pub fn above(p: u32) -> u32
     ensures { result ≡ next_price p }
 {
-    if LAST <= p {
-        return p;
-    }
-    p + 1
+    p.saturating_add(1)
 }

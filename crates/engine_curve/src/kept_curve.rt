@@ -41,13 +41,10 @@ impl SupplyCurve {
     pub fn trim(words: &mut [u64; 256], count: usize, p: u32) -> usize
         ensures { Trimmed (lent_curve words.old count) p (lent_curve words.new result) }
     {
-        if count < 1 {
-            return count;
-        }
-        if SupplyCurve::MOST < count {
-            return count;
-        }
-        if words[count - 1] / SupplyCurve::PRICE != p as u64 {
+        if count == 0
+            || SupplyCurve::MOST < count
+            || words[count - 1] / SupplyCurve::PRICE != u64::from(p)
+        {
             return count;
         }
         words[count - 1] = 0;
@@ -58,16 +55,13 @@ impl SupplyCurve {
     pub fn put_point(words: &mut [u64; 256], count: usize, price: u32, after: u64) -> usize
         ensures { WithPoint (lent_curve words.old count) price after (lent_curve words.new result) }
     {
-        if SupplyCurve::MOST <= count {
+        if SupplyCurve::MOST <= count
+            || SupplyCurve::HIGHEST < price
+            || SupplyCurve::PRICE <= after
+        {
             return count;
         }
-        if SupplyCurve::HIGHEST < price {
-            return count;
-        }
-        if SupplyCurve::PRICE <= after {
-            return count;
-        }
-        words[count] = price as u64 * SupplyCurve::PRICE + after;
+        words[count] = u64::from(price) * SupplyCurve::PRICE + after;
         count + 1
     }
 
@@ -76,32 +70,28 @@ impl SupplyCurve {
         requires { place < 256 }
         ensures { result ≡ supply_before self.words first place }
     {
-        if place < 1 {
-            return first;
+        if place == 0 {
+            first
+        } else {
+            self.words[place - 1] % SupplyCurve::PRICE
         }
-        self.words[place - 1] % SupplyCurve::PRICE
     }
 
     // The point at a place, zero past the end; `first` is the supply before the first one.
     pub fn point(self, first: u64, place: usize) -> CurvePoint
         ensures { PointAt self first place result }
     {
-        let none = CurvePoint {
-            price: 0,
-            before: 0,
-            after: 0,
-        };
-        if self.count <= place {
-            return none;
-        }
-        if SupplyCurve::MOST <= place {
-            return none;
+        if self.count <= place || SupplyCurve::MOST <= place {
+            return CurvePoint {
+                price: 0,
+                before: 0,
+                after: 0,
+            };
         }
         let word = self.words[place];
-        let before = self.supply_before(first, place);
         CurvePoint {
-            price: (word / SupplyCurve::PRICE % 4294967296) as u32,
-            before: before,
+            price: (word / SupplyCurve::PRICE) as u32,
+            before: self.supply_before(first, place),
             after: word % SupplyCurve::PRICE,
         }
     }
@@ -112,12 +102,8 @@ pub fn supplied_at(words: &[u64; 256], count: usize, first: u64, p: u32) -> u64
     ensures { SuppliedAt words.now count first p result }
 {
     let mut left = first;
-    for i in 0..SupplyCurve::MOST {
-        if count <= i {
-            return left;
-        }
-        let word = words[i];
-        if word / SupplyCurve::PRICE <= p as u64 {
+    for word in &words[..count.min(SupplyCurve::MOST)] {
+        if word / SupplyCurve::PRICE <= u64::from(p) {
             return left;
         }
         left = word % SupplyCurve::PRICE;

@@ -1,1 +1,1 @@
-mod Fits
+mod Rounding

@@ -30,28 +30,18 @@ impl History {
         }
     }
 
-    // The history with an offer of these steps standing, as far as there is room.
+    // The history with an offer of these steps standing, where there is room for them.
     pub fn offer(self, prices: &[u32], levels: &[u32]) -> History
         ensures { Offered self prices.now levels.now result }
     {
         let mut h = self;
-        let n = self.count;
-        let mut i: usize = 0;
-        while i < prices.len() {
-            if levels.len() <= i {
-                return h;
-            }
-            if History::MOST <= i {
-                return h;
-            }
-            if History::MOST - i <= n {
-                return h;
-            }
-            h.prices[n + i] = prices[i];
-            h.levels[n + i] = levels[i];
-            i += 1;
+        let start = self.count.min(History::MOST);
+        let steps = prices.len();
+        if levels.len() == steps && steps <= History::MOST - start {
+            h.prices[start..start + steps].copy_from_slice(prices);
+            h.levels[start..start + steps].copy_from_slice(levels);
+            h.offered = steps + 1;
         }
-        h.offered = i + 1;
         h
     }
 
@@ -59,18 +49,11 @@ impl History {
     pub fn cancel(self) -> History
         ensures { Cancelled self result }
     {
-        let n = self.count;
-        let mut h = History::new();
-        let mut i: usize = 0;
-        while i < n {
-            if History::MOST <= i {
-                return h;
-            }
-            h.prices[i] = self.prices[i];
-            h.levels[i] = self.levels[i];
-            i += 1;
-        }
-        h.count = n;
+        let mut h = self;
+        let n = self.count.min(History::MOST);
+        h.prices[n..].fill(0);
+        h.levels[n..].fill(0);
+        h.offered = 0;
         h
     }
 
@@ -78,37 +61,25 @@ impl History {
     pub fn lodge(prices: &[u32], levels: &[u32]) -> History
         ensures { Lodged prices.now levels.now result }
     {
-        let empty = History::new();
-        let mut h = empty.offer(prices, levels);
-        h.offered = 0;
-        h.lodged = prices.len();
-        h
+        History {
+            offered: 0,
+            lodged: prices.len(),
+            ..History::new().offer(prices, levels)
+        }
     }
 
     // The history once its offer is applied; where an offer is missing, all is withdrawn at the opening price.
     pub fn close(self, missing: bool, opening: u32) -> History
         ensures { Applied self missing opening result }
     {
-        let n = self.count;
-        let k = self.offered;
         let mut h = self;
-        if 0 < k {
-            if History::MOST < k - 1 {
-                return h;
-            }
-            if History::MOST - (k - 1) < n {
-                return h;
-            }
-            h.count = n + (k - 1);
+        if 0 < self.offered {
+            h.count = self.count.saturating_add(self.offered - 1);
             h.offered = 0;
-            return h;
-        }
-        if missing {
-            if n < History::MOST {
-                h.prices[n] = opening;
-                h.levels[n] = 0;
-                h.count = n + 1;
-            }
+        } else if missing && self.count < History::MOST {
+            h.prices[self.count] = opening;
+            h.levels[self.count] = 0;
+            h.count = self.count + 1;
         }
         h
     }

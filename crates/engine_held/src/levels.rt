@@ -15,24 +15,15 @@ pub struct Levels {
 pub fn levels_ok(levels: &[u32]) -> bool
     ensures { result ≡ levels_ok levels.now }
 {
-    if levels.len() < 1 {
+    if levels.is_empty() || Levels::MOST < levels.len() {
         return false;
     }
-    if Levels::MOST < levels.len() {
-        return false;
-    }
-    let mut last: u32 = 0;
-    let mut i: usize = 0;
-    while i < levels.len() {
-        let v = levels[i];
-        if v <= last {
+    let mut last = 0;
+    for level in levels {
+        if *level <= last || Levels::LARGEST < *level {
             return false;
         }
-        if Levels::LARGEST < v {
-            return false;
-        }
-        last = v;
-        i += 1;
+        last = *level;
     }
     true
 }
@@ -56,48 +47,30 @@ impl Levels {
     pub fn copied(levels: &[u32]) -> Levels
         ensures { result ≡ held_levels (take 8 levels.now) }
     {
-        let mut held = Levels::none();
-        let mut i: usize = 0;
-        while i < levels.len() {
-            if Levels::MOST <= i {
-                return held;
-            }
-            held.values[i] = levels[i];
-            i += 1;
-            held.count = i;
-        }
-        held
+        let count = levels.len().min(Levels::MOST);
+        let mut values = [0; 8];
+        values[..count].copy_from_slice(&levels[..count]);
+        Levels { values, count }
+    }
+
+    // The levels without the zeros behind them.
+    fn declared(&self) -> &[u32]
+        ensures { result.now ≡ levels_in self.now }
+    {
+        &self.values[..self.count.min(Levels::MOST)]
     }
 
     pub fn highest(self) -> u32
         ensures { result ≡ last_or 0 (levels_in self) }
     {
-        let n = self.count;
-        if n < 1 {
-            return 0;
-        }
-        if Levels::MOST < n {
-            return self.values[Levels::MOST - 1];
-        }
-        self.values[n - 1]
+        self.declared().last().copied().unwrap_or(0)
     }
 
     // Whether level v is among these.
     pub fn declares(self, v: u32) -> bool
         ensures { result ≡ member v (levels_in self) }
     {
-        let n = self.count;
-        let mut i: usize = 0;
-        while i < Levels::MOST {
-            if n <= i {
-                return false;
-            }
-            if self.values[i] == v {
-                return true;
-            }
-            i += 1;
-        }
-        false
+        self.declared().contains(&v)
     }
 
     // Whether each of the levels is declared or 0, and strictly below the one before, the first below the quantity.
@@ -105,19 +78,14 @@ impl Levels {
         ensures { result ≡ lowering (levels_in self) quantity levels.now }
     {
         let mut last = quantity;
-        let mut i: usize = 0;
-        while i < levels.len() {
-            let v = levels[i];
-            if v != 0 {
-                if !self.declares(v) {
-                    return false;
-                }
-            }
-            if last <= v {
+        for level in levels {
+            if *level != 0 && !self.declares(*level) {
                 return false;
             }
-            last = v;
-            i += 1;
+            if last <= *level {
+                return false;
+            }
+            last = *level;
         }
         true
     }

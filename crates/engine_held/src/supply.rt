@@ -1,5 +1,5 @@
 // Supply over the developers' projects and quantities, and who may join a project.
-ghost use Rattle.std.specs.Prelude.{◌≡◌, max, ◌*◌, ◌≤◌, ◌<◌, ◌^◌};
+ghost use Rattle.std.specs.Prelude.{◌≡◌, ◌*◌, ◌≤◌, ◌<◌, ◌^◌};
 ghost use Rattle.rules_auction.specs.Refusals.{is_number};
 ghost use Rattle.engine_held.specs.supply.ByProject.{greatest_by_project, place_of, counted_of, supply_of, joins};
 
@@ -15,17 +15,10 @@ const PLACES: u8 = 32;
 pub fn may_join(projects: [u8; 32], kinds: [u8; 32], project: u8, kind: u8) -> bool
     ensures { result ≡ joins projects kinds project kind }
 {
-    let mut i: usize = 0;
-    while i < 32 {
-        if projects[i] == project {
-            if kind != NEW {
-                return false;
-            }
-            if kinds[i] != NEW {
-                return false;
-            }
+    for (other, beside) in projects.iter().zip(kinds.iter()) {
+        if *other == project && !(kind == NEW && *beside == NEW) {
+            return false;
         }
-        i += 1;
     }
     true
 }
@@ -35,13 +28,9 @@ pub fn greatest_by_project(projects: [u8; 32], quantities: [u32; 32]) -> [u32; 3
     ensures { result ≡ greatest_by_project projects quantities }
 {
     let mut best = [0u32; 32];
-    let mut i: usize = 0;
-    while i < 32 {
-        let k = projects[i];
-        let at = place(k);
-        let q = counted(k, quantities[i]);
-        best[at] = greater(best[at], q);
-        i += 1;
+    for (k, quantity) in projects.iter().zip(quantities.iter()) {
+        let at = place(*k);
+        best[at] = best[at].max(counted(*k, *quantity));
     }
     best
 }
@@ -50,51 +39,31 @@ pub fn greatest_by_project(projects: [u8; 32], quantities: [u32; 32]) -> [u32; 3
 pub fn has_place(k: u8) -> bool
     ensures { result ≡ is_number k }
 {
-    if k < 1 {
-        return false;
-    }
-    k <= PLACES
+    1 <= k && k <= PLACES
 }
 
 // The place of project or developer k; the first place for a number that is none.
+#[tactic(auto, unfolding(crate::specs::supply::ByProject::place_of))]
 pub fn place(k: u8) -> usize
     ensures { (result ≡ place_of k) × (result < 32) }
 {
-    if !has_place(k) {
-        return 0;
-    }
-    (k - 1) as usize
+    if has_place(k) { usize::from(k - 1) } else { 0 }
 }
 
 // The quantity of a developer of project k; 0 where k is no project's number.
+#[tactic(auto, unfolding(crate::specs::supply::ByProject::counted_of))]
 fn counted(k: u8, q: u32) -> u32
     ensures { result ≡ counted_of k q }
 {
-    if !has_place(k) {
-        return 0;
-    }
-    q
-}
-
-fn greater(x: u32, y: u32) -> u32
-    ensures { result ≡ max x y }
-{
-    if x < y {
-        return y;
-    }
-    x
+    if has_place(k) { q } else { 0 }
 }
 
 // Supply: the sum over the projects of the greatest quantity among each one's developers.
 pub fn supply(projects: [u8; 32], quantities: [u32; 32]) -> u64
     ensures { (result ≡ supply_of projects quantities) × (result ≤ 32 * 2 ^ 32) }
 {
-    let best = greatest_by_project(projects, quantities);
-    let mut sum: u64 = 0;
-    let mut i: usize = 0;
-    while i < 32 {
-        sum = sum + best[i] as u64;
-        i += 1;
-    }
-    sum
+    greatest_by_project(projects, quantities)
+        .iter()
+        .map(|greatest| u64::from(*greatest))
+        .sum()
 }

@@ -7,73 +7,49 @@ use crate::history::History;
 fn reached_count(history: History, c: u32) -> usize
     ensures { ReachedCount history c result }
 {
-    let n = history.count;
-    let mut i: usize = 0;
-    while i < history.lodged {
-        if History::MOST <= i {
+    let start = history.count.min(History::MOST);
+    let steps = history.lodged.min(History::MOST - start);
+    for (i, price) in history.prices[start..start + steps].iter().enumerate() {
+        if *price < c {
             return i;
         }
-        if History::MOST - i <= n {
-            return i;
-        }
-        if history.prices[n + i] < c {
-            return i;
-        }
-        i += 1;
     }
-    i
+    steps
 }
 
 // The history once the lodged steps that a closing at c reaches are withdrawals (document 02, 5).
 pub fn reach(history: History, c: u32) -> History
     ensures { Reached history c result }
 {
-    let n = history.count;
     let k = reached_count(history, c);
-    let mut h = history;
-    if History::MOST < k {
-        return h;
+    History {
+        count: history.count.saturating_add(k),
+        lodged: history.lodged.saturating_sub(k),
+        ..history
     }
-    if History::MOST - k < n {
-        return h;
-    }
-    if history.lodged < k {
-        return h;
-    }
-    h.count = n + k;
-    h.lodged = history.lodged - k;
-    h
 }
 
 // The level of the last withdrawal, or the quantity before where there is none.
 pub fn last_level(history: History, before: u32) -> u32
     ensures { LastLevel history before result }
 {
-    let n = history.count;
-    if n < 1 {
-        return before;
+    if history.count == 0 {
+        before
+    } else {
+        history.levels[history.count.min(History::MOST) - 1]
     }
-    if History::MOST < n {
-        return before;
-    }
-    history.levels[n - 1]
 }
 
 // The quantity after all withdrawals at p or above, from `first` on.
 pub fn level_at(history: History, first: u32, p: u32) -> u32
     ensures { LevelAt history first p result }
 {
-    let n = history.count;
-    let mut q = first;
-    let mut i: usize = 0;
-    while i < History::MOST {
-        if n <= i {
-            return q;
+    let n = history.count.min(History::MOST);
+    let mut quantity = first;
+    for (price, level) in history.prices[..n].iter().zip(history.levels[..n].iter()) {
+        if p <= *price {
+            quantity = *level;
         }
-        if p <= history.prices[i] {
-            q = history.levels[i];
-        }
-        i += 1;
     }
-    q
+    quantity
 }

@@ -22,16 +22,11 @@ pub struct Course {
 }
 
 // Whether a closing can move a developer: an offer of it stands, steps of it are lodged, or it withdraws for want of an offer.
+#[tactic(auto, unfolding(crate::specs::closing_entries::Courses::moves))]
 fn is_moved(offered: usize, lodged: usize, kind: u8, quantity: u32) -> bool
     ensures { result ≡ moves offered lodged kind quantity }
 {
-    if 0 < offered {
-        return true;
-    }
-    if 0 < lodged {
-        return true;
-    }
-    closing_checks::withdraws(kind, quantity)
+    0 < offered || 0 < lodged || closing_checks::withdraws(kind, quantity)
 }
 
 // One developer's offer applied, and the lodged steps that C reaches; one of kind 2 without an offer and above 0 withdraws at the opening price.
@@ -65,8 +60,8 @@ pub fn with_offers_applied(
 {
     let mut next = Courses {
         moved: false,
-        quantities: quantities,
-        histories: histories,
+        quantities,
+        histories,
     };
     for i in 0..32 {
         let kind = kinds[i];
@@ -74,10 +69,9 @@ pub fn with_offers_applied(
         let history = next.histories[i];
         if is_moved(history.offered, history.lodged, kind, quantity) {
             let course = with_offer_applied(kind, quantity, history, opening, closing);
-            let after = course.history;
             next.moved = true;
             next.quantities[i] = course.quantity;
-            next.histories[i] = after;
+            next.histories[i] = course.history;
         }
     }
     next

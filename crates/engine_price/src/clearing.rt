@@ -20,32 +20,23 @@ pub struct Cleared {
     pub short: bool,
 }
 
-pub fn clear(auction: Auction) -> Cleared
-    ensures { Clears auction result }
+pub fn clear(auction: &Auction) -> Cleared
+    ensures { Clears auction.now result }
 {
-    let projects = auction.projects;
-    let kinds = auction.kinds;
-    let settings = auction.settings;
-    let closing = auction.closing;
-    let declared = auction.declared;
-    let histories = auction.histories;
-    let curve = auction.curve;
-    let words = curve.words;
-    let highest = highs_and_lows::highest_levels(declared);
-    let first = supply::supply(projects, highest);
-    let p = price::closing_price(settings, closing, &words, curve.count, first);
-    let lows = highs_and_lows::lows_at(histories, highest, p);
-    let highs = highs_and_lows::lows_at(histories, highest, highs_and_lows::above(p));
-    let second = second_price::second_price(
-        settings, closing, projects, kinds, histories, highest, p,
-    );
+    let settings = auction.clock.settings;
+    let highest = highs_and_lows::highest_levels(auction.declared);
+    let first = supply::supply(auction.projects, highest);
+    let p = price::closing_price(auction, first);
+    let lows = highs_and_lows::lows_at(auction.histories, highest, p);
+    let highs = highs_and_lows::lows_at(auction.histories, highest, highs_and_lows::above(p));
+    let second = second_price::second_price(auction, highest, p);
     Cleared {
-        highest: highest,
+        highest,
         price: p,
         demand: settings.demand_at(p),
         remainder: settings.remainder_at(p),
-        lows: lows,
-        highs: highs,
+        lows,
+        highs,
         second: second.price,
         short: second.short,
     }

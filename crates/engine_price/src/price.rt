@@ -1,101 +1,63 @@
 // The closing price: the lowest covered price of those that the clock passed, found by halving. Supply at a price is looked up in the supply
 // curve; where developers are taken out, it is the sum of the highs of the projects that remain.
-ghost use Rattle.std.specs.Prelude.{◌≡◌, ◌<◌};
-ghost use Rattle.engine_price.specs.price.Prices.{ByCurve, ByHistories, CoveredAt, ClosingPrice, passed_by, halved_at};
+ghost use Rattle.std.specs.Prelude.{◌≡◌};
+ghost use Rattle.engine_price.specs.price.Prices.{ByCurve, ByHistories, CoveredAt, ClosingPrice, LowestCovered};
 
-use engine_checks::clock::Settings;
+use engine_auction::Auction;
+use engine_checks::clock::Clock;
 use engine_curve::{highs_and_lows, kept_curve};
-use engine_held::history::History;
 use engine_held::supply;
 
-// The prices among which the lowest covered one lies: hi is covered or A, nothing below lo is covered.
-#[derive(Clone, Copy)]
-struct Bracket {
-    lo: u32,
-    hi: u32,
-}
-
-// The prices that the clock passed: from the last C to A.
-fn passed(settings: Settings, closing: u32) -> Bracket
-    ensures { result ≡ passed_by settings closing }
+// The lowest price passed, from the last C to A, that is covered by the test `covered`; A where none is.
+fn lowest_covered<F: Fn(u32) -> bool>(clock: Clock, covered: F) -> u32
+    requires { F.IsAlwaysCallable covered }
+    ensures { LowestCovered clock.settings clock.closing (F.post covered) result }
 {
-    Bracket {
-        lo: closing,
-        hi: settings.a,
+    let mut lo = clock.closing;
+    let mut hi = clock.settings.a;
+    // Price hi is covered or A; nothing below lo is covered.
+    while lo < hi {
+        let mid = lo + (hi - lo) / 2;
+        if covered(mid) {
+            hi = mid;
+        } else {
+            lo = mid + 1;
+        }
     }
-}
-
-fn halved(b: Bracket, mid: u32, covered: bool) -> Bracket
-    requires { mid < b.hi }
-    ensures { result ≡ halved_at b mid covered }
-{
-    if covered {
-        return Bracket { lo: b.lo, hi: mid };
-    }
-    Bracket {
-        lo: mid + 1,
-        hi: b.hi,
-    }
+    lo
 }
 
 // Whether p is covered: supply at p, looked up in the supply curve (document 02, 9), is at least Dem(p). `first` is the supply of the highest
 // levels.
-fn covered_at(settings: Settings, words: &[u64; 256], count: usize, first: u64, p: u32) -> bool
-    ensures { CoveredAt settings (ByCurve words.now count first) p result }
+fn covered_at(auction: &Auction, first: u64, p: u32) -> bool
+    ensures { CoveredAt auction.now.clock.settings (ByCurve auction.now.curve.words auction.now.curve.count first) p result }
 {
-    let demand = settings.demand_at(p);
-    demand <= kept_curve::supplied_at(words, count, first, p)
+    let curve = &auction.curve;
+    let demand = auction.clock.settings.demand_at(p);
+    demand <= kept_curve::supplied_at(&curve.words, curve.count, first, p)
 }
 
 // P (document 01, Closing price and award).
-pub fn closing_price(
-    settings: Settings,
-    closing: u32,
-    words: &[u64; 256],
-    count: usize,
-    first: u64,
-) -> u32
-    ensures { ClosingPrice settings closing (ByCurve words.now count first) result }
+pub fn closing_price(auction: &Auction, first: u64) -> u32
+    ensures { ClosingPrice auction.now.clock.settings auction.now.clock.closing
+        (ByCurve auction.now.curve.words auction.now.curve.count first) result }
 {
-    let mut b = passed(settings, closing);
-    while b.lo < b.hi {
-        let mid = b.lo + (b.hi - b.lo) / 2;
-        let covered = covered_at(settings, words, count, first, mid);
-        b = halved(b, mid, covered);
-    }
-    b.lo
+    lowest_covered(auction.clock, |p| covered_at(auction, first, p))
 }
 
 // Whether p is covered by these projects alone: 0 stands in the place of a developer that is taken out.
-pub fn covered_by(
-    settings: Settings,
-    projects: [u8; 32],
-    histories: [History; 32],
-    highest: [u32; 32],
-    p: u32,
-) -> bool
-    ensures { CoveredAt settings (ByHistories projects histories highest) p result }
+pub fn covered_by(auction: &Auction, projects: [u8; 32], highest: [u32; 32], p: u32) -> bool
+    ensures { CoveredAt auction.now.clock.settings (ByHistories projects auction.now.histories highest) p result }
 {
-    let highs = highs_and_lows::lows_at(histories, highest, highs_and_lows::above(p));
-    let demand = settings.demand_at(p);
+    let highs = highs_and_lows::lows_at(auction.histories, highest, highs_and_lows::above(p));
+    let demand = auction.clock.settings.demand_at(p);
     demand <= supply::supply(projects, highs)
 }
 
 // The closing price of these projects alone; A where no price is covered.
-pub fn price_by(
-    settings: Settings,
-    closing: u32,
-    projects: [u8; 32],
-    histories: [History; 32],
-    highest: [u32; 32],
-) -> u32
-    ensures { ClosingPrice settings closing (ByHistories projects histories highest) result }
+pub fn price_by(auction: &Auction, projects: [u8; 32], highest: [u32; 32]) -> u32
+    ensures { ClosingPrice auction.now.clock.settings auction.now.clock.closing
+        (ByHistories projects auction.now.histories highest) result }
 {
-    let mut b = passed(settings, closing);
-    while b.lo < b.hi {
-        let mid = b.lo + (b.hi - b.lo) / 2;
-        let covered = covered_by(settings, projects, histories, highest, mid);
-        b = halved(b, mid, covered);
-    }
-    b.lo
+    lowest_covered(auction.clock, |p| covered_by(auction, projects, highest, p))
 }

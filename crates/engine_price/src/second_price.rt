@@ -5,8 +5,6 @@ ghost use Rattle.engine_price.specs.second_price.Taken.{plant_in, NoneTaken, Rem
 
 use crate::price;
 use engine_auction::Auction;
-use engine_checks::clock::Settings;
-use engine_held::history::History;
 
 // The second price, and whether it is short: A is then not covered.
 #[derive(Clone, Copy)]
@@ -16,25 +14,21 @@ pub struct Second {
 }
 
 // Whether a developer is taken out: an existing plant makes no offers, so its withdrawals are applied lodged steps.
+#[tactic(auto, using(crate::proofs::second_price::Taking::taken_where), unfolding(rules_auction::specs::Second::lodged_applied))]
 fn is_taken_out(kind: u8, withdrawals: usize) -> bool
     ensures { result ≡ lodged_applied (plant_in kind withdrawals) }
 {
-    if kind != Auction::EXISTING_PLANT {
-        return false;
-    }
-    withdrawals != 0
+    kind == Auction::EXISTING_PLANT && withdrawals != 0
 }
 
-fn none_taken_out(kinds: [u8; 32], histories: [History; 32]) -> bool
-    ensures { NoneTaken kinds histories result }
+fn none_taken_out(auction: &Auction) -> bool
+    ensures { NoneTaken auction.now.kinds auction.now.histories result }
 {
-    for i in 0..32 {
-        let history = histories[i];
-        if is_taken_out(kinds[i], history.count) {
-            return false;
-        }
-    }
-    true
+    auction
+        .kinds
+        .iter()
+        .zip(&auction.histories)
+        .all(|(kind, history)| !is_taken_out(*kind, history.count))
 }
 
 // A developer's project, 0 where it is taken out.
@@ -42,46 +36,43 @@ fn left_of(project: u8, kind: u8, withdrawals: usize) -> u8
     ensures { result ≡ cond (lodged_applied (plant_in kind withdrawals)) 0 project }
 {
     if is_taken_out(kind, withdrawals) {
-        return 0;
+        0
+    } else {
+        project
     }
-    project
 }
 
 // The developers' projects, 0 in the place of a developer that is taken out. An existing project has one developer.
-fn remaining_projects(projects: [u8; 32], kinds: [u8; 32], histories: [History; 32]) -> [u8; 32]
-    ensures { Remain projects kinds histories result }
+fn remaining_projects(auction: &Auction) -> [u8; 32]
+    ensures { Remain auction.now.projects auction.now.kinds auction.now.histories result }
 {
-    let mut out = projects;
+    let mut out = auction.projects;
     for i in 0..32 {
-        let history = histories[i];
-        out[i] = left_of(projects[i], kinds[i], history.count);
+        out[i] = left_of(
+            auction.projects[i],
+            auction.kinds[i],
+            auction.histories[i].count,
+        );
     }
     out
 }
 
 // The lowest covered price passed with these projects taken out; A, and short, where A is then not covered. It is the first price p where
 // nobody is taken out.
-pub fn second_price(
-    settings: Settings,
-    closing: u32,
-    projects: [u8; 32],
-    kinds: [u8; 32],
-    histories: [History; 32],
-    highest: [u32; 32],
-    p: u32,
-) -> Second
-    ensures { SecondPrice settings closing projects kinds histories highest p result }
+pub fn second_price(auction: &Auction, highest: [u32; 32], p: u32) -> Second
+    ensures { SecondPrice auction.now.clock.settings auction.now.clock.closing auction.now.projects auction.now.kinds
+        auction.now.histories highest p result }
 {
-    if none_taken_out(kinds, histories) {
+    if none_taken_out(auction) {
         return Second {
             price: p,
             short: false,
         };
     }
-    let remaining = remaining_projects(projects, kinds, histories);
-    let covered = price::covered_by(settings, remaining, histories, highest, settings.a);
+    let remaining = remaining_projects(auction);
+    let covered = price::covered_by(auction, remaining, highest, auction.clock.settings.a);
     Second {
-        price: price::price_by(settings, closing, remaining, histories, highest),
+        price: price::price_by(auction, remaining, highest),
         short: !covered,
     }
 }

@@ -1,65 +1,87 @@
-// The numbers of the refusals, by name. A call that is accepted answers 0.
-
-// Document 01, The twelve numbers.
-// Settings or price beyond the bounds under Demand.
+// The refusals, each with its number, and the number of an answer: 0 where the call is accepted.
 #![tactic(auto)]
 
-pub const BEYOND_BOUNDS: u8 = 1;
+ghost use Rattle.std.specs.Prelude.{◌≡◌};
+ghost use Rattle.engine_refusals.specs.Numbers.{number_of, number_in};
 
-// Call not accepted in this phase.
-pub const NOT_IN_THIS_PHASE: u8 = 2;
+// 1 to 12 are those of document 01, The twelve numbers; the others come with the request of document 02 that is named.
+#[derive(Clone, Copy, Debug, PartialEq, Eq)]
+pub enum Refusal {
+    // Settings or price beyond the bounds under Demand.
+    BeyondBounds = 1,
 
-// Number outside 1-32, used developer, or offer by an unknown or kind 1 developer.
-pub const BAD_NUMBER: u8 = 3;
+    // Call not accepted in this phase.
+    NotInThisPhase = 2,
 
-// Bad kind or levels, or developers a project may not have.
-pub const BAD_REGISTRATION: u8 = 4;
+    // Number outside 1-32, used developer, or offer by an unknown or kind 1 developer.
+    BadNumber = 3,
 
-// C below the floor or not below the opening price.
-pub const BAD_ROUND_PRICE: u8 = 5;
+    // Bad kind or levels, or developers a project may not have.
+    BadRegistration = 4,
 
-// Price and level lists of unequal length, over 8 steps, or a bad price.
-pub const BAD_STEPS: u8 = 6;
+    // C below the floor or not below the opening price.
+    BadRoundPrice = 5,
 
-// A level neither declared nor 0, or not below the last.
-pub const BAD_LEVEL: u8 = 7;
+    // Price and level lists of unequal length, over 8 steps, or a bad price.
+    BadSteps = 6,
 
-// Second offer in the round.
-pub const SECOND_OFFER: u8 = 8;
+    // A level neither declared nor 0, or not below the last.
+    BadLevel = 7,
 
-// First opening with A not covered.
-pub const OPENING_NOT_COVERED: u8 = 9;
+    // Second offer in the round.
+    SecondOffer = 8,
 
-// Choices above the limit.
-pub const ABOVE_THE_LIMIT: u8 = 10;
+    // First opening with A not covered.
+    OpeningNotCovered = 9,
 
-// Lent buffer too short for all records or replies.
-pub const BUFFER_TOO_SHORT: u8 = 11;
+    // Choices above the limit.
+    AboveTheLimit = 10,
 
-// Malformed line.
-pub const MALFORMED_LINE: u8 = 12;
+    // Lent buffer too short for all records or replies.
+    BufferTooShort = 11,
 
-// Document 02.
-// Buffer too short for the frame (2).
-pub const FRAME_BUFFER_TOO_SHORT: u8 = 13;
+    // Malformed line.
+    MalformedLine = 12,
 
-// Call not writable (2).
-pub const NOT_WRITABLE: u8 = 14;
+    // Buffer too short for the frame (2).
+    FrameBufferTooShort = 13,
 
-// Lodging for a developer number that is no registered existing plant (5).
-pub const NO_EXISTING_PLANT: u8 = 15;
+    // Call not writable (2).
+    NotWritable = 14,
 
-// Cancellation by a developer of whom no offer stands in the round (7).
-pub const NO_STANDING_OFFER: u8 = 16;
+    // Lodging for a developer number that is no registered existing plant (5).
+    NoExistingPlant = 15,
 
-// A pair of rivals or a price list not as described (11).
-pub const NO_SUCH_GAME: u8 = 17;
+    // Cancellation by a developer of whom no offer stands in the round (7).
+    NoStandingOffer = 16,
 
-// More than 16 sealed offers, or a field of the sealed auction out of bounds (13).
-pub const SEALED_OUT_OF_BOUNDS: u8 = 18;
+    // A pair of rivals or a price list not as described (11).
+    NoSuchGame = 17,
 
-// A sealed offer's price above the ceiling (13).
-pub const ABOVE_THE_CEILING: u8 = 19;
+    // More than 16 sealed offers, or a field of the sealed auction out of bounds (13).
+    SealedOutOfBounds = 18,
 
-// A call that the seat has no right to make (14).
-pub const NO_RIGHT: u8 = 20;
+    // A sealed offer's price above the ceiling (13).
+    AboveTheCeiling = 19,
+
+    // A call that the seat has no right to make (14).
+    NoRight = 20,
+}
+
+impl From<Refusal> for u8 {
+    ghost from_gives = { λ r n. n ≡ number_of r };
+
+    fn from(refusal: Refusal) -> u8 {
+        refusal as u8
+    }
+}
+
+// The number of an answer: 0, or its refusal's.
+pub fn answer_number<T>(answer: &Result<T, Refusal>) -> u8
+    ensures { result ≡ number_in answer.now }
+{
+    match answer {
+        Ok(_) => 0,
+        Err(refusal) => u8::from(*refusal),
+    }
+}

@@ -1,59 +1,25 @@
 // The sealed auction for long builds (document 02, 13): the year's demand given to the offers in turn. No state.
 ghost use Rattle.std.specs.Prelude.{◌≡◌};
 ghost use Rattle.rules_sealed.specs.Sealed.{book_of, sealing};
-ghost use Rattle.engine_sealed.specs.sealed_auction.Cleared.{sealed_as, Lends};
+ghost use Rattle.engine_sealed.specs.sealed_auction.Cleared.{sealed_as, sealed_in, lent_in, Lends};
+ghost use Rattle.engine_sealed.specs.sealed_checks.Reading.{book_in};
 
-use crate::sealed_checks::MOST_OFFERS;
+use crate::sealed_awards::Sealed;
+use crate::sealed_checks::Book;
 use crate::{sealed_awards, sealed_checks, sealed_order};
-
-// The answer: 0 or a refusal's number, the award of each offer in list order with 0 behind them, what is left. A refusal has 0 in every other
-// place.
-#[derive(Clone, Copy)]
-pub struct Sealed {
-    pub number: u8,
-    pub awards: [u64; MOST_OFFERS],
-    pub left: u64,
-}
+use engine_refusals::Refusal;
 
 // Checks: 18, 19.
-pub fn clear(
-    ceiling: u64,
-    demand: u64,
-    prices: &[u64],
-    quantities: &[u64],
-    minimums: &[u64],
-    ages: &[u64],
-) -> Sealed
-    ensures { result ≡ sealed_as (sealing ceiling demand
-        (book_of prices.now quantities.now minimums.now ages.now)) }
+pub fn clear(ceiling: u64, demand: u64, book: Book) -> Result<Sealed, Refusal>
+    ensures { sealed_in result ≡ sealed_as (sealing ceiling demand (book_in book.entry)) }
 {
-    let number = sealed_checks::sealed_refusal(ceiling, demand, prices, quantities, minimums, ages);
-    if number != 0 {
-        let none = [0u64; MOST_OFFERS];
-        return Sealed {
-            number: number,
-            awards: none,
-            left: 0,
-        };
-    }
-    let order = sealed_order::taking_order(prices, ages);
-    let shared = sealed_awards::share(demand, quantities, minimums, order, prices.len());
-    let awards = shared.awards;
-    Sealed {
-        number: 0,
-        awards: awards,
-        left: shared.left,
-    }
+    sealed_checks::check_sealed(ceiling, demand, book)?;
+    let order = sealed_order::taking_order(book.prices, book.ages);
+    let count = book.prices.len();
+    Ok(sealed_awards::share(demand, book.quantities, book.minimums, order, count))
 }
 
-// What is told of awards in a lent buffer: a refusal's number and 0, or 0 and what is left.
-#[derive(Clone, Copy)]
-pub struct Lent {
-    pub number: u8,
-    pub left: u64,
-}
-
-// The awards from the buffer's start. Checks: 18, 19, 11.
+// The awards from the lent buffer's start; what is left is answered. Checks: 18, 19, 11.
 pub fn sealed_auction(
     ceiling: u64,
     demand: u64,
@@ -62,27 +28,20 @@ pub fn sealed_auction(
     minimums: &[u64],
     ages: &[u64],
     awards: &mut [u64],
-) -> Lent
+) -> Result<u64, Refusal>
     ensures { Lends ceiling demand (book_of prices.now quantities.now minimums.now ages.now)
-        awards.old awards.new result }
+        awards.old awards.new (lent_in result) }
 {
-    let sealed = clear(ceiling, demand, prices, quantities, minimums, ages);
-    if sealed.number != 0 {
-        return Lent {
-            number: sealed.number,
-            left: 0,
-        };
-    }
+    let book = Book {
+        prices,
+        quantities,
+        minimums,
+        ages,
+    };
+    let sealed = clear(ceiling, demand, book)?;
     if awards.len() < prices.len() {
-        return Lent {
-            number: engine_refusals::BUFFER_TOO_SHORT,
-            left: 0,
-        };
+        return Err(Refusal::BufferTooShort);
     }
-    let given = sealed.awards;
-    sealed_awards::put_awards(given, prices.len(), awards);
-    Lent {
-        number: 0,
-        left: sealed.left,
-    }
+    sealed_awards::put_awards(sealed.awards, prices.len(), awards);
+    Ok(sealed.left)
 }

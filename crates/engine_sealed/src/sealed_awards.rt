@@ -7,9 +7,9 @@ ghost use Rattle.engine_sealed.specs.sealed_awards.Shares.{Shares, Awards};
 
 use crate::sealed_checks::MOST_OFFERS;
 
-// The award of each offer in list order, and what is left.
+// The award of each offer in list order with 0 behind them, and what is left.
 #[derive(Clone, Copy)]
-pub struct Shared {
+pub struct Sealed {
     pub awards: [u64; MOST_OFFERS],
     pub left: u64,
 }
@@ -21,45 +21,37 @@ pub fn share(
     minimums: &[u64],
     order: [usize; 32],
     count: usize,
-) -> Shared
+) -> Sealed
     requires { (count ≤ most_offers) × (length quantities.now ≡ count) × (length minimums.now ≡ count) × Each (λ k. k < count) (take count order) }
     ensures { Shares quantities.now minimums.now demand (take count order) result.awards result.left }
 {
     let mut awards = [0u64; MOST_OFFERS];
     let mut left = demand;
-    let mut i: usize = 0;
-    while i < count {
-        let k = order[i];
-        let a = award(left, quantities[k], minimums[k]);
-        awards[k] = a;
-        left -= a;
-        i += 1;
+    for &place in &order[..count] {
+        let given = award(left, quantities[place], minimums[place]);
+        awards[place] = given;
+        left -= given;
     }
-    Shared { awards, left }
+    Sealed { awards, left }
 }
 
 // The lesser of the quantity and what is left, or nothing if that is below the minimum.
+#[tactic(auto, unfolding(rules_sealed::specs::Sealed::awarded))]
 fn award(left: u64, quantity: u64, minimum: u64) -> u64
     ensures { Awards left quantity minimum result }
 {
-    let mut a = quantity;
-    if left < quantity {
-        a = left;
-    }
-    if a < minimum {
+    let most = quantity.min(left);
+    if most < minimum {
         return 0;
     }
-    a
+    most
 }
 
 // The first `count` awards, from a buffer's start; the places behind them stay.
+#[tactic(auto, unfolding(rules_numbers::specs::Tails::laid))]
 pub fn put_awards(awards: [u64; MOST_OFFERS], count: usize, out: &mut [u64])
     requires { (count ≤ most_offers) × (count ≤ length out.old) }
     ensures { out.new ≡ laid (take count awards) out.old }
 {
-    let mut k: usize = 0;
-    while k < count {
-        out[k] = awards[k];
-        k += 1;
-    }
+    out[..count].copy_from_slice(&awards[..count]);
 }

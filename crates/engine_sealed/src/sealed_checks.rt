@@ -1,7 +1,11 @@
 // The refusals of the sealed auction (document 02, 13).
 ghost use Rattle.std.specs.Prelude.{◌≡◌, ◌&&◌, leb, length};
 ghost use Rattle.rules_numbers.specs.Lists.{all};
-ghost use Rattle.rules_sealed.specs.Sealed.{book_of, offers, offer_ok, book_ok, sealed_refusal};
+ghost use Rattle.engine_refusals.specs.Numbers.{number_in};
+ghost use Rattle.rules_sealed.specs.Sealed.{offers, offer_ok, book_ok, sealed_refusal};
+ghost use Rattle.engine_sealed.specs.sealed_checks.Reading.{book_in};
+
+use engine_refusals::Refusal;
 
 // Bounds, all of document 02, 13. The most offers in a list.
 pub const MOST_OFFERS: usize = 16;
@@ -18,102 +22,83 @@ pub const OLDEST: u64 = 20;
 // The largest demand of the year.
 pub const MOST_DEMAND: u64 = 100_000_000_000;
 
+// A list of offers: what stands at one place of the four slices is one offer's.
+#[derive(Clone, Copy)]
+pub struct Book<'a> {
+    pub prices: &'a [u64],
+    pub quantities: &'a [u64],
+    pub minimums: &'a [u64],
+    pub ages: &'a [u64],
+}
+
 // Whether a number is 1 to `most`.
 fn is_up_to(most: u64, number: u64) -> bool
     ensures { result ≡ leb 1 number && leb number most }
 {
-    if number < 1 {
-        return false;
-    }
-    number <= most
+    1 <= number && number <= most
 }
 
 // Whether the fields of an offer are within their bounds.
+#[tactic(auto, unfolding(rules_sealed::specs::Sealed::offer_ok))]
 fn offer_ok(price: u64, quantity: u64, minimum: u64, age: u64) -> bool
     ensures { result ≡ offer_ok (record { price = price; quantity = quantity; minimum = minimum; age = age }) }
 {
-    if !is_up_to(TOP_PRICE, price) {
-        return false;
-    }
-    if !is_up_to(MOST_QUANTITY, quantity) {
-        return false;
-    }
-    if !is_up_to(quantity, minimum) {
-        return false;
-    }
-    age <= OLDEST
+    is_up_to(TOP_PRICE, price)
+        && is_up_to(MOST_QUANTITY, quantity)
+        && is_up_to(quantity, minimum)
+        && age <= OLDEST
 }
 
 // Whether the fields of every offer are within their bounds.
-fn offers_ok(prices: &[u64], quantities: &[u64], minimums: &[u64], ages: &[u64]) -> bool
-    requires { (length quantities.now ≡ length prices.now) × (length minimums.now ≡ length prices.now) × (length ages.now ≡ length prices.now) }
-    ensures { result ≡ all offer_ok (offers (book_of prices.now quantities.now minimums.now ages.now)) }
+fn offers_ok(book: Book) -> bool
+    requires { (length book.quantities.now ≡ length book.prices.now) × (length book.minimums.now ≡ length book.prices.now) × (length book.ages.now ≡ length book.prices.now) }
+    ensures { result ≡ all offer_ok (offers (book_in book.entry)) }
 {
-    let mut i: usize = 0;
-    while i < prices.len() {
-        if !offer_ok(prices[i], quantities[i], minimums[i], ages[i]) {
-            return false;
-        }
-        i += 1;
-    }
-    true
+    (0..book.prices.len()).all(|i| {
+        offer_ok(
+            book.prices[i],
+            book.quantities[i],
+            book.minimums[i],
+            book.ages[i],
+        )
+    })
 }
 
 // Whether the lists are equally long, with at most 16 offers, and every field is within its bounds.
-fn book_ok(prices: &[u64], quantities: &[u64], minimums: &[u64], ages: &[u64]) -> bool
-    ensures { result ≡ book_ok (book_of prices.now quantities.now minimums.now ages.now) }
+#[tactic(auto, unfolding(rules_sealed::specs::Sealed::book_ok, rules_sealed::specs::Sealed::long_ok))]
+fn book_ok(book: Book) -> bool
+    ensures { result ≡ book_ok (book_in book.entry) }
 {
-    if MOST_OFFERS < prices.len() {
-        return false;
-    }
-    if quantities.len() != prices.len() {
-        return false;
-    }
-    if minimums.len() != prices.len() {
-        return false;
-    }
-    if ages.len() != prices.len() {
-        return false;
-    }
-    offers_ok(prices, quantities, minimums, ages)
+    book.prices.len() <= MOST_OFFERS
+        && book.quantities.len() == book.prices.len()
+        && book.minimums.len() == book.prices.len()
+        && book.ages.len() == book.prices.len()
+        && offers_ok(book)
 }
 
 // Whether no price is above the ceiling.
 fn within_ceiling(ceiling: u64, prices: &[u64]) -> bool
     ensures { result ≡ all (λ p. leb p ceiling) prices.now }
 {
-    let mut i: usize = 0;
-    while i < prices.len() {
-        if ceiling < prices[i] {
-            return false;
-        }
-        i += 1;
-    }
-    true
+    prices.iter().all(|&price| price <= ceiling)
 }
 
-// 18 for more than 16 offers, lists of unequal lengths or a field out of bounds, then 19 for an offered price above the ceiling, else 0.
-pub fn sealed_refusal(
-    ceiling: u64,
-    demand: u64,
-    prices: &[u64],
-    quantities: &[u64],
-    minimums: &[u64],
-    ages: &[u64],
-) -> u8
-    ensures { result ≡ sealed_refusal ceiling demand (book_of prices.now quantities.now minimums.now ages.now) }
+// Whether the book is accepted. Checks: 18 for more than 16 offers, lists of unequal lengths or a field out of bounds, then 19 for an offered price
+// above the ceiling.
+pub fn check_sealed(ceiling: u64, demand: u64, book: Book) -> Result<(), Refusal>
+    ensures { number_in result ≡ sealed_refusal ceiling demand (book_in book.entry) }
 {
     if !is_up_to(TOP_PRICE, ceiling) {
-        return engine_refusals::SEALED_OUT_OF_BOUNDS;
+        return Err(Refusal::SealedOutOfBounds);
     }
     if MOST_DEMAND < demand {
-        return engine_refusals::SEALED_OUT_OF_BOUNDS;
+        return Err(Refusal::SealedOutOfBounds);
     }
-    if !book_ok(prices, quantities, minimums, ages) {
-        return engine_refusals::SEALED_OUT_OF_BOUNDS;
+    if !book_ok(book) {
+        return Err(Refusal::SealedOutOfBounds);
     }
-    if !within_ceiling(ceiling, prices) {
-        return engine_refusals::ABOVE_THE_CEILING;
+    if !within_ceiling(ceiling, book.prices) {
+        return Err(Refusal::AboveTheCeiling);
     }
-    0
+    Ok(())
 }

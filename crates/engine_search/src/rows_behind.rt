@@ -6,19 +6,17 @@ ghost use Rattle.engine_search.specs.rows_behind.ByNumber.{FewChoices, Numbers};
 
 use crate::ordering;
 
-// The numbers that a row of the search has: where its levels start and end in the table, and its stride;
-pub const START: usize = 0;
-
-pub const END: usize = 1;
-
-pub const STRIDE: usize = 2;
-
-// and of the rows behind it the number of choices, and the sums of their lows and of their highs.
-pub const WAYS: usize = 3;
-
-pub const LOWS: usize = 4;
-
-pub const HIGHS: usize = 5;
+// A row of the search: where its levels start and end in the table, and its stride; and of the rows behind it the number of choices, and the sums
+// of their lows and of their highs.
+#[derive(Clone, Copy, Default)]
+pub struct Row {
+    pub start: usize,
+    pub end: usize,
+    pub stride: u64,
+    pub ways: u64,
+    pub lows: u64,
+    pub highs: u64,
+}
 
 // The rows of the search, for each place of an order. From the last place up: each row adds its length, its first and its last level.
 pub fn look_behind(
@@ -26,25 +24,29 @@ pub fn look_behind(
     ends: &[usize; 32],
     order: &[usize; 32],
     strides: &[u64; 32],
-) -> [[u64; 6]; 32]
+) -> [Row; 32]
     requires { ValidTable levels.now ends.now × Orders levels.now ends.now order.now }
     ensures { Looks levels.now ends.now order.now strides.now result }
 {
-    let mut rows = [[0u64; 6]; 32];
-    let mut n: u64 = 1;
-    let mut low: u64 = 0;
-    let mut high: u64 = 0;
-    let mut i: usize = 32;
-    while 0 < i {
-        i -= 1;
+    let mut rows = [Row::default(); 32];
+    let mut ways: u64 = 1;
+    let mut lows: u64 = 0;
+    let mut highs: u64 = 0;
+    for i in (0..32).rev() {
         let k = order[i];
-        let at = ordering::start_of(ends, k);
+        let start = ordering::start_of(ends, k);
         let end = ends[k];
-        let row = [at as u64, end as u64, strides[k], n, low, high];
-        rows[i] = row;
-        n = n * ((end - at) as u64);
-        low += levels[at] as u64;
-        high += levels[end - 1] as u64;
+        rows[i] = Row {
+            start,
+            end,
+            stride: strides[k],
+            ways,
+            lows,
+            highs,
+        };
+        ways *= (end - start) as u64;
+        lows += u64::from(levels[start]);
+        highs += u64::from(levels[end - 1]);
     }
     rows
 }
@@ -56,13 +58,9 @@ pub fn strides_of(ends: &[usize; 32]) -> [u64; 32]
 {
     let mut strides = [0u64; 32];
     let mut n: u64 = 1;
-    let mut i: usize = 32;
-    while 0 < i {
-        i -= 1;
+    for i in (0..32).rev() {
         strides[i] = n;
-        let at = ordering::start_of(ends, i);
-        let end = ends[i];
-        n = n * ((end - at) as u64);
+        n *= (ends[i] - ordering::start_of(ends, i)) as u64;
     }
     strides
 }

@@ -8,7 +8,7 @@ ghost use Rattle.engine_search.specs.rows_behind.Behind.{Orders};
 ghost use Rattle.engine_search.specs.searching.Going.{offered, left, Passed, Ready};
 ghost use Rattle.engine_search.specs.searching.Searches.{Searchable, Searches};
 
-use crate::rows_behind::{END, HIGHS, LOWS, START, STRIDE, WAYS};
+use crate::rows_behind::Row;
 use crate::tally::Tally;
 use crate::{ordering, rows_behind, tally};
 
@@ -25,40 +25,38 @@ struct Place {
 // Depth first through the choices that are left: the row at the place from its level there on, and the rows behind it. Where the rows behind do not
 // make the level cover even at their highs, no choice with it does; where they make it cover at their lows, all do, and of these only the lows can be
 // kept, since the others are above them. Only between the two are they gone into, never behind the last row, where both sums are 0.
-fn explore(
-    levels: &[u32; 288],
-    rows: &[[u64; 6]; 32],
-    demand: u64,
-    place: Place,
-    found: Tally,
-) -> Tally
+fn explore(levels: &[u32; 288], rows: &[Row; 32], demand: u64, place: Place, found: Tally) -> Tally
     requires { Ready levels.now rows.now place found }
     ensures { result ≡ each_choice (offered demand) (left levels.now rows.now place.row place.at) place.base
         place.index found }
 {
-    let i = place.row;
-    let at = place.at;
-    let total = place.base + levels[at] as u64;
-    let low = total + rows[i][LOWS];
-    let high = total + rows[i][HIGHS];
+    let row = &rows[place.row];
+    let total = place.base + u64::from(levels[place.at]);
+    let low = total + row.lows;
+    let high = total + row.highs;
+    // assigned in each branch: as the value of an if it would be copied, which slows long searches by a quarter
     let mut passed = found;
     if demand <= high {
         if demand <= low {
-            passed = tally::with_more(found, rows[i][WAYS], low, place.index);
+            passed = tally::with_more(found, row.ways, low, place.index);
         } else {
-            let mut inside = place;
-            inside.row = i + 1;
-            inside.at = rows[i + 1][START] as usize;
-            inside.base = total;
+            let inside = Place {
+                row: place.row + 1,
+                at: rows[place.row + 1].start,
+                base: total,
+                ..place
+            };
             passed = explore(levels, rows, demand, inside, found);
         }
     }
-    if at + 1 == rows[i][END] as usize {
+    if place.at + 1 == row.end {
         return passed;
     }
-    let mut beside = place;
-    beside.at = at + 1;
-    beside.index = place.index + rows[i][STRIDE];
+    let beside = Place {
+        at: place.at + 1,
+        index: place.index + row.stride,
+        ..place
+    };
     explore(levels, rows, demand, beside, passed)
 }
 
@@ -75,22 +73,20 @@ fn past_single(levels: &[u32; 288], ends: &[usize; 32], order: &[usize; 32]) -> 
     ensures { Passed levels.now ends.now order.now result.place result.base }
 {
     let mut base: u64 = 0;
-    let mut place: usize = 0;
-    while place < 31 {
+    for place in 0..31 {
         let k = order[place];
         let at = ordering::start_of(ends, k);
         let end = ends[k];
         if at + 1 < end {
             return Start { place, base };
         }
-        base += levels[at] as u64;
-        place += 1;
+        base += u64::from(levels[at]);
     }
-    Start { place, base }
+    Start { place: 31, base }
 }
 
 // The total of nothing found: more than any choice's.
-const NO_TOTAL: u64 = 18_446_744_073_709_551_615;
+const NO_TOTAL: u64 = u64::MAX;
 
 // The search from nothing found on. The strides say how far two neighbouring levels of a row stand apart in the list of all choices.
 pub fn find<'a>(
@@ -111,12 +107,10 @@ pub fn find<'a>(
         index: 0,
     };
     let start = past_single(levels, ends, &order);
-    let row = start.place;
-    let base = start.base;
     let first = Place {
-        row,
-        at: ordering::start_of(ends, order[row]),
-        base,
+        row: start.place,
+        at: ordering::start_of(ends, order[start.place]),
+        base: start.base,
         index: 0,
     };
     explore(levels, &rows, demand, first, none)

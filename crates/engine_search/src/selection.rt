@@ -5,17 +5,16 @@ ghost use Rattle.rules_choices.specs.Choices.{choices};
 ghost use Rattle.rules_choices.specs.Numbered.{count};
 ghost use Rattle.engine_table.specs.table.Rows.{rows_in};
 ghost use Rattle.engine_search.specs.searching.Searches.{Searchable};
-ghost use Rattle.engine_search.specs.selection.Selection.{refused_selection, Selects};
+ghost use Rattle.engine_search.specs.selection.Selection.{selection_in, Selects};
 
 use crate::{ordering, rows_behind, searching};
+use engine_refusals::Refusal;
 use engine_table::counting;
 use engine_table::table::Table;
 
-// What settling a table comes to.
+// What settling a table comes to where there are no more choices than the limit.
 #[derive(Clone, Copy)]
 pub struct Selected {
-    // 0, or 10: more choices than the limit; 2: no table that holds 32 rows of open levels, which no auction reached by calls has.
-    pub number: u8,
     pub choices: u64,
     pub covering: u64,
     // the complete choices that the search does not set aside
@@ -24,45 +23,30 @@ pub struct Selected {
     pub award: [u32; 32],
 }
 
-impl Selected {
-    fn refused(number: u8) -> Selected
-        ensures { result ≡ refused_selection number }
-    {
-        Selected {
-            number,
-            choices: 0,
-            covering: 0,
-            kept: 0,
-            total: 0,
-            award: [0u32; 32],
-        }
-    }
-}
-
 // The numbers of choices, of covering ones and of kept ones, and the best one: least total, ties to the larger level at the first project where
-// they differ. The limit is capped by then.
-pub fn select(t: Table, demand: u64, limit: u64) -> Selected
+// they differ. The limit is capped by then. A table that does not hold 32 rows of open levels, which no auction reached by calls has, is refused as
+// not in this phase.
+pub fn select(t: Table, demand: u64, limit: u64) -> Result<Selected, Refusal>
     requires { limit ≤ 65536 }
-    ensures { Selects t demand limit result }
+    ensures { Selects t demand limit (selection_in result) }
 {
     if !counting::is_valid(&t.levels, &t.ends) {
-        return Selected::refused(engine_refusals::NOT_IN_THIS_PHASE);
+        return Err(Refusal::NotInThisPhase);
     }
     let counted = counting::count_choices(&t.ends, limit);
     if limit < counted {
-        return Selected::refused(engine_refusals::ABOVE_THE_LIMIT);
+        return Err(Refusal::AboveTheLimit);
     }
     let strides = rows_behind::strides_of(&t.ends);
     let found = searching::find(&t.levels, &t.ends, &strides, demand);
     let award = choice_at(&t.levels, &t.ends, &strides, found.index);
-    Selected {
-        number: 0,
+    Ok(Selected {
         choices: counted,
         covering: found.covering,
         kept: found.kept,
         total: found.total,
         award,
-    }
+    })
 }
 
 // The choice at a place among all of them, level by level: as many choices as the rows behind have stand together under one level. A place below
@@ -78,19 +62,15 @@ fn choice_at<'a>(
 {
     let mut award = [0u32; 32];
     let mut rank = index;
-    let mut i: usize = 0;
-    while i < 32 {
-        let n = counts[i];
+    for (i, &n) in counts.iter().enumerate() {
         let first = ordering::start_of(ends, i);
         if rank < n {
             award[i] = levels[first];
-            i += 1;
-            continue;
+        } else {
+            let level = (rank / n) as usize;
+            award[i] = levels[first + level];
+            rank %= n;
         }
-        let level = (rank / n) as usize;
-        award[i] = levels[first + level];
-        rank = rank % n;
-        i += 1;
     }
     award
 }

@@ -6,7 +6,7 @@ use mathlib.Core.List.{List, flatten}
 use native.Mathlib.Omega.{arith}
 use lib.Dec.{leb}
 use lib.ListN.{length, drop}
-use borrow.Author.Tests.{eq-eqb, ne_eqb, le-leb, lt-leb}
+use borrow.Author.Tests.{le-leb, lt-leb}
 use Rattle.rules_numbers.specs.Tails.{laid, length_laid, behind_laid}
 use Rattle.rules_choices.specs.Choices.{choices}
 use Rattle.rules_auction.specs.Ledger.{Ledger}
@@ -20,16 +20,16 @@ use Rattle.laws_ledger.specs.Sound.{Sound}
 use Rattle.laws_ledger.specs.clearing.ClosingPrice.{closed_started, closing_price_lem}
 use Rattle.laws_ledger.specs.reachable.Reachable.{sound}
 use Rattle.laws_ledger.specs.awards.AwardLaws.{some_cover}
+use Rattle.engine_checks.specs.clock.Reading.{phase_in}
 use Rattle.engine_auction.specs.Holds.{held_auction, Holding}
-use Rattle.engine_auction.specs.PhaseNumbers.{closed_is}
+use Rattle.engine_auction.specs.PhaseHeld.{phase_is}
 use Rattle.engine_auction.specs.declared.Auction.{Auction}
 use Rattle.engine_price.specs.clearing.Clears.{cleared_at, Clears}
 use Rattle.engine_price.specs.declared.clearing.Cleared.{Cleared}
 use Rattle.engine_table.specs.table.Rows.{HoldsRows}
 use Rattle.engine_table.specs.declared.table.Table.{Table}
 use Rattle.engine_table.specs.open_levels.Tabled.{Tabled}
-use Rattle.engine_search.specs.selection.Selection.{selected_as, chosen_from, refused_selection, Selects}
-use Rattle.engine_search.specs.declared.selection.Selected.{Selected}
+use Rattle.engine_search.specs.selection.Selection.{Selection, selected_as, chosen_from, refused_selection, Selects}
 use Rattle.engine_award.specs.awarding.Choosing.{standing_in}
 use Rattle.engine_award.specs.awarding.Awarding.{winners_from}
 use Rattle.engine_award.specs.awarding.AwardingLaws.{winners_back}
@@ -37,9 +37,26 @@ use Rattle.engine_award.specs.participation.Judged.{judged_in, grants_in, Pays}
 use Rattle.engine_award.specs.participation.JudgedLaws.{sufficient_back, grants_are}
 use Rattle.engine_award.specs.award_records.Records.{award_count, records_of}
 use Rattle.engine_award.specs.award_records.RecordLaws.{records_few, records_length}
-use Rattle.engine_settling.specs.Accepted.{accepted_with}
-use Rattle.engine_settling.specs.Settles.{Settles, refused_with, settled_as}
+use Rattle.engine_settling.specs.Settles.{Settled, Settles, refused_with, settled_as}
 use Rattle.engine_settling.proofs.Records.{records_are, records_from_count}
+
+-- the numbers of an accepted settling, from what its parts gave
+abbrev pub accepted_with : Cleared → Selection → Bool → ℕ → ℕ → Settled
+accepted_with c s insufficient paid records = record {
+  number = 0;
+  price = c.price;
+  demand = c.demand;
+  remainder = c.remainder;
+  total = s.total;
+  choices = s.choices;
+  covering = s.covering;
+  kept = s.kept;
+  second = c.second;
+  short = c.short;
+  insufficient = insufficient;
+  paid = paid;
+  records = records;
+}
 
 module _ (a : Auction) (limit : ℕ) (old : List ℕ) where
   refusal : (n : ℕ) → (n ≡ 0 → ⊥) → Holding a (λ l. n ≡ settling_refusal l limit (length old)) → Settles a limit old old (refused_with n)
@@ -51,31 +68,31 @@ module _ (a : Auction) (limit : ℕ) (old : List ℕ) where
     buffer = λ cs h e. absurd (z e);
   }
 
-  pub settle_phase : (a.phase ≡ 4 → ⊥) → Settles a limit old old (refused_with 2)
+  pub settle_phase : is_closed (phase_in a.clock.phase) ≡ false → Settles a limit old old (refused_with 2)
   unfolding settling_refusal
-  settle_phase z = refusal 2 (omega arith) (λ l s h. simp (closed_is a l h ∙ ne_eqb _ 4 z))
+  settle_phase z = refusal 2 (omega arith) (λ l s h. simp (ap is_closed (sym (phase_is a l h)) ∙ z))
 
 -- what the parts computed: the figures, the table of open levels and the selection from it
-pub record Computed (a : Auction) (limit : ℕ) (r : Cleared) (t : Table) (s : Selected) : Type 0 where
-  pub phase : a.phase ≡ 4
+pub record Computed (a : Auction) (limit : ℕ) (r : Cleared) (t : Table) (s : Selection) : Type 0 where
+  pub phase : is_closed (phase_in a.clock.phase) ≡ true
   pub clears : Clears a r
   pub tabled : Tabled a.projects a.declared r.lows r.highs t
   pub selects : Selects t r.demand (min limit 65536) s
 
 -- what it gave then: the developers of the awarded levels, the mark of participation and the price paid
-pub record Given (a : Auction) (r : Cleared) (s : Selected) (ns : List ℕ) (mark : Bool) (paid : ℕ) : Type 0 where
+pub record Given (a : Auction) (r : Cleared) (s : Selection) (ns : List ℕ) (mark : Bool) (paid : ℕ) : Type 0 where
   pub won : ns ≡ winners_from (standing_in a.projects a.studies a.days a.declared r.lows r.highs) 0 1 s.award
-  pub judged : mark ≡ not (sufficient (judged_in a.settings.d a.agents a.kinds r.highest) (grants_in s.award ns))
-  pub to_pay : Pays mark a.settings.ce r.price paid
+  pub judged : mark ≡ not (sufficient (judged_in a.clock.settings.d a.agents a.kinds r.highest) (grants_in s.award ns))
+  pub to_pay : Pays mark a.clock.settings.ce r.price paid
 
 -- what that is of the ledger
-pub record Known (l : Ledger) (limit : ℕ) (r : Cleared) (s : Selected) : Type 0 where
+pub record Known (l : Ledger) (limit : ℕ) (r : Cleared) (s : Selection) : Type 0 where
   pub closed : is_closed l.phase ≡ true
   pub figures : r ≡ cleared_at l (closing_price l)
   pub covers : covered l (closing_price l) ≡ true
   pub selected : s ≡ selected_as (min limit 65536) (demand_at l (closing_price l)) (rows l (closing_price l))
 
-pub known : (a : Auction) (limit : ℕ) (r : Cleared) (t : Table) (s : Selected) → Computed a limit r t s → Holding a (λ l. Known l limit r s)
+pub known : (a : Auction) (limit : ℕ) (r : Cleared) (t : Table) (s : Selection) → Computed a limit r t s → Holding a (λ l. Known l limit r s)
 unfolding held_auction covering_choices admissible
 known a limit r t s c l snd h = record {
   closed = closed;
@@ -85,7 +102,7 @@ known a limit r t s c l snd h = record {
 }
   where
     closed : is_closed l.phase ≡ true
-    closed = closed_is a l h ∙ eq-eqb a.phase 4 c.phase
+    closed = ap is_closed (sym (phase_is a l h)) ∙ c.phase
 
     figures : r ≡ cleared_at l (closing_price l)
     figures = c.clears.figures_are l snd h closed
@@ -100,27 +117,27 @@ known a limit r t s c l snd h = record {
 -- ---- the selection's two answers
 
 -- refused: by 10, and the choices outnumber the limit
-over_limit : (limit d : ℕ) (rs : List (List ℕ)) (s : Selected) → s ≡ selected_as (min limit 65536) d rs → (s.number ≡ 0 → ⊥) →
+over_limit : (limit d : ℕ) (rs : List (List ℕ)) (s : Selection) → s ≡ selected_as (min limit 65536) d rs → (s.number ≡ 0 → ⊥) →
     (s.number ≡ 10) × (leb (length (choices rs)) (min limit 65536) ≡ false)
 unfolding selected_as
 over_limit limit d rs s e z = go (leb (length (choices rs)) (min limit 65536)) refl e
   where
     go : (b : Bool) → leb (length (choices rs)) (min limit 65536) ≡ b → s ≡ cond b (chosen_from d rs) (refused_selection 10) → (s.number ≡ 10) × (b ≡ false)
-    go true f e = absurd (z (ap (λ (x : Selected). x.number) e))
-    go false f e = (ap (λ (x : Selected). x.number) e, refl)
+    go true f e = absurd (z (ap (λ (x : Selection). x.number) e))
+    go false f e = (ap (λ (x : Selection). x.number) e, refl)
 
-within_limit : (limit d : ℕ) (rs : List (List ℕ)) (s : Selected) → s ≡ selected_as (min limit 65536) d rs → s.number ≡ 0 →
+within_limit : (limit d : ℕ) (rs : List (List ℕ)) (s : Selection) → s ≡ selected_as (min limit 65536) d rs → s.number ≡ 0 →
     (s ≡ chosen_from d rs) × (leb (length (choices rs)) (min limit 65536) ≡ true)
 unfolding selected_as
 within_limit limit d rs s e z = go (leb (length (choices rs)) (min limit 65536)) refl e
   where
     go : (b : Bool) → leb (length (choices rs)) (min limit 65536) ≡ b → s ≡ cond b (chosen_from d rs) (refused_selection 10) → (s ≡ chosen_from d rs) × (b ≡ true)
     go true f e = (e, refl)
-    go false f e = absurd (let k : ◌≡◌ {A = ℕ} 10 0 = sym (ap (λ (x : Selected). x.number) e) ∙ z in omega arith)
+    go false f e = absurd (let k : ◌≡◌ {A = ℕ} 10 0 = sym (ap (λ (x : Selection). x.number) e) ∙ z in omega arith)
 
 -- ---- the returns
 
-module _ (a : Auction) (limit : ℕ) (r : Cleared) (t : Table) (s : Selected) (c : Computed a limit r t s) (old : List ℕ) where
+module _ (a : Auction) (limit : ℕ) (r : Cleared) (t : Table) (s : Selection) (c : Computed a limit r t s) (old : List ℕ) where
   pub settle_over : (s.number ≡ 0 → ⊥) → Settles a limit old old (refused_with s.number)
   unfolding settling_refusal admissible
   settle_over z = refusal a limit old s.number z (λ l snd h.
@@ -139,7 +156,7 @@ module _ (a : Auction) (limit : ℕ) (r : Cleared) (t : Table) (s : Selected) (c
 
       award_is : s.award ≡ award l (closing_price l)
       unfolding award covering_choices admissible
-      award_is = ap (λ (x : Selected). x.award) w.0
+      award_is = ap (λ (x : Selection). x.award) w.0
 
       records_are_n : length (records l (closing_price l)) ≡ n
       unfolding records
@@ -192,13 +209,13 @@ module _ (a : Auction) (limit : ℕ) (r : Cleared) (t : Table) (s : Selected) (c
           mark_is =
               g.judged
               ∙ ap₂ (λ (x : Auction) (y : Cleared). not
-              (sufficient (judged_in x.settings.d x.agents x.kinds y.highest) (grants_in s.award ns))) h figures
+              (sufficient (judged_in x.clock.settings.d x.agents x.kinds y.highest) (grants_in s.award ns))) h figures
               ∙ ap not (sufficient_back l snd (grants_in s.award ns) ∙ ap (sufficient l) granted)
 
           paid_is : paid ≡ price_paid l (closing_price l) (grants l (closing_price l))
           unfolding held_auction
           paid_is =
-              g.to_pay.paid l (grants l (closing_price l)) mark_is (ap (λ (x : Auction). x.settings.ce) h)
+              g.to_pay.paid l (grants l (closing_price l)) mark_is (ap (λ (x : Auction). x.clock.settings.ce) h)
               ∙ ap (λ (y : Cleared). price_paid l y.price (grants l (closing_price l))) figures
 
           settled_is : accepted_with r s mark paid n ≡ settled_as (settlement l)

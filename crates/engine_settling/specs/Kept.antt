@@ -5,8 +5,7 @@ use Rattle.rules_numbers.specs.Tails.{laid}
 use Rattle.rules_auction.specs.Ledger.{Ledger}
 use Rattle.rules_auction.specs.Refusals.{check}
 use Rattle.rules_auction.specs.Settling.{settlement, settling_refusal}
-use Rattle.engine_settling.specs.Settles.{settled_as}
-use Rattle.engine_settling.specs.declared.Settled.{Settled}
+use Rattle.engine_settling.specs.Settles.{Settled, settled_as}
 
 -- the number of another settling into as many bytes, by the choices that were counted: 10 or 0
 abbrev pub refusal_again : Settled → ℕ → ℕ

@@ -16,9 +16,8 @@ use Rattle.rules_auction.specs.Settling.{records, settlement_at, settlement, set
 use Rattle.laws_ledger.specs.reachable.Closed.{ledger_closed}
 use Rattle.engine_auction.specs.Holds.{held_auction}
 use Rattle.engine_auction.specs.declared.Auction.{Auction}
-use Rattle.engine_settling.specs.Settles.{Settles, settled_as}
+use Rattle.engine_settling.specs.Settles.{Settled, Settles, settled_as}
 use Rattle.engine_settling.specs.Kept.{refusal_again, Kept}
-use Rattle.engine_settling.specs.declared.Settled.{Settled}
 
 -- accepted for one limit
 module _ (l : Ledger) (limit room : ℕ) (taken : settling_refusal l limit room ≡ 0) where

@@ -1,4 +1,3 @@
-pub mod Accepted
 pub mod Settles
 pub mod Kept
 pub mod KeptLaws

@@ -1,13 +1,32 @@
 -- What settling ensures. `a` is the auction, `old` and `new` the lent buffer before and after, `r` the answer.
-use Rattle.std.specs.Prelude.{ℕ, ◌*◌, ◌≡◌, false, length, drop}
+use Rattle.std.specs.Prelude.{ℕ, ◌*◌, ◌≡◌, Bool, false, length, drop, Result, Ok, Err}
 use mathlib.Core.List.{List, flatten}
 use Rattle.rules_auction.specs.Ledger.{Call}
 use Rattle.rules_auction.specs.Rounds.{ledger}
-use Rattle.rules_auction.specs.Settling.{Settlement, settlement, settling_refusal}
+use Rattle.rules_auction.specs.Settling.{settlement, settling_refusal}
+use Rattle.rules_auction.specs.Settling as rules
 use Rattle.engine_auction.specs.Holds.{held_auction}
 use Rattle.engine_auction.specs.declared.Auction.{Auction}
+use Rattle.engine_refusals.specs.Numbers.{number_of}
+use Rattle.engine_refusals.specs.declared.Refusal.{Refusal}
 use Rattle.rules_numbers.specs.Tails.{laid}
-use Rattle.engine_settling.specs.declared.Settled.{Settled}
+use Rattle.engine_settling.specs.declared.Settlement.{Settlement}
+
+-- a settling's answer in numbers: 0 and its figures, or a refusal's number
+pub record Settled : Type 0 where
+  pub number : ℕ
+  pub price : ℕ
+  pub demand : ℕ
+  pub remainder : ℕ
+  pub total : ℕ
+  pub choices : ℕ
+  pub covering : ℕ
+  pub kept : ℕ
+  pub second : ℕ
+  pub short : Bool
+  pub insufficient : Bool
+  pub paid : ℕ
+  pub records : ℕ
 
 -- a refusal: its number, every other number 0
 abbrev pub refused_with : ℕ → Settled
@@ -28,8 +47,31 @@ refused_with n =
       records = 0;
     }
 
+-- the numbers of an accepted settling
+abbrev pub accepted_in : Settlement → Settled
+accepted_in s = record {
+  number = 0;
+  price = s.price;
+  demand = s.demand;
+  remainder = s.remainder;
+  total = s.total;
+  choices = s.choices;
+  covering = s.covering;
+  kept = s.kept;
+  second = s.second;
+  short = s.short;
+  insufficient = s.insufficient;
+  paid = s.paid;
+  records = s.records;
+}
+
+-- the numbers of an answer
+abbrev pub settled_in : Result Settlement Refusal → Settled
+settled_in (Ok s) = accepted_in s
+settled_in (Err e) = refused_with (number_of e)
+
 -- an acceptance, in the numbers of the settlement
-abbrev pub settled_as : Settlement → Settled
+abbrev pub settled_as : rules.Settlement → Settled
 settled_as s = record {
   number = 0;
   price = s.price;

@@ -13,14 +13,7 @@ fn row_is_valid(levels: &[u32; 288], at: usize, end: usize) -> bool
     requires { (length levels.now ≡ 288) × (at < end) × (end ≤ 288) }
     ensures { Tells result (ValidRow (part levels.now at end)) }
 {
-    let mut k = at;
-    while k + 1 < end {
-        if levels[k + 1] <= levels[k] {
-            return false;
-        }
-        k += 1;
-    }
-    levels[k] <= Levels::LARGEST
+    levels[at..end].is_sorted_by(|low, high| low < high) && levels[end - 1] <= Levels::LARGEST
 }
 
 // Whether the table holds 32 rows, none empty, each as above.
@@ -28,21 +21,12 @@ pub fn is_valid<'a>(levels: &'a [u32; 288], ends: &'a [usize; 32]) -> bool
     requires { Long levels.now ends.now }
     ensures { Tells result (ValidFrom levels.now 0 ends.now) }
 {
-    let mut at: usize = 0;
-    let mut i: usize = 0;
-    while i < 32 {
-        let end = ends[i];
-        if end <= at {
-            return false;
-        }
-        if Table::MOST < end {
-            return false;
-        }
-        if !row_is_valid(levels, at, end) {
+    let mut at = 0;
+    for &end in ends {
+        if end <= at || Table::MOST < end || !row_is_valid(levels, at, end) {
             return false;
         }
         at = end;
-        i += 1;
     }
     true
 }
@@ -52,17 +36,14 @@ pub fn count_choices(ends: &[usize; 32], limit: u64) -> u64
     requires { (length ends.now ≡ 32) × EndsRise 0 ends.now 288 × (limit ≤ 65536) }
     ensures { CountedTo limit ends.now result }
 {
-    let mut n: u64 = 1;
-    let mut at: usize = 0;
-    let mut i: usize = 0;
-    while i < 32 {
-        let end = ends[i];
-        n = n * ((end - at) as u64);
+    let mut n = 1;
+    let mut at = 0;
+    for &end in ends {
+        n *= (end - at) as u64;
         if limit < n {
             return n;
         }
         at = end;
-        i += 1;
     }
     n
 }

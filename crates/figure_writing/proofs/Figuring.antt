@@ -20,6 +20,7 @@ use Rattle.rules_seats.specs.figures.Figures.{state_figures, curve_figures, read
 use Rattle.rules_seats.specs.figures.FigureLaws.{curve_length}
 use Rattle.engine_held.specs.supply.ByProject.{supply_of}
 use Rattle.engine_held.specs.supply.ByProjectLaws.{supply_of_lem}
+use Rattle.engine_checks.specs.clock.Held.{phase_number}
 use Rattle.engine_curve.specs.highs_and_lows.Lows.{Highests}
 use Rattle.engine_curve.specs.kept_curve.Held.{held_curve}
 use Rattle.engine_curve.specs.kept_curve.HeldLaws.{curve_fits}
@@ -27,8 +28,7 @@ use Rattle.engine_auction.specs.Holds.{held_auction}
 use Rattle.engine_auction.specs.declared.Auction.{Auction}
 use Rattle.hall.specs.declared.seat_readings.Reading.{Reading}
 use Rattle.hall.specs.seat_readings.Shown.{shown_reading, hall_with, ReadsFrom}
-use Rattle.figure_writing.specs.declared.Counted.{Counted}
-use Rattle.figure_writing.specs.lent_numbers.Lent.{GivesFigures, Counts, counted_as}
+use Rattle.figure_writing.specs.lent_numbers.Lent.{Counted, GivesFigures, Counts, counted_as}
 use Rattle.figure_writing.specs.lent_numbers.LentLaws.{gives_same, counts_short, counts_all}
 use Rattle.figure_writing.specs.curve_points.Points.{points_from}
 use Rattle.figure_writing.specs.curve_points.PointLaws.{curve_points}
@@ -40,14 +40,14 @@ use Rattle.figure_writing.specs.Writes.{WritesState, WritesCurve, WritesReading}
 
 module _ (a : Auction) (e : ℤ) (closings bits : ℕ) (old new : List ℕ) (n : ℕ) where
   pub state_written :
-      bits ≡ twos_complement e → GivesFigures 0 (a.phase ∷ a.opening ∷ a.closing ∷ bits ∷ closings ∷ []) old new n → WritesState a e closings old new n
+      bits ≡ twos_complement e → GivesFigures 0 (phase_number a.clock.phase ∷ a.clock.opening ∷ a.clock.closing ∷ bits ∷ closings ∷ []) old new n → WritesState a e closings old new n
   unfolding state_figures held_auction
   state_written b f = record {
     same = gives_same f;
     state_is = λ h p q.
-        let phase = ap (λ (x : Auction). x.phase) p ∙ phase_figure_lem h.ledger.phase in
+        let phase = ap (λ (x : Auction). phase_number x.clock.phase) p ∙ phase_figure_lem h.ledger.phase in
         subst (λ (figures : List ℕ). GivesFigures 0 figures old new n)
-        (λ i. phase i ∷ (p i).opening ∷ (p i).closing ∷ (b ∙ ap twos_complement q) i ∷ closings ∷ []) f;
+        (λ i. phase i ∷ (p i).clock.opening ∷ (p i).clock.closing ∷ (b ∙ ap twos_complement q) i ∷ closings ∷ []) f;
   }
 
 -- ---- the supply curve

@@ -21,8 +21,7 @@ use Rattle.rules_seats.specs.figures.Figures.{figures_refusal, settlement_figure
 use Rattle.rules_seats.specs.figures.FigureLaws.{settling_clamped, awards_few}
 use Rattle.engine_auction.specs.Holds.{held_auction}
 use Rattle.engine_auction.specs.declared.Auction.{Auction}
-use Rattle.engine_settling.specs.Settles.{Settles}
-use Rattle.engine_settling.specs.declared.Settled.{Settled}
+use Rattle.engine_settling.specs.Settles.{Settled, Settles}
 use Rattle.figure_writing.specs.lent_numbers.LentLaws.{gives_refused, gives_short, gives_all}
 use Rattle.figure_writing.specs.settlement_figures.Settled.{settled_figures}
 use Rattle.figure_writing.specs.settlement_figures.SettledLaws.{settled_figures_lem}

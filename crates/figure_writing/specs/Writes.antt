@@ -11,8 +11,7 @@ use Rattle.rules_seats.specs.figures.Figures.{lent_after, state_figures, curve_f
 use Rattle.rules_seats.specs.figures.Figures.{settlement_refusal, reading_figures}
 use Rattle.engine_auction.specs.Holds.{held_auction}
 use Rattle.engine_auction.specs.declared.Auction.{Auction}
-use Rattle.figure_writing.specs.declared.Counted.{Counted}
-use Rattle.figure_writing.specs.lent_numbers.Lent.{GivesFigures, Counts}
+use Rattle.figure_writing.specs.lent_numbers.Lent.{Counted, GivesFigures, Counts}
 
 -- the state of every hall's ledger that is held
 pub record WritesState (a : Auction) (e : ℤ) (closings : ℕ) (old new : List ℕ) (n : ℕ) : Type 0 where

@@ -11,11 +11,7 @@ pub fn put_points(words: [u64; 256], count: usize, first: u64, points: &mut [u64
     ensures { points.new ≡ laid (points_from first (take count words)) points.old }
 {
     let mut before = first;
-    for i in 0..SupplyCurve::MOST {
-        if count <= i {
-            return;
-        }
-        let word = words[i];
+    for (i, word) in words[..count.min(SupplyCurve::MOST)].iter().enumerate() {
         let after = word % SupplyCurve::PRICE;
         points[3 * i] = word / SupplyCurve::PRICE;
         points[3 * i + 1] = before;

@@ -1,14 +1,13 @@
 // What a seat reads, written as numbers (document 02, 14): the published values and, of a developer, its declared levels and its standing offer.
 ghost use Rattle.std.specs.Prelude.{◌≡◌, ◌+◌, ◌*◌, ◌≤◌, length, take};
 ghost use Rattle.rules_numbers.specs.Tails.{laid};
-ghost use Rattle.figure_writing.specs.lent_numbers.Lent.{laid_behind, Counts};
-ghost use Rattle.figure_writing.specs.reading_figures.Read.{published_in, level_figures, steps_in, offer_figures_in, own_figures, own_in};
+ghost use Rattle.figure_writing.specs.lent_numbers.Lent.{laid_behind, Counts, counted_in};
+ghost use Rattle.figure_writing.specs.reading_figures.Read.{published_in, level_figures, steps_in, offer_figures_in, steps_of, own_figures, own_in};
 
-use crate::{Counted, lent_numbers};
 use engine_held::history::History;
 use engine_held::levels::Levels;
+use engine_refusals::Refusal;
 use hall::seat_readings::{Reading, StandingOffer};
-use reply_writing::reply_sizes;
 
 // Opening, closing, excess, phase.
 fn put_published(figures: &mut [u64], shown: Reading)
@@ -16,22 +15,20 @@ fn put_published(figures: &mut [u64], shown: Reading)
     ensures { figures.new ≡ laid (published_in shown) figures.old }
 {
     let own = [
-        shown.opening as u64,
-        shown.closing as u64,
+        u64::from(shown.opening),
+        u64::from(shown.closing),
         reply_values::bits_of(shown.excess),
-        shown.phase as u64,
+        u64::from(u8::from(shown.phase)),
     ];
-    lent_numbers::copy_numbers(&own, figures);
+    figures[..4].copy_from_slice(&own);
 }
 
 fn put_values(figures: &mut [u64], at: usize, values: [u32; 8], count: usize)
     requires { (count ≤ 8) × (at + count ≤ length figures.old) }
     ensures { figures.new ≡ laid_behind at (take count values) figures.old }
 {
-    let mut i: usize = 0;
-    while i < count {
-        figures[at + i] = values[i] as u64;
-        i += 1;
+    for (i, value) in values[..count].iter().enumerate() {
+        figures[at + i] = u64::from(*value);
     }
 }
 
@@ -49,24 +46,38 @@ fn put_steps(figures: &mut [u64], at: usize, prices: [u32; 8], levels: [u32; 8],
     requires { (count ≤ 8) × (at + 2 * count ≤ length figures.old) }
     ensures { figures.new ≡ laid_behind at (steps_in (take count prices) (take count levels)) figures.old }
 {
-    let mut i: usize = 0;
-    while i < count {
+    for i in 0..count {
         figures[at + 2 * i] = prices[i] as u64;
         figures[at + 2 * i + 1] = levels[i] as u64;
-        i += 1;
     }
 }
 
 // 0 no offer or 1, the number of steps, and the steps.
-fn put_offer(figures: &mut [u64], at: usize, offer: StandingOffer, count: usize)
+fn put_offer(figures: &mut [u64], at: usize, offer: Option<StandingOffer>, count: usize)
     requires { (count ≤ 8) × (at + 2 + 2 * count ≤ length figures.old) }
     ensures { figures.new ≡ laid_behind at (offer_figures_in offer count) figures.old }
 {
-    let prices = offer.prices;
-    let levels = offer.levels;
-    figures[at] = reply_values::mark(offer.made);
-    figures[at + 1] = count as u64;
-    put_steps(figures, at + 2, prices, levels, count);
+    match offer {
+        None => {
+            figures[at] = 0;
+            figures[at + 1] = 0;
+        }
+        Some(offer) => {
+            figures[at] = 1;
+            figures[at + 1] = count as u64;
+            put_steps(figures, at + 2, offer.prices, offer.levels, count);
+        }
+    }
+}
+
+// How many steps are written of an offer; its numbers are two, and two a step.
+fn step_count(offer: Option<StandingOffer>) -> usize
+    ensures { (result ≡ steps_of offer) × (result ≤ 8) × (length (offer_figures_in offer result) ≡ 2 + 2 * result) }
+{
+    match offer {
+        None => 0,
+        Some(offer) => offer.count.min(History::MOST),
+    }
 }
 
 // All that a developer reads: so many levels and steps.
@@ -74,37 +85,32 @@ fn put_own(figures: &mut [u64], shown: Reading, levels: usize, steps: usize)
     requires { (levels ≤ 8) × (steps ≤ 8) × (7 + levels + 2 * steps ≤ length figures.old) }
     ensures { figures.new ≡ laid (own_figures shown levels steps) figures.old }
 {
-    let declared = shown.levels;
-    let values = declared.values;
-    let offer = shown.offer;
     put_published(figures, shown);
-    put_levels(figures, 4, values, levels);
-    put_offer(figures, 5 + levels, offer, steps);
+    put_levels(figures, 4, shown.levels.values, levels);
+    put_offer(figures, 5 + levels, shown.offer, steps);
 }
 
-// What the auctioneer and the auditor read, if it fits: 0, or 11.
-pub fn published_alone(shown: Reading, figures: &mut [u64]) -> Counted
-    ensures { Counts 4 (published_in shown) figures.old figures.new result }
+// What the auctioneer and the auditor read, if it fits. Counts the numbers. Checks: 11.
+pub fn published_alone(shown: Reading, figures: &mut [u64]) -> Result<u64, Refusal>
+    ensures { Counts 4 (published_in shown) figures.old figures.new (counted_in result) }
 {
     if figures.len() < 4 {
-        return lent_numbers::too_short();
+        return Err(Refusal::BufferTooShort);
     }
     put_published(figures, shown);
-    lent_numbers::counted(4)
+    Ok(4)
 }
 
 // What a developer reads, likewise.
-pub fn of_developer(shown: Reading, figures: &mut [u64]) -> Counted
-    ensures { Counts (length (own_in shown)) (own_in shown) figures.old figures.new result }
+pub fn of_developer(shown: Reading, figures: &mut [u64]) -> Result<u64, Refusal>
+    ensures { Counts (length (own_in shown)) (own_in shown) figures.old figures.new (counted_in result) }
 {
-    let declared = shown.levels;
-    let offer = shown.offer;
-    let levels = reply_sizes::least(declared.count, Levels::MOST);
-    let steps = reply_sizes::least(offer.count, History::MOST);
+    let levels = shown.levels.count.min(Levels::MOST);
+    let steps = step_count(shown.offer);
     let count = 7 + levels + 2 * steps;
     if figures.len() < count {
-        return lent_numbers::too_short();
+        return Err(Refusal::BufferTooShort);
     }
     put_own(figures, shown, levels, steps);
-    lent_numbers::counted(count)
+    Ok(count as u64)
 }

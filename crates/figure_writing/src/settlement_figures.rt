@@ -1,9 +1,10 @@
-// A settling's answer as numbers, and its limit of 64 bits.
+// An accepted settling as numbers, and its limit of 64 bits.
 ghost use Rattle.std.specs.Prelude.{◌≡◌, min};
+ghost use Rattle.engine_settling.specs.Settles.{accepted_in};
 ghost use Rattle.figure_writing.specs.settlement_figures.Settled.{settled_figures};
 
 use engine_auction::Auction;
-use engine_settling::Settled;
+use engine_settling::Settlement;
 
 // How many numbers a settlement has.
 pub const COUNT: usize = 12;
@@ -12,14 +13,11 @@ pub const COUNT: usize = 12;
 pub fn capped(limit: u64) -> u32
     ensures { result ≡ min limit 65536 }
 {
-    if (Auction::CHOICE_LIMIT as u64) < limit {
-        return Auction::CHOICE_LIMIT;
-    }
-    limit as u32
+    limit.min(u64::from(Auction::CHOICE_LIMIT)) as u32
 }
 
-pub fn numbers_of(settled: Settled) -> [u64; COUNT]
-    ensures { result ≡ settled_figures settled }
+pub fn numbers_of(settled: Settlement) -> [u64; COUNT]
+    ensures { result ≡ settled_figures (accepted_in settled) }
 {
     [
         settled.price as u64,

@@ -3,19 +3,11 @@ ghost use Rattle.std.specs.Prelude.{◌≡◌, ◌+◌, ◌≤◌, length, take,
 ghost use Rattle.rules_format.specs.Hex.{is_hex, all_hex, value_of, hex_number};
 
 // Whether a byte is one of 0-9 and A-F.
+#[tactic(auto, unfolding(rules_format::specs::Hex::is_hex))]
 fn is_hex(c: u8) -> bool
     ensures { result ≡ is_hex c }
 {
-    if c < 48 {
-        return false;
-    }
-    if c <= 57 {
-        return true;
-    }
-    if c < 65 {
-        return false;
-    }
-    c <= 70
+    matches!(c, b'0'..=b'9' | b'A'..=b'F')
 }
 
 // Whether all bytes are. No branch ends it early: so several bytes are tested at once.
@@ -23,10 +15,8 @@ pub fn all_hex(line: &[u8]) -> bool
     ensures { result ≡ all_hex line.now }
 {
     let mut all = true;
-    let mut i: usize = 0;
-    while i < line.len() {
-        all = all & is_hex(line[i]);
-        i += 1;
+    for c in line {
+        all &= is_hex(*c);
     }
     all
 }
@@ -35,11 +25,11 @@ pub fn all_hex(line: &[u8]) -> bool
 pub fn value_of(c: u8) -> u64
     ensures { result ≡ value_of c }
 {
-    if c < 48 {
+    if c < b'0' {
         return 0;
     }
-    let letter = (57 < c) as u64;
-    (c as u64 + 9 * letter) % 16
+    let letter = u64::from(b'9' < c);
+    (u64::from(c) + 9 * letter) % 16
 }
 
 // The number that at most 16 digits stand for.
@@ -47,11 +37,9 @@ fn number_of(digits: &[u8]) -> u64
     requires { length digits.now ≤ 16 }
     ensures { result ≡ hex_number digits.now }
 {
-    let mut n: u64 = 0;
-    let mut i: usize = 0;
-    while i < digits.len() {
-        n = n * 16 + value_of(digits[i]);
-        i += 1;
+    let mut n = 0;
+    for c in digits {
+        n = n * 16 + value_of(*c);
     }
     n
 }

@@ -1,7 +1,7 @@
 // The table of field widths by frame kind (document 01, Frames), which reader and writer use, and the shape of a kind's fields.
 ghost use Rattle.std.specs.Prelude.{◌≡◌, ◌≤◌, length};
 ghost use Rattle.rules_format.specs.Fields.{fixed, repeats};
-ghost use Rattle.frame_bytes.specs.field_table.Shapes.{Tabled, Shaped};
+ghost use Rattle.frame_bytes.specs.field_table.Shapes.{TableHas, Tabled, Shaped};
 
 // THE TABLE, indexed by kind: the widths of its fixed fields, which a 0 ends. There is no kind 0.
 const WIDTHS: [[u8; 8]; 10] = [
@@ -26,7 +26,7 @@ pub const LISTED: usize = 8;
 // The most characters of a line.
 pub const LONGEST_LINE: usize = 160;
 
-// What the table has of a kind; where it has none, the kind is 0, and there are no fields.
+// What the table has of a kind.
 #[derive(Clone, Copy)]
 pub struct Row {
     pub kind: usize,
@@ -34,22 +34,17 @@ pub struct Row {
     pub each: usize,
 }
 
-pub fn row_of(kind: usize) -> Row
-    ensures { Tabled kind result }
+pub fn row_of(kind: usize) -> Option<Row>
+    ensures { TableHas kind result }
 {
-    if WIDTHS.len() <= kind {
-        return Row {
-            kind: 0,
-            widths: [0; 8],
-            each: 0,
-        };
+    if kind == 0 || WIDTHS.len() <= kind {
+        return None;
     }
-    let widths = WIDTHS[kind];
-    Row {
-        kind: kind,
-        widths: widths,
-        each: EACH[kind] as usize,
-    }
+    Some(Row {
+        kind,
+        widths: WIDTHS[kind],
+        each: usize::from(EACH[kind]),
+    })
 }
 
 // How many fixed fields a row has, how many digits they have in all, and the widths of 32 fields: those of the fixed ones, then `LISTED` to the end.
@@ -64,20 +59,23 @@ pub fn shape_of(row: Row) -> Shape
     requires { Tabled row.kind row }
     ensures { Shaped row.kind result }
 {
-    let fixed = row.widths;
-    let mut widths: [usize; 32] = [LISTED; 32];
-    let mut count: usize = 0;
-    let mut span: usize = 0;
-    while fixed[count] != 0 {
-        let w = fixed[count] as usize;
-        widths[count] = w;
-        span += w;
-        count += 1;
+    let mut widths = [LISTED; 32];
+    let mut span = 0;
+    for (i, width) in row.widths.iter().enumerate() {
+        if *width == 0 {
+            return Shape {
+                fixed: i,
+                span,
+                widths,
+            };
+        }
+        widths[i] = usize::from(*width);
+        span += usize::from(*width);
     }
     Shape {
-        fixed: count,
-        span: span,
-        widths: widths,
+        fixed: row.widths.len(),
+        span,
+        widths,
     }
 }
 
@@ -89,6 +87,5 @@ pub fn repeated(row: Row, n: usize, fields: &[u64]) -> usize
     if row.each == 0 {
         return 0;
     }
-    let last = n - 1;
-    row.each * fields[last] as usize
+    row.each * fields[n - 1] as usize
 }

@@ -7,24 +7,16 @@ ghost use Rattle.rules_format.specs.Lines.{run, line_start, line_end};
 fn run_of(bytes: &[u8]) -> usize
     ensures { (result ≡ run bytes.now) × (result ≤ length bytes.now) }
 {
-    let mut n: usize = 0;
-    while n < bytes.len() {
-        if bytes[n] == 10 {
-            return n;
-        }
-        n += 1;
-    }
-    n
+    bytes
+        .iter()
+        .position(|c| *c == b'\n')
+        .unwrap_or(bytes.len())
 }
 
 // The next line of a record, as that part of it, without its 0A; at its end or past it the empty part there.
 pub fn next_line(bytes: &[u8], at: usize) -> &[u8]
     ensures { result.now ≡ part bytes.now (line_start bytes.now at) (line_end bytes.now at) }
 {
-    let len = bytes.len();
-    if len <= at {
-        return &bytes[len..];
-    }
-    let n = run_of(&bytes[at..]);
-    &bytes[at..at + n]
+    let rest = &bytes[at.min(bytes.len())..];
+    &rest[..run_of(rest)]
 }

@@ -4,17 +4,23 @@ ghost use Rattle.frame_reading.specs.arguments.FrameFields.{fields_in, every, St
 
 use crate::frames::Frame;
 
+// The field at place j of the first `count` ones, 0 where there is none. The fields are lent: a frame would be copied for each of a column.
+fn field_at(fields: &[u64], count: usize, j: usize) -> u64
+    ensures { result ≡ get_or (take count fields.now) j 0 }
+{
+    if j < count && j < fields.len() {
+        fields[j]
+    } else {
+        0
+    }
+}
+
 // The field at place j, 0 where the frame has none.
+#[tactic(auto, unfolding(crate::specs::arguments::FrameFields::fields_in))]
 pub fn field(frame: Frame, j: usize) -> u64
     ensures { result ≡ get_or (fields_in frame) j 0 }
 {
-    if frame.count <= j {
-        return 0;
-    }
-    if 32 <= j {
-        return 0;
-    }
-    frame.fields[j]
+    field_at(&frame.fields, frame.count, j)
 }
 
 // A field of two digits.
@@ -33,30 +39,14 @@ pub fn word(frame: Frame, j: usize) -> u32
     field(frame, j) as u32
 }
 
-// The field of eight digits at place j of the first `count` ones, 0 where there is none.
-fn word_at(fields: &[u64; 32], count: usize, j: usize) -> u32
-    requires { (length fields.now ≡ 32) × (get_or (take count fields.now) j 0 < 2 ^ 32) }
-    ensures { result ≡ get_or (take count fields.now) j 0 }
-{
-    if count <= j {
-        return 0;
-    }
-    if 32 <= j {
-        return 0;
-    }
-    fields[j] as u32
-}
-
-// The n fields of eight digits from place `from` on, so far apart. The fields are lent: a frame would be copied for each of them.
+// The n fields of eight digits from place `from` on, so far apart.
 fn column(fields: &[u64; 32], count: usize, from: usize, apart: usize, n: usize) -> [u32; 16]
     requires { (length fields.now ≡ 32) × (from ≤ 8) × (apart ≤ 2) × (n ≤ 16) × ((i : ℕ) → get_or (take count fields.now) (from + apart * i) 0 < 2 ^ 32) }
     ensures { (take n result ≡ every from apart n (take count fields.now)) × (length result ≡ 16) }
 {
-    let mut values: [u32; 16] = [0; 16];
-    let mut i: usize = 0;
-    while i < n {
-        values[i] = word_at(fields, count, from + apart * i);
-        i += 1;
+    let mut values = [0; 16];
+    for i in 0..n {
+        values[i] = field_at(fields, count, from + apart * i) as u32;
     }
     values
 }

@@ -35,32 +35,34 @@ fn malformed() -> Frame
     }
 }
 
-// How far the fixed fields of a line reach: how many there are and where they end; the end is 0 where the line is too short for them.
+// How far the fixed fields of a line reach: how many there are and where they end.
 #[derive(Clone, Copy)]
 struct FixedFields {
     count: usize,
     end: usize,
 }
 
-// The fixed fields of a line, read by the row of its kind, at the start of the lent array.
-fn read_fixed(line: &[u8], row: Row, fields: &mut [u64; 32]) -> FixedFields
+// The fixed fields of a line, read by the row of its kind, at the start of the lent array; nothing where the line is too short for them.
+fn read_fixed(line: &[u8], row: Row, fields: &mut [u64; 32]) -> Option<FixedFields>
     requires { Tabled row.kind row × (2 ≤ length line.now) × (length fields.old ≡ 32) }
     ensures { ReadsFixed row.kind line.now fields.new result }
 {
-    let len = line.len();
-    let widths = row.widths;
-    let mut at: usize = 2;
-    let mut n: usize = 0;
-    while widths[n] != 0 {
-        let w = widths[n] as usize;
-        if len - at < w {
-            return FixedFields { count: n, end: 0 };
+    let mut at = 2;
+    for (n, width) in row.widths.iter().enumerate() {
+        let width = usize::from(*width);
+        if width == 0 {
+            return Some(FixedFields { count: n, end: at });
         }
-        fields[n] = field_reading::field(line, at, w);
-        at += w;
-        n += 1;
+        if line.len() - at < width {
+            return None;
+        }
+        fields[n] = field_reading::field(line, at, width);
+        at += width;
     }
-    FixedFields { count: n, end: at }
+    Some(FixedFields {
+        count: row.widths.len(),
+        end: at,
+    })
 }
 
 // The fields from place `start` of a line on, so many more, behind the first ones of the lent array.
@@ -69,13 +71,10 @@ fn read_listed(line: &[u8], start: usize, first: usize, more: usize, fields: &mu
     ensures { take (first + more) fields.new ≡ take first fields.old
         ++ fields_at (replicate more listed) (drop start line.now) }
 {
-    let end = first + more;
     let mut at = start;
-    let mut n = first;
-    while n < end {
+    for n in first..first + more {
         fields[n] = field_reading::field(line, at, LISTED);
         at += LISTED;
-        n += 1;
     }
 }
 
@@ -84,35 +83,25 @@ pub fn decode(line: &[u8]) -> Frame
     ensures { (call_in result ≡ read line.now) × (result.kind ≡ 0 → Zero result) }
 {
     let len = line.len();
-    if LONGEST_LINE < len {
+    if len < 2 || LONGEST_LINE < len || !field_reading::all_hex(line) {
         return malformed();
     }
-    if len < 2 {
+    let Some(row) = field_table::row_of(field_reading::field(line, 0, 2) as usize) else {
         return malformed();
-    }
-    if !field_reading::all_hex(line) {
-        return malformed();
-    }
-    let row = field_table::row_of(field_reading::field(line, 0, 2) as usize);
-    if row.kind == 0 {
-        return malformed();
-    }
+    };
     let mut fields = no_fields();
-    let reach = read_fixed(line, row, &mut fields);
-    let n = reach.count;
-    let at = reach.end;
-    if at == 0 {
+    let Some(fixed) = read_fixed(line, row, &mut fields) else {
+        return malformed();
+    };
+    let more = field_table::repeated(row, fixed.count, &fields);
+    if len != fixed.end + LISTED * more {
         return malformed();
     }
-    let more = field_table::repeated(row, n, &fields);
-    if len != at + LISTED * more {
-        return malformed();
-    }
-    read_listed(line, at, n, more, &mut fields);
+    read_listed(line, fixed.end, fixed.count, more, &mut fields);
     Frame {
         kind: row.kind,
-        count: n + more,
-        fields: fields,
+        count: fixed.count + more,
+        fields,
     }
 }
 
@@ -132,19 +121,12 @@ pub fn kind_in(line: &[u8]) -> usize
     ensures { result ≡ kind_in line.now }
 {
     let size = line.len();
-    if LONGEST_LINE < size {
+    if size < 2 || LONGEST_LINE < size || !field_reading::all_hex(line) {
         return 0;
     }
-    if size < 2 {
+    let Some(row) = field_table::row_of(field_reading::field(line, 0, 2) as usize) else {
         return 0;
-    }
-    if !field_reading::all_hex(line) {
-        return 0;
-    }
-    let row = field_table::row_of(field_reading::field(line, 0, 2) as usize);
-    if row.kind == 0 {
-        return 0;
-    }
+    };
     let span = field_table::shape_of(row).span;
     if size < 2 + span {
         return 0;

@@ -12,10 +12,8 @@ fn fits_width(value: u64, width: usize) -> bool
     ensures { result ≡ ltb value (16 ^ width) }
 {
     let mut left = value;
-    let mut i: usize = 0;
-    while i < width {
-        left = left / 16;
-        i += 1;
+    for _ in 0..width {
+        left /= 16;
     }
     left == 0
 }
@@ -25,43 +23,33 @@ fn fields_fit(widths: &[usize], fields: &[u64]) -> bool
     requires { length widths.now ≡ length fields.now }
     ensures { result ≡ fit widths.now fields.now }
 {
-    let mut j: usize = 0;
-    while j < fields.len() {
-        if !fits_width(fields[j], widths[j]) {
-            return false;
-        }
-        j += 1;
-    }
-    true
+    widths
+        .iter()
+        .zip(fields)
+        .all(|(width, field)| fits_width(*field, *width))
 }
 
-// How many bytes the frame of a call has; 0 where the call is not writable. A line that is not too long has at most 32 fields.
-pub fn frame_size(kind: usize, fields: &[u64]) -> usize
+// How many bytes the frame of a call has; none where the call is not writable. A line that is not too long has at most 32 fields.
+pub fn frame_size(kind: usize, fields: &[u64]) -> Option<usize>
     ensures { result ≡ frame_size (raw_call kind fields.now) }
 {
-    let row = field_table::row_of(kind);
-    if row.kind == 0 {
-        return 0;
-    }
+    let row = field_table::row_of(kind)?;
     let shape = field_table::shape_of(row);
     let n = fields.len();
-    if 32 < n {
-        return 0;
+    if n < shape.fixed || 32 < n {
+        return None;
     }
-    if n < shape.fixed {
-        return 0;
-    }
-    let widths = shape.widths;
-    if !fields_fit(&widths[..n], fields) {
-        return 0;
+    let widths = &shape.widths[..n];
+    if !fields_fit(widths, fields) {
+        return None;
     }
     let more = field_table::repeated(row, shape.fixed, fields);
     if n != shape.fixed + more {
-        return 0;
+        return None;
     }
     let length = 2 + shape.span + LISTED * more;
     if LONGEST_LINE < length {
-        return 0;
+        return None;
     }
-    length + 1
+    Some(length + 1)
 }

@@ -8,9 +8,10 @@ ghost use Rattle.rules_auction.specs.Ledger.{Open, By, Offer, Lodge, Cancel};
 ghost use Rattle.rules_seats.specs.Seats.{fresh_hall};
 ghost use Rattle.seats.specs.Rights.{seat_in};
 ghost use Rattle.engine_auction.specs.Called.{sets_up, registers, registers_for};
-ghost use Rattle.hall.specs.Through.{held_hall, AnswersThrough, ClosesThrough, barred_answer, answered_with};
+ghost use Rattle.hall.specs.Through.{held_hall, AnswersThrough, ClosesThrough, with_auction};
 
-use engine_auction::{Answer, Auction};
+use engine_auction::Auction;
+use engine_refusals::Refusal;
 use seats::Seat;
 
 pub mod hall_readings;
@@ -22,26 +23,15 @@ pub struct Hall {
     pub excess: i64,
 }
 
-// The answer of a call: 0 or a refusal's number, and the next hall.
-#[derive(Clone, Copy)]
-pub struct HallAnswer {
-    pub number: u8,
-    pub hall: Hall,
-}
-
-// The same with the excess of a closing, and the remainder of Dem(C).
+// What an accepted closing answers: the excess at C, the remainder of Dem(C), and the next hall.
 #[derive(Clone, Copy)]
 pub struct HallClosing {
-    pub number: u8,
     pub excess: i64,
     pub remainder: u32,
     pub hall: Hall,
 }
 
 impl Hall {
-    // A call that the seat has no right to make.
-    pub const NO_RIGHT: u8 = engine_refusals::NO_RIGHT;
-
     // A fresh auction, no round closed yet.
     pub fn new() -> Hall
         ensures { result ≡ held_hall fresh_hall }
@@ -52,38 +42,22 @@ impl Hall {
         }
     }
 
-    fn barred(self) -> HallAnswer
-        ensures { result ≡ barred_answer self }
-    {
-        HallAnswer {
-            number: Hall::NO_RIGHT,
-            hall: self,
-        }
-    }
-
-    // What the auction answered.
-    fn answered(self, answer: Answer) -> HallAnswer
-        ensures { result ≡ answered_with self answer }
-    {
-        let auction = answer.auction;
-        let hall = Hall {
-            auction: auction,
-            excess: self.excess,
-        };
-        HallAnswer {
-            number: answer.number,
-            hall: hall,
-        }
-    }
-
-    pub fn set_up(self, seat: Seat, ce: u64, d: u64, m1: u64, m2: u64, a: u64) -> HallAnswer
+    pub fn set_up(
+        self,
+        seat: Seat,
+        ce: u64,
+        d: u64,
+        m1: u64,
+        m2: u64,
+        a: u64,
+    ) -> Result<Hall, Refusal>
         ensures { AnswersThrough (seat_in seat) (sets_up ce d m1 m2 a) self result }
     {
         if !seats::conducts(seat) {
-            return self.barred();
+            return Err(Refusal::NoRight);
         }
-        let auction = self.auction;
-        self.answered(auction.set_up(ce, d, m1, m2, a))
+        let auction = self.auction.set_up(ce, d, m1, m2, a)?;
+        Ok(self.with_auction(auction))
     }
 
     pub fn register(
@@ -95,14 +69,16 @@ impl Hall {
         study: u32,
         day: u32,
         levels: &[u32],
-    ) -> HallAnswer
+    ) -> Result<Hall, Refusal>
         ensures { AnswersThrough (seat_in seat) (registers project developer kind study day levels.now) self result }
     {
         if !seats::conducts(seat) {
-            return self.barred();
+            return Err(Refusal::NoRight);
         }
-        let auction = self.auction;
-        self.answered(auction.register(project, developer, kind, study, day, levels))
+        let auction = self
+            .auction
+            .register(project, developer, kind, study, day, levels)?;
+        Ok(self.with_auction(auction))
     }
 
     pub fn register_for(
@@ -115,80 +91,93 @@ impl Hall {
         study: u32,
         day: u32,
         levels: &[u32],
-    ) -> HallAnswer
+    ) -> Result<Hall, Refusal>
         ensures { AnswersThrough (seat_in seat) (registers_for project developer kind agent study day levels.now) self result }
     {
         if !seats::conducts(seat) {
-            return self.barred();
+            return Err(Refusal::NoRight);
         }
-        let auction = self.auction;
-        self.answered(auction.register_for(project, developer, kind, agent, study, day, levels))
+        let auction = self
+            .auction
+            .register_for(project, developer, kind, agent, study, day, levels)?;
+        Ok(self.with_auction(auction))
     }
 
-    pub fn lodge(self, seat: Seat, developer: u8, prices: &[u32], levels: &[u32]) -> HallAnswer
+    pub fn lodge(
+        self,
+        seat: Seat,
+        developer: u8,
+        prices: &[u32],
+        levels: &[u32],
+    ) -> Result<Hall, Refusal>
         ensures { AnswersThrough (seat_in seat) (By developer (Lodge prices.now levels.now)) self result }
     {
         if !seats::conducts(seat) {
-            return self.barred();
+            return Err(Refusal::NoRight);
         }
-        let auction = self.auction;
-        self.answered(auction.lodge(developer, prices, levels))
+        let auction = self.auction.lodge(developer, prices, levels)?;
+        Ok(self.with_auction(auction))
     }
 
-    pub fn open(self, seat: Seat, c: u32) -> HallAnswer
+    pub fn open(self, seat: Seat, c: u32) -> Result<Hall, Refusal>
         ensures { AnswersThrough (seat_in seat) (Open c) self result }
     {
         if !seats::conducts(seat) {
-            return self.barred();
+            return Err(Refusal::NoRight);
         }
-        let auction = self.auction;
-        self.answered(auction.open(c))
+        let auction = self.auction.open(c)?;
+        Ok(self.with_auction(auction))
     }
 
-    pub fn offer(self, seat: Seat, developer: u8, prices: &[u32], levels: &[u32]) -> HallAnswer
+    pub fn offer(
+        self,
+        seat: Seat,
+        developer: u8,
+        prices: &[u32],
+        levels: &[u32],
+    ) -> Result<Hall, Refusal>
         ensures { AnswersThrough (seat_in seat) (By developer (Offer prices.now levels.now)) self result }
     {
-        if !seats::offers_for(seat, developer as u64) {
-            return self.barred();
+        if !seats::offers_for(seat, u64::from(developer)) {
+            return Err(Refusal::NoRight);
         }
-        let auction = self.auction;
-        self.answered(auction.offer(developer, prices, levels))
+        let auction = self.auction.offer(developer, prices, levels)?;
+        Ok(self.with_auction(auction))
     }
 
-    pub fn cancel(self, seat: Seat, developer: u8) -> HallAnswer
+    pub fn cancel(self, seat: Seat, developer: u8) -> Result<Hall, Refusal>
         ensures { AnswersThrough (seat_in seat) (By developer Cancel) self result }
     {
-        if !seats::offers_for(seat, developer as u64) {
-            return self.barred();
+        if !seats::offers_for(seat, u64::from(developer)) {
+            return Err(Refusal::NoRight);
         }
-        let auction = self.auction;
-        self.answered(auction.cancel(developer))
+        let auction = self.auction.cancel(developer)?;
+        Ok(self.with_auction(auction))
     }
 
-    pub fn close(self, seat: Seat) -> HallClosing
+    // The hall with the next auction; the excess stays.
+    fn with_auction(self, auction: Auction) -> Hall
+        ensures { result ≡ with_auction self auction }
+    {
+        Hall {
+            auction,
+            excess: self.excess,
+        }
+    }
+
+    pub fn close(self, seat: Seat) -> Result<HallClosing, Refusal>
         ensures { ClosesThrough (seat_in seat) self result }
     {
         if !seats::conducts(seat) {
-            return HallClosing {
-                number: Hall::NO_RIGHT,
-                excess: 0,
-                remainder: 0,
-                hall: self,
-            };
+            return Err(Refusal::NoRight);
         }
-        let auction = self.auction;
-        let closing = auction.close();
-        let after = closing.auction;
-        let mut next = self;
-        next.auction = after;
-        if closing.number == 0 {
-            next.excess = closing.excess;
-        }
-        HallClosing {
-            number: closing.number,
+        let closing = self.auction.close()?;
+        let mut hall = self.with_auction(closing.auction);
+        hall.excess = closing.excess;
+        Ok(HallClosing {
             excess: closing.excess,
             remainder: closing.remainder,
-            hall: next,
-        }
+            hall,
+        })
     }
 }

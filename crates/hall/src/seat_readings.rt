@@ -8,14 +8,14 @@ ghost use Rattle.engine_held.specs.levels.Held.{held_levels};
 ghost use Rattle.hall.specs.seat_readings.Shown.{shown_offer, StandsIn, reading_with, ReadsFrom};
 
 use engine_auction::Auction;
+use engine_checks::clock::Phase;
 use engine_held::history::History;
 use engine_held::levels::Levels;
 use seats::Seat;
 
-// Whether an offer stands, and its steps, zeros behind them. One of no steps is an offer too.
+// The steps of an offer that stands, zeros behind them. One of no steps is an offer too.
 #[derive(Clone, Copy)]
 pub struct StandingOffer {
-    pub made: bool,
     pub count: usize,
     pub prices: [u32; History::MOST],
     pub levels: [u32; History::MOST],
@@ -28,60 +28,46 @@ pub struct Reading {
     pub opening: u32,
     pub closing: u32,
     pub excess: i64,
-    pub phase: u8,
+    pub phase: Phase,
     pub levels: Levels,
-    pub offer: StandingOffer,
-}
-
-fn no_offer() -> StandingOffer
-    ensures { result ≡ shown_offer none }
-{
-    StandingOffer {
-        made: false,
-        count: 0,
-        prices: [0; History::MOST],
-        levels: [0; History::MOST],
-    }
+    pub offer: Option<StandingOffer>,
 }
 
 // The offer that stands in a history: its steps stand behind the withdrawals.
-fn standing_offer(history: History) -> StandingOffer
+fn standing_offer(history: History) -> Option<StandingOffer>
     ensures { StandsIn history result }
 {
-    let mut offer = no_offer();
     let n = history.count;
     let k = history.offered;
     if k == 0 {
-        return offer;
+        return None;
     }
-    let mut i: usize = 0;
-    while i < k - 1 {
-        if History::MOST <= i {
-            return offer;
-        }
-        if History::MOST - i <= n {
-            return offer;
-        }
-        offer.prices[i] = history.prices[n + i];
-        offer.levels[i] = history.levels[n + i];
-        i += 1;
+    let count = k - 1;
+    if History::MOST < count || History::MOST - count < n {
+        return None;
     }
-    offer.made = true;
-    offer.count = i;
-    offer
+    let mut prices = [0; History::MOST];
+    let mut levels = [0; History::MOST];
+    prices[..count].copy_from_slice(&history.prices[n..n + count]);
+    levels[..count].copy_from_slice(&history.levels[n..n + count]);
+    Some(StandingOffer {
+        count,
+        prices,
+        levels,
+    })
 }
 
 // The published values, with these levels and this offer.
-fn published(auction: Auction, excess: i64, levels: Levels, offer: StandingOffer) -> Reading
+fn published(auction: Auction, excess: i64, levels: Levels, offer: Option<StandingOffer>) -> Reading
     ensures { result ≡ reading_with auction excess levels offer }
 {
     Reading {
-        opening: auction.opening,
-        closing: auction.closing,
-        excess: excess,
-        phase: auction.phase,
-        levels: levels,
-        offer: offer,
+        opening: auction.clock.opening,
+        closing: auction.clock.closing,
+        excess,
+        phase: auction.clock.phase,
+        levels,
+        offer,
     }
 }
 
@@ -89,7 +75,7 @@ fn published(auction: Auction, excess: i64, levels: Levels, offer: StandingOffer
 fn published_alone(auction: Auction, excess: i64) -> Reading
     ensures { result ≡ reading_with auction excess (held_levels []) (shown_offer none) }
 {
-    published(auction, excess, Levels::none(), no_offer())
+    published(auction, excess, Levels::none(), None)
 }
 
 // What the developer of this number reads.

@@ -13,48 +13,29 @@ mod output;
 // The most buffers of 65,536 bytes that are read.
 const MOST_BUFFERS: usize = 64;
 
-// The hall and the line behind some of the input, and whether the input has ended.
-#[derive(Clone, Copy)]
-struct Session {
-    hall: Hall,
-    line: Line,
-    ended: bool,
-}
-
-// Goes on with the next bytes of the input.
-fn run(rt: &impl Print, before: Session, text: &[u8]) -> io::Result<Session> {
-    let mut hall = before.hall;
-    let mut line = before.line;
-    let mut i: usize = 0;
-    while i < text.len() {
-        line = line.with_byte(text[i]);
-        hall = calls::made(rt, hall, line)?;
-        i += 1;
+// Goes on with the next bytes of the input, from the hall and the line behind those before them.
+fn run(rt: &impl Print, hall: &mut Hall, line: &mut Line, text: &[u8]) -> io::Result<()> {
+    for b in text {
+        if *b == b'\n' {
+            *hall = calls::made(rt, *hall, *line)?;
+            *line = Line::new();
+        } else {
+            line.add(*b);
+        }
     }
-    Ok(Session {
-        hall: hall,
-        line: line,
-        ended: text.len() == 0,
-    })
-}
-
-fn read_on(rt: &(impl Input + Print), before: Session) -> io::Result<Session> {
-    let mut text = program_input::large_buffer();
-    let n = program_input::read_full(&mut rt.reader(), &mut text)?;
-    run(rt, before, &text[..n])
+    Ok(())
 }
 
 fn main(rt: HostRuntime) -> io::Result<()> {
-    let mut session = Session {
-        hall: Hall::new(),
-        line: Line::new(),
-        ended: false,
-    };
+    let mut hall = Hall::new();
+    let mut line = Line::new();
+    let mut text = [0; 65_536];
     for _ in 0..MOST_BUFFERS {
-        session = read_on(&rt, session)?;
-        if session.ended {
-            return Ok(());
+        let n = program_input::read_full(&mut rt.stdin(), &mut text)?;
+        if n == 0 {
+            break;
         }
+        run(&rt, &mut hall, &mut line, &text[..n])?;
     }
     Ok(())
 }

@@ -1,15 +1,19 @@
 -- What a C host gets of a writing: the bytes written, or 2^64 less the refusal's number (document 02, 2).
-use Rattle.std.specs.Prelude.{ℕ, ◌-◌, ◌^◌, ◌≡◌, refl, Bool, true, false, cond, List, eqb, length}
-use Rattle.std.proofs.Common.{ap₂, ◌∙◌}
+use Rattle.std.specs.Prelude.{ℕ, ◌-◌, ◌^◌, ◌≡◌, refl, Bool, true, false, cond, List, Result, Ok, Err, eqb, length}
+use Rattle.std.specs.Result.{result_and}
+use Rattle.std.proofs.Common.{ap, ap₂, ◌∙◌, ne_eqb}
 use Rattle.rules_demand.specs.Answer.{Answer}
 use Rattle.rules_format.specs.Hex.{digits}
 use Rattle.rules_format.specs.Written.{writing_refusal, written, lent_frame}
 use Rattle.rules_format.specs.SessionLines.{seat_text, writable_seat}
 use Rattle.rules_replies.specs.Orders.{Order}
 use Rattle.rules_replies.specs.WrittenOrders.{writable_order, frame_of_order}
-use Rattle.frame_writing.specs.declared.Written.{Written}
+use Rattle.engine_refusals.specs.Numbers.{number_of, number_in}
+use Rattle.engine_refusals.specs.NumberLaws.{number_not_0}
+use Rattle.engine_refusals.specs.declared.Refusal.{Refusal}
+use Rattle.frame_writing.specs.Encodes.{Written}
 use Rattle.frame_writing.specs.each_call.Writes.{Writes}
-use Rattle.record_replay.specs.host_numbers.HostNumbers.{value_answer, host_number}
+use Rattle.record_replay.specs.host_numbers.HostNumbers.{value_answer, answered, host_number}
 
 -- the number for an order and a buffer
 unfoldable pub host_bytes : Order → List ℕ → ℕ
@@ -47,3 +51,12 @@ host_writes_seat kind number old new n r e f er = record { bytes = er ∙ four (
     four : (b : Bool) → cond b 4 (2 ^ 64 - n) ≡ cond b (cond b 4 0) (2 ^ 64 - n)
     four true = refl
     four false = refl
+
+pub seat_answer : (w : Result (Unit {0}) Refusal) (bytes : Result ℕ Refusal) → bytes ≡ result_and w (Ok 4) →
+    host_number (answered bytes) ≡ host_number (value_answer (number_in w) 4)
+unfolding host_number
+seat_answer w bytes e = ap (λ (r : Result ℕ Refusal). host_number (answered r)) e ∙ told w
+  where
+    told : (v : Result (Unit {0}) Refusal) → host_number (answered (result_and v (Ok 4))) ≡ host_number (value_answer (number_in v) 4)
+    told (Ok x) = refl
+    told (Err refusal) = rw (ne_eqb (number_of refusal) 0 (number_not_0 refusal))

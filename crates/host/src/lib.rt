@@ -10,19 +10,21 @@ ghost use Rattle.rules_replies.specs.Replies.{replies};
 ghost use Rattle.rules_seats.specs.sessions.Sessions.{session_replies, session_record};
 ghost use Rattle.rules_replies.specs.record_calls.Calls.{calls_in};
 ghost use Rattle.record_replay.specs.Replayed.{hosted, over};
-ghost use Rattle.record_replay.specs.record_forcing.Chosen.{chosen_in};
+ghost use Rattle.record_replay.specs.record_forcing.Chosen.{told_in, chosen_in};
+ghost use Rattle.frame_writing.specs.Encodes.{written_in};
 ghost use Rattle.frame_writing.specs.each_call.Writes.{registration, registration_for};
 ghost use Rattle.record_replay.specs.host_numbers.HostNumbers.{host_number, host_remainder};
 ghost use Rattle.rules_sealed.specs.Sealed.{book_of, lent_awards};
 ghost use Rattle.record_figures.specs.Told.{TellsState, TellsPreview, TellsCurve, TellsSettlement, TellsReading, TellsPreviewThrough, TellsCurveThrough};
 ghost use Rattle.record_figures.specs.Told.{TellsSettlementThrough};
-ghost use Rattle.host.specs.Forcing.{host_forcing, TellsForcingThrough};
+ghost use Rattle.host.specs.Forcing.{outcome_answer, host_forcing, TellsForcingThrough};
 ghost use Rattle.host.specs.Sealing.{host_sealed};
 ghost use Rattle.host.specs.Version.{engine_version};
 ghost use Rattle.host.specs.Writing.{answer, HostWrites, HostWritesSeat};
 
+use engine_refusals::Refusal;
 use engine_sealed::sealed_auction;
-use frame_writing::{Written, each_call};
+use frame_writing::each_call;
 use record_figures::through_seats;
 use record_replay::{host_numbers, record_forcing, session_record};
 use seats::seat_numbers;
@@ -67,6 +69,13 @@ pub extern "C" fn replay(src: &[u8], out: &mut [u8]) -> u64
     record_replay::replay(src, out)
 }
 
+// What C gets of who can force the price: the outcome, or 2^64 less the refusal's number.
+fn host_outcome(told: Result<u32, Refusal>) -> u64
+    ensures { result ≡ host_number (outcome_answer (told_in told)) }
+{
+    host_numbers::host_number(told.map(u64::from))
+}
+
 // Who can force the price (document 02, 11) in the auction that a record leaves behind: the outcome, and the best first move in the
 // buffer's first byte.
 #[unsafe(no_mangle)]
@@ -80,8 +89,7 @@ pub extern "C" fn who_can_force(
     ensures value { result ≡ host_forcing (ledger (calls_in src.now)) first second prices.now (length chosen.old) }
     ensures chosen_after { chosen.new ≡ chosen_in (ledger (calls_in src.now)) first second prices.now chosen.old }
 {
-    let told = record_forcing::who_can_force(src, false, first, second, prices, chosen);
-    host_numbers::host_number(told.number, told.outcome as u64)
+    host_outcome(record_forcing::who_can_force(src, false, first, second, prices, chosen))
 }
 
 // ---- the figures of the auction that a record leaves behind
@@ -131,7 +139,7 @@ pub extern "C" fn record_settlement(
 pub extern "C" fn write_seat(kind: u64, number: u64, bytes: &mut [u8]) -> u64
     ensures { HostWritesSeat kind number bytes.old bytes.new result }
 {
-    host_numbers::host_number(seat_numbers::write_seat(kind, number, bytes), 4)
+    host_numbers::host_number(seat_numbers::write_seat(kind, number, bytes).and(Ok(4)))
 }
 
 // Replays a session: the bytes written, or 2^64 - 11 where the replies do not fit.
@@ -193,10 +201,9 @@ pub extern "C" fn session_forcing(
     ensures { TellsForcingThrough src.now seat number first second prices.now chosen.old chosen.new result }
 {
     if !seat_numbers::conducts_by(seat, number) {
-        return host_numbers::host_number(engine_refusals::NO_RIGHT, 0);
+        return host_numbers::host_number(Err(Refusal::NoRight));
     }
-    let told = record_forcing::who_can_force(src, true, first, second, prices, chosen);
-    host_numbers::host_number(told.number, told.outcome as u64)
+    host_outcome(record_forcing::who_can_force(src, true, first, second, prices, chosen))
 }
 
 // The plain record of a session: the frames of all that its seats had the right to ask.
@@ -222,19 +229,18 @@ pub extern "C" fn sealed_auction(
     ensures value { result ≡ host_sealed ceiling demand (book_of prices.now quantities.now minimums.now ages.now) (length awards.old) }
     ensures awards_after { awards.new ≡ lent_awards ceiling demand (book_of prices.now quantities.now minimums.now ages.now) awards.old }
 {
-    let lent = sealed_auction::sealed_auction(
+    host_numbers::host_number(sealed_auction::sealed_auction(
         ceiling, demand, prices, quantities, minimums, ages, awards,
-    );
-    host_numbers::host_number(lent.number, lent.left)
+    ))
 }
 
 // ---- frames written (document 02, 2)
 
 // What C gets of a writing: the bytes written, or 2^64 less the refusal's number.
-fn host_bytes(written: Written) -> u64
-    ensures { result ≡ host_number (answer written) }
+fn host_bytes(written: Result<usize, Refusal>) -> u64
+    ensures { result ≡ host_number (answer (written_in written)) }
 {
-    host_numbers::host_number(written.number, written.bytes as u64)
+    host_numbers::host_number(written.map(|bytes| bytes as u64))
 }
 
 // 01 set-up.

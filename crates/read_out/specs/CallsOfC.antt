@@ -2,7 +2,7 @@
 -- contract and asks nothing of its arguments. Calls with equal arguments and lent buffers of equal bytes give equal numbers and leave equal bytes
 -- (`same-..`); a refusal is 2^64 less its number and leaves the buffer. The nine calls that write frames stand in WritersOfC. Each conclusion takes
 -- the part of the record that it rests on, so that the loss of a clause is refused at the conclusion of that clause.
-use Rattle.std.specs.Prelude.{ℕ, ◌+◌, ◌-◌, ◌*◌, ◌^◌, ◌≤◌, ◌<◌, ◌≡◌, refl, ◌↔◌, List, [], ◌∷◌, ◌++◌, length}
+use Rattle.std.specs.Prelude.{ℕ, ◌+◌, ◌-◌, ◌*◌, ◌^◌, ◌≤◌, ◌<◌, ◌≡◌, refl, ◌↔◌, List, [], ◌∷◌, ◌++◌, length, Result}
 use Rattle.std.proofs.Common.{sym, ◌∙◌}
 use contract.Lifetimes.{Lfts}
 use denote.Triple.Clauses.{AtExit}
@@ -22,7 +22,9 @@ use Rattle.rules_forcing.specs.Forcing.{forcing_refusal, ForcedBy}
 use Rattle.record_replay.specs.record_forcing.Chosen.{move_byte}
 use Rattle.rules_sealed.specs.Sealed.{Book, book_of, awards, left_over, lent_refusal}
 use Rattle.rules_sealed.specs.InWords.{InWords}
-use Rattle.engine_settling.specs.declared.Settled.{Settled}
+use Rattle.engine_refusals.specs.declared.Refusal.{Refusal}
+use Rattle.engine_settling.specs.Settles.{Settled, settled_in}
+use Rattle.engine_settling.specs.declared.Settlement.{Settlement}
 use Rattle.engine_settling.specs.contracts.settle.{signature as settle_signature}
 use Rattle.engine_settling.proofs.settle.Kinds as settle_kinds
 use Rattle.engine_settling.proofs.settle.Reads as settle
@@ -261,10 +263,10 @@ module _ {M : Type 1} (s : EngineCorrect M) where
 
   -- the reply to a settling is the text of what the settling call itself answers after the same list of calls, and leaves in 192 lent bytes
   pub settling_text_lem :
-      {cs : List Call} {rs : List Answered} (κs : Lfts 1) (x : ArgsD settle_signature κs) (r : Settled)
+      {cs : List Call} {rs : List Answered} (κs : Lfts 1) (x : ArgsD settle_signature κs) (r : Result Settlement Refusal)
       (y : AtExit (ended_of 1 settle_kinds.ps settle_kinds.r) κs) → Run cs rs x.0 → settle.Post κs x r y → length x.1.1.0.now ≡ award_room →
-      (t : List ℕ) → SettlingReplied (ledger cs) x.1.0 t → t ≡ settled_text r y.1.1.0.now
-  settling_text_lem κs x r y w q e t v = v.text _ _ r e (s.statement κs x r y w q)
+      (t : List ℕ) → SettlingReplied (ledger cs) x.1.0 t → t ≡ settled_text (settled_in r) y.1.1.0.now
+  settling_text_lem κs x r y w q e t v = v.text _ _ (settled_in r) e (s.statement κs x r y w q)
 
 -- ---- who can force the price (document 02, 11)
 

@@ -1,6 +1,6 @@
 -- READ OUT, the calls on an auction: every list of them has a run, and two runs of one list agree; and what reads the auction that a list reaches: a
 -- preview of closing, the supply curve, and who can force the price.
-use Rattle.std.specs.Prelude.{ℕ, ◌+◌, ◌≤◌, ◌<◌, ◌≡◌, ◌⊎◌, ◌↔◌, true, length}
+use Rattle.std.specs.Prelude.{ℕ, ◌+◌, ◌≤◌, ◌<◌, ◌≡◌, ◌⊎◌, ◌↔◌, true, length, Result}
 use Rattle.std.proofs.Common.{sym, ap, ◌∙◌}
 use mathlib.Core.List.{List, Memᴰ}
 use contract.Lifetimes.{Lfts}
@@ -10,7 +10,7 @@ use Rattle.rules_auction.specs.Ledger.{Call, Close, Ledger}
 use Rattle.rules_auction.specs.Clearing.{highest, high, supply, demand_at}
 use Rattle.rules_auction.specs.Refusals.{floor, refusal}
 use Rattle.rules_auction.specs.Rounds.{supply_after, ledger, Answered, bare_answer, answers}
-use Rattle.rules_auction.specs.Preview.{bare_preview}
+use Rattle.rules_auction.specs.Preview.{Previewed, bare_preview}
 use Rattle.rules_supply_curve.specs.Curve.{Point, supply_curve, supplied_at}
 use Rattle.rules_supply_curve.specs.CurveLaws.{Joined, WithdrewAt}
 use Rattle.engine_curve.specs.kept_curve.Held.{held_curve}
@@ -18,8 +18,10 @@ use Rattle.rules_forcing.specs.Game.{GameMove}
 use Rattle.rules_forcing.specs.Forcing.{forcing_refusal, forced_outcome, first_move, ForcedBy}
 use Rattle.rules_forcing.specs.ForcingLaws.{forced_by_only}
 use Rattle.engine_looks.specs.rivals.Plain.{withdraws_by}
-use Rattle.engine_looks.specs.forcing.Forces.{refused_forcing}
-use Rattle.engine_looks.specs.declared.forcing.Forced.{Forced}
+use Rattle.engine_refusals.specs.declared.Refusal.{Refusal}
+use Rattle.engine_checks.specs.declared.clock.Phase.TheVariants.{Closed}
+use Rattle.engine_looks.specs.forcing.Forces.{Forced, refused_forcing, forced_in}
+use Rattle.engine_looks.specs.declared.forcing.Forcing.{Forcing}
 use Rattle.engine_looks.specs.contracts.forcing.who_can_force.{signature}
 use Rattle.engine_looks.proofs.forcing.who_can_force.Reads as forcing
 use Rattle.engine_auction.specs.Holds.{held_auction}
@@ -33,11 +35,11 @@ use Rattle.statement.specs.SupplyCurves.{Reads, prices_in, CurveOf}
 use Rattle.statement.specs.EngineCorrect.{EngineCorrect}
 
 -- a preview that foretells a closing: that answers as the preview does, and closes the auction exactly if the preview says so
-module _ {p : Preview} {r : Answered} {b : Auction} (f : Foretells p r b) where
-  pub foretold_answer : (preview_in p).answered ≡ r
+module _ {p : Previewed} {r : Answered} {b : Auction} (f : Foretells p r b) where
+  pub foretold_answer : p.answered ≡ r
   foretold_answer = f.answer
 
-  pub foretold_closed : (p.closed ≡ true) ↔ ((r.number ≡ 0) × (b.phase ≡ 4))
+  pub foretold_closed : (p.closed ≡ true) ↔ ((r.number ≡ 0) × (b.clock.phase ≡ Closed))
   foretold_closed = f.closed
 
 -- the points of a supply curve, in words
@@ -80,17 +82,18 @@ module _ {M : Type 1} (s : EngineCorrect M) where
   -- ---- looking before closing (document 02, 6): p is what a preview of the auction says
 
   -- refused: 0 and "not closed" in every other place
-  pub refused_preview : {a : Auction} (p : Preview) → Looks a p → (p.number ≡ 0 → ⊥) → preview_in p ≡ bare_preview p.number
+  pub refused_preview : {a : Auction} (p : Result Preview Refusal) → Looks a p →
+      let n = (preview_in p).answered.number in (n ≡ 0 → ⊥) → preview_in p ≡ bare_preview n
   refused_preview p q z = s.preview.refused p q z
 
-  module _ {cs : List Call} {rs : List Answered} {a : Auction} (p : Preview) (w : Run cs rs a) (q : Looks a p) where
+  module _ {cs : List Call} {rs : List Answered} {a : Auction} (p : Result Preview Refusal) (w : Run cs rs a) (q : Looks a p) where
     -- "closed": the closing is accepted, and excess is below 1,000 kWh or C the floor
     pub preview_closed : let l = ledger cs in
-        (p.closed ≡ true) ↔ ((refusal l Close ≡ 0) × ((supply_after l < demand_at l l.closing + 1000) ⊎ (l.closing ≡ floor l)))
+        ((preview_in p).closed ≡ true) ↔ ((refusal l Close ≡ 0) × ((supply_after l < demand_at l l.closing + 1000) ⊎ (l.closing ≡ floor l)))
     preview_closed = s.preview.closed p w q
 
     -- it foretells the closing made next
-    pub preview_foretells : {b : Auction} {r : Answered} → Made Close a r b → Foretells p r b
+    pub preview_foretells : {b : Auction} {r : Answered} → Made Close a r b → Foretells (preview_in p) r b
     preview_foretells m = s.preview.foretells p w q m
 
   -- ---- the supply curve (document 02, 9): r is what reading a place of the auction's curve says
@@ -117,33 +120,39 @@ module _ {M : Type 1} (s : EngineCorrect M) where
   -- ---- who can force the price (document 02, 11): the arguments x are the auction, the two developers, the prices
 
   -- refused: 0 and "keep" in every other place
-  pub refused_question : (κs : Lfts 1) (x : ArgsD signature κs) (r : Forced) → forcing.Post κs x r x → (r.number ≡ 0 → ⊥) → r ≡ refused_forcing r.number
+  pub refused_question : (κs : Lfts 1) (x : ArgsD signature κs) (r : Result Forcing Refusal) → forcing.Post κs x r x →
+      let a = forced_in r in (a.number ≡ 0 → ⊥) → a ≡ refused_forcing a.number
   refused_question κs x r q z = s.forcing.refused κs x r q z
 
-  module _ {cs : List Call} {rs : List Answered} (κs : Lfts 1) (x : ArgsD signature κs) (r : Forced) (w : Run cs rs x.0) (q : forcing.Post κs x r x) where
+  module _ {cs : List Call} {rs : List Answered} (κs : Lfts 1) (x : ArgsD signature κs) (r : Result Forcing Refusal)
+      (w : Run cs rs x.0) (q : forcing.Post κs x r x) where
+    abbrev a : Forced
+    a = forced_in r
+
     -- the number is decided by the list and the question
-    pub question_number : r.number ≡ forcing_refusal (ledger cs) x.1.0 x.1.1.0 x.1.1.1.0.now
+    pub question_number : a.number ≡ forcing_refusal (ledger cs) x.1.0 x.1.1.0 x.1.1.1.0.now
     question_number = s.forcing.number κs x r w q
 
-    module _ (z : r.number ≡ 0) where
+    module _ (z : a.number ≡ 0) where
       -- what the first can force and the second can hold it to, and a first move that begins a strategy which forces it
-      forced : (m : GameMove) × ForcedBy (ledger cs) x.1.0 x.1.1.0 x.1.1.1.0.now r.outcome m × (r.withdraws ≡ withdraws_by m)
+      forced : (m : GameMove) × ForcedBy (ledger cs) x.1.0 x.1.1.0 x.1.1.1.0.now a.outcome m × (a.withdraws ≡ withdraws_by m)
       forced = s.forcing.forced κs x r w q z
 
       -- the outcome and the first move are decided by what the two can force
       pub question_answered :
-          (r.outcome ≡ forced_outcome (ledger cs) x.1.0 x.1.1.0 x.1.1.1.0.now)
-          × (r.withdraws ≡ withdraws_by (first_move (ledger cs) x.1.0 x.1.1.0 x.1.1.1.0.now))
+          (a.outcome ≡ forced_outcome (ledger cs) x.1.0 x.1.1.0 x.1.1.1.0.now)
+          × (a.withdraws ≡ withdraws_by (first_move (ledger cs) x.1.0 x.1.1.0 x.1.1.1.0.now))
       question_answered = let o = forced_by_only _ _ _ _ forced.1 in (o.0, forced.2 ∙ ap withdraws_by o.1)
 
   -- one list and one question: one answer
-  module _ {cs : List Call} {rs rs' : List Answered} (κs κs' : Lfts 1) (x : ArgsD signature κs) (x' : ArgsD signature κs') (r r' : Forced)
+  module _ {cs : List Call} {rs rs' : List Answered} (κs κs' : Lfts 1) (x : ArgsD signature κs) (x' : ArgsD signature κs') (r r' : Result Forcing Refusal)
       (asked : (x.1.0 ≡ x'.1.0) × (x.1.1.0 ≡ x'.1.1.0) × (x.1.1.1.0.now ≡ x'.1.1.1.0.now))
       (w : Run cs rs x.0) (q : forcing.Post κs x r x) (v : Run cs rs' x'.0) (q' : forcing.Post κs' x' r' x') where
-    pub same_number : r.number ≡ r'.number
+    pub same_number : (forced_in r).number ≡ (forced_in r').number
     same_number = question_number κs x r w q ∙ rw (asked.0, asked.1, asked.2) (sym (question_number κs' x' r' v q'))
 
-    pub same_outcome : r.number ≡ 0 → (r.outcome ≡ r'.outcome) × (r.withdraws ≡ r'.withdraws)
+    pub same_outcome :
+        let a = forced_in r in let b = forced_in r' in a.number ≡ 0 → (a.outcome ≡ b.outcome) × (a.withdraws ≡ b.withdraws)
     same_outcome z =
         let f = question_answered κs x r w q z in
         let g = question_answered κs' x' r' v q' (sym same_number ∙ z) in (

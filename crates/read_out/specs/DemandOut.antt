@@ -1,13 +1,14 @@
 -- READ OUT, the demand call (document 01, Demand; document 02, 4): any five numbers CE, D, M1, M2 and p get one answer, and it is in the curve's words.
-use Rattle.std.specs.Prelude.{ℕ, ◌+◌, ◌*◌, ◌≤◌, ◌<◌, ◌≡◌, ◌↔◌, true, false}
+use Rattle.std.specs.Prelude.{ℕ, ◌+◌, ◌*◌, ◌≤◌, ◌<◌, ◌≡◌, ◌↔◌, true, false, Result, Err}
 use Rattle.rules_numbers.specs.Least.{Least}
 use Rattle.rules_demand.specs.Curve.{priced, PricedAt}
 use Rattle.rules_demand.specs.Remainder.{exact_times_ce}
+use Rattle.engine_refusals.specs.declared.Refusal.{Refusal}
+use Rattle.engine_refusals.specs.declared.Refusal.TheVariants.{BeyondBounds}
 use Rattle.engine_demand.specs.Answers.{demanded_in}
 use Rattle.engine_demand.specs.declared.Demanded.{Demanded}
-use Rattle.engine_demand.specs.declared.Demanded.TheVariants.{Quantity, OutOfBounds}
 use Rattle.engine_demand.proofs.demand.Reads as demanding
-use Rattle.statement.specs.DemandStated.{Asked, within, DemandIs, DemandAnswered}
+use Rattle.statement.specs.DemandStated.{Asked, demanded_as, within, DemandIs, DemandAnswered}
 use Rattle.statement.specs.EngineCorrect.{EngineCorrect}
 
 module _ {M : Type 1} (s : EngineCorrect M) (ce d m1 m2 p : ℕ) where
@@ -15,28 +16,28 @@ module _ {M : Type 1} (s : EngineCorrect M) (ce d m1 m2 p : ℕ) where
   pub nothing_asked : demanding.Pre tt (ce, (d, (m1, (m2, (p, tt)))))
   nothing_asked = s.demand.asks_nothing ce d m1 m2 p
 
-  pub some_demand : (r : Demanded) × Asked ce d m1 m2 p r
+  pub some_demand : (r : Result Demanded Refusal) × Asked ce d m1 m2 p r
   some_demand = s.demand.some_answer ce d m1 m2 p
 
   -- which is as stated, and no other
-  pub demand_stated : (r : Demanded) → Asked ce d m1 m2 p r → DemandAnswered ce d m1 m2 p r
+  pub demand_stated : (r : Result Demanded Refusal) → Asked ce d m1 m2 p r → DemandAnswered ce d m1 m2 p r
   demand_stated r q = s.demand.answered ce d m1 m2 p r q
 
   -- what is stated holds of one answer alone
-  pub demand_decided : (r r' : Demanded) → DemandAnswered ce d m1 m2 p r → DemandAnswered ce d m1 m2 p r' → r ≡ r'
+  pub demand_decided : (r r' : Result Demanded Refusal) → DemandAnswered ce d m1 m2 p r → DemandAnswered ce d m1 m2 p r' → r ≡ r'
   demand_decided r r' a a' = s.demand.determines ce d m1 m2 p r r' a a'
 
-  pub same_demand : (r r' : Demanded) → Asked ce d m1 m2 p r → Asked ce d m1 m2 p r' → r ≡ r'
+  pub same_demand : (r r' : Result Demanded Refusal) → Asked ce d m1 m2 p r → Asked ce d m1 m2 p r' → r ≡ r'
   same_demand r r' q q' = demand_decided r r' (demand_stated r q) (demand_stated r' q')
 
-  module _ (r : Demanded) (q : Asked ce d m1 m2 p r) where
+  module _ (r : Result Demanded Refusal) (q : Asked ce d m1 m2 p r) where
     -- refused exactly outside the bounds
-    pub demand_refused : (within ce d m1 m2 p ≡ false) ↔ (r ≡ OutOfBounds)
+    pub demand_refused : (within ce d m1 m2 p ≡ false) ↔ (r ≡ Err BeyondBounds)
     demand_refused = (demand_stated r q).refused
 
     module _ (t : within ce d m1 m2 p ≡ true) where
       -- within them it is a quantity and a remainder
-      pub demand_accepted : (n : ℕ) × (e : ℕ) × (r ≡ Quantity n e) × DemandIs ce d m1 m2 p n e
+      pub demand_accepted : (n : ℕ) × (e : ℕ) × (r ≡ demanded_as n e) × DemandIs ce d m1 m2 p n e
       demand_accepted = (demand_stated r q).accepted t
 
       abbrev quantity : ℕ
@@ -65,6 +66,6 @@ module _ {M : Type 1} (s : EngineCorrect M) (ce d m1 m2 p : ℕ) where
 module _ {M : Type 1} (s : EngineCorrect M) where
   -- as numbers: refused, 1 with 0 in every other place; accepted, 0 with quantity and remainder
   pub demand_numbers :
-      (demanded_in OutOfBounds ≡ record { number = 1; value = 0; remainder = 0 })
-      × ((q e : ℕ) → demanded_in (Quantity q e) ≡ record { number = 0; value = q; remainder = e })
+      (demanded_in (Err BeyondBounds) ≡ record { number = 1; value = 0; remainder = 0 })
+      × ((q e : ℕ) → demanded_in (demanded_as q e) ≡ record { number = 0; value = q; remainder = e })
   demand_numbers = s.demand.numbers

@@ -1,7 +1,7 @@
 -- READ OUT, up to C: the figures of the auction that a record leaves behind, from the statement alone. Each of the four calls meets its contract and asks
 -- nothing of its arguments; equal records and lent numbers and bytes that are equal give equal numbers and leave equal ones (`same-..`); a refusal is 2^64
 -- less its number and leaves what was lent. The settlement's figures are those that the settling call itself answers after the record's calls.
-use Rattle.std.specs.Prelude.{ℕ, ◌+◌, ◌-◌, ◌^◌, ◌≤◌, ◌<◌, ◌≡◌, ◌⊎◌, ◌↔◌, true, false, List, [], ◌∷◌, ◌++◌, ℤ, pos, length}
+use Rattle.std.specs.Prelude.{ℕ, ◌+◌, ◌-◌, ◌^◌, ◌≤◌, ◌<◌, ◌≡◌, ◌⊎◌, ◌↔◌, true, false, List, [], ◌∷◌, ◌++◌, ℤ, pos, length, Result}
 use contract.Lifetimes.{Lfts}
 use denote.Triple.Clauses.{AtExit}
 use borrow.Fn.World.{ArgsD}
@@ -15,7 +15,9 @@ use Rattle.rules_supply_curve.specs.Curve.{supply_curve}
 use Rattle.rules_replies.specs.Replies.{twos_complement}
 use Rattle.rules_replies.specs.record_calls.Calls.{calls_in}
 use Rattle.rules_seats.specs.figures.Figures.{one_if, closings_from, curve_figures}
-use Rattle.engine_settling.specs.declared.Settled.{Settled}
+use Rattle.engine_refusals.specs.declared.Refusal.{Refusal}
+use Rattle.engine_settling.specs.Settles.{settled_in}
+use Rattle.engine_settling.specs.declared.Settlement.{Settlement}
 use Rattle.engine_settling.specs.contracts.settle.{signature as settle_signature}
 use Rattle.engine_settling.proofs.settle.Kinds as settle_kinds
 use Rattle.engine_settling.proofs.settle.Reads as settle
@@ -248,8 +250,8 @@ module _ {M : Type 1} (s : EngineCorrect M) where
 
   -- the settlement given is what the settling call itself answers after the same list of calls, and the lent bytes are what it leaves
   pub as_settled :
-      {cs : List Call} {rs : List Answered} {old_f new_f new_a : List ℕ} {r : ℕ} (κs : Lfts 1) (x : ArgsD settle_signature κs) (a : Settled)
+      {cs : List Call} {rs : List Answered} {old_f new_f new_a : List ℕ} {r : ℕ} (κs : Lfts 1) (x : ArgsD settle_signature κs) (a : Result Settlement Refusal)
       (y : AtExit (ended_of 1 settle_kinds.ps settle_kinds.r) κs) → Run cs rs x.0 → settle.Post κs x a y →
       (w : SettlementGiven (ledger cs) x.1.0 old_f new_f x.1.1.0.now new_a r) →
-      (w.settled ≡ a) × (new_a ≡ y.1.1.0.now)
+      (w.settled ≡ settled_in a) × (new_a ≡ y.1.1.0.now)
   as_settled κs x a y run q w = s.determines _ _ _ _ _ _ _ (given_as_stated w) (s.statement κs x a y run q)

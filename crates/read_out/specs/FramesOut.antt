@@ -1,6 +1,6 @@
 -- READ OUT, frames written and read (document 02, 2): each writing call, by its own arguments x with the buffer last, writes the one frame of what they
 -- ask, or leaves the buffer; and what is written is read back.
-use Rattle.std.specs.Prelude.{ℕ, ◌≡◌, ◌⊎◌, List, length}
+use Rattle.std.specs.Prelude.{ℕ, ◌≡◌, ◌⊎◌, List, length, Result}
 use Rattle.std.proofs.Common.{sym, ◌∙◌, inl, inr}
 use Rattle.std.proofs.Math.Decide.{ℕ_discrete as dec_eq}
 use contract.Lifetimes.{Lfts}
@@ -11,7 +11,8 @@ use Rattle.rules_auction.specs.Ledger.{Offer, Lodge, Cancel, Open, By, Close}
 use Rattle.rules_replies.specs.Orders.{Order, Asks, Settle, order_in}
 use Rattle.rules_replies.specs.WrittenOrders.{raw_of, writable_order, frame_of_order}
 use Rattle.engine_auction.specs.Called.{sets_up, registers, registers_for}
-use Rattle.frame_writing.specs.declared.Written.{Written}
+use Rattle.engine_refusals.specs.declared.Refusal.{Refusal}
+use Rattle.frame_writing.specs.Encodes.{Written, written_in}
 use Rattle.frame_writing.specs.each_call.Writes.{Writes}
 use Rattle.frame_writing.specs.contracts.each_call.write_set_up.{signature as set_up_signature}
 use Rattle.frame_writing.specs.contracts.each_call.write_registration.{signature as registration_signature}
@@ -31,6 +32,7 @@ use Rattle.frame_writing.proofs.each_call.write_lodging.Reads as lodging
 use Rattle.frame_writing.proofs.each_call.write_cancellation.Reads as cancellation
 use Rattle.frame_writing.proofs.each_call.write_closing.Reads as closing
 use Rattle.frame_writing.proofs.each_call.write_settling.Reads as settling
+use Rattle.statement.specs.SameResults.{written_determines}
 use Rattle.statement.specs.FramesStated.{FrameWritten}
 use Rattle.statement.specs.EngineCorrect.{EngineCorrect}
 
@@ -50,29 +52,32 @@ module _ {o : Order} {old new : List ℕ} {r : Written} (f : FrameWritten o old 
   frame_refused z = f.refused z
 
 -- a call, by what its contract says of its arguments (`Post`), writes the frame of this order
-abbrev pub WritesFrame : {Y : Type 0} → (Written → Y → Type 0) → Order → List ℕ → (Y → List ℕ) → Type 0
-WritesFrame {Y} Post o old buffer = (r : Written) (y : Y) → Post r y → FrameWritten o old (buffer y) r
+abbrev pub WritesFrame : {Y : Type 0} → (Result ℕ Refusal → Y → Type 0) → Order → List ℕ → (Y → List ℕ) → Type 0
+WritesFrame {Y} Post o old buffer = (r : Result ℕ Refusal) (y : Y) → Post r y → FrameWritten o old (buffer y) (written_in r)
 
 -- so for one set of arguments there is one answer and one buffer: the bytes of the frame are laid, or it is refused and the buffer left
-module _ {Y : Type 0} {Post : Written → Y → Type 0} {o : Order} {old : List ℕ} {buffer : Y → List ℕ} (writes : WritesFrame Post o old buffer) where
+module _ {Y : Type 0} {Post : Result ℕ Refusal → Y → Type 0} {o : Order} {old : List ℕ} {buffer : Y → List ℕ} (writes : WritesFrame Post o old buffer) where
   pub laid_or_left :
-      (r : Written) (y : Y) → Post r y → ((r.number ≡ 0) × (buffer y ≡ laid (frame_of_order o) old)) ⊎ ((r.number ≡ 0 → ⊥) × (buffer y ≡ old))
-  laid_or_left r y q = go (dec_eq r.number 0)
+      (r : Result ℕ Refusal) (y : Y) → Post r y →
+      (((written_in r).number ≡ 0) × (buffer y ≡ laid (frame_of_order o) old)) ⊎ (((written_in r).number ≡ 0 → ⊥) × (buffer y ≡ old))
+  laid_or_left r y q = go (dec_eq (written_in r).number 0)
     where
-      go : Dec (r.number ≡ 0) → ((r.number ≡ 0) × (buffer y ≡ laid (frame_of_order o) old)) ⊎ ((r.number ≡ 0 → ⊥) × (buffer y ≡ old))
+      go :
+          Dec ((written_in r).number ≡ 0) →
+          (((written_in r).number ≡ 0) × (buffer y ≡ laid (frame_of_order o) old)) ⊎ (((written_in r).number ≡ 0 → ⊥) × (buffer y ≡ old))
       go (yes z) = inl (z, (frame_laid (writes r y q) z).1)
       go (no z) = inr (z, (frame_refused (writes r y q) z).1)
 
-  pub one_frame : (r r' : Written) (y y' : Y) → Post r y → Post r' y' → (r ≡ r') × (buffer y ≡ buffer y')
-  one_frame r r' y y' q q' = go (dec_eq r.number 0)
+  pub one_frame : (r r' : Result ℕ Refusal) (y y' : Y) → Post r y → Post r' y' → (r ≡ r') × (buffer y ≡ buffer y')
+  one_frame r r' y y' q q' = go (dec_eq (written_in r).number 0)
     where
-      same : r.number ≡ r'.number
+      same : (written_in r).number ≡ (written_in r').number
       same = frame_number (writes r y q) ∙ sym (frame_number (writes r' y' q'))
 
-      alike : r.bytes ≡ r'.bytes → r ≡ r'
-      alike e = λ i. record { number = same i; bytes = e i }
+      alike : (written_in r).bytes ≡ (written_in r').bytes → r ≡ r'
+      alike e = written_determines r r' (λ i. record { number = same i; bytes = e i })
 
-      go : Dec (r.number ≡ 0) → (r ≡ r') × (buffer y ≡ buffer y')
+      go : Dec ((written_in r).number ≡ 0) → (r ≡ r') × (buffer y ≡ buffer y')
       go (yes z) =
           let a = frame_laid (writes r y q) z in
           let b = frame_laid (writes r' y' q') (sym same ∙ z) in
@@ -133,5 +138,5 @@ module _ {M : Type 1} (s : EngineCorrect M) where
   settling_frame κs x = s.frames.by_arguments.settling_written κs x
 
   -- whatever writes an order as all nine contracts say writes its frame
-  pub order_frame : (o : Order) (old : List ℕ) → WritesFrame (λ r new. Writes o old new r) o old (λ new. new)
-  order_frame o old r new w = s.frames.answered o old new r w
+  pub order_frame : (o : Order) (old : List ℕ) → WritesFrame (λ r new. Writes o old new (written_in r)) o old (λ new. new)
+  order_frame o old r new w = s.frames.answered o old new (written_in r) w

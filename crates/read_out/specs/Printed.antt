@@ -1,6 +1,6 @@
 -- READ OUT, what the programs print (document 01, Frames): of `replay` what it prints for a record, of `trace` what stands around a reply, and what a
 -- line that is no frame reads as; from the statement alone.
-use Rattle.std.specs.Prelude.{ℕ, ◌+◌, ◌≤◌, ◌<◌, ◌≡◌, Bool, true, false, List, [], length}
+use Rattle.std.specs.Prelude.{ℕ, ◌+◌, ◌≤◌, ◌<◌, ◌≡◌, Bool, true, false, List, [], length, Option, Result}
 use Rattle.std.proofs.Math.Option.{none}
 use contract.Lifetimes.{Lfts}
 use denote.Triple.Clauses.{AtExit}
@@ -9,11 +9,12 @@ use borrow.Fn.Kinds.{ended_of}
 use Rattle.rules_numbers.specs.Tails.{laid}
 use Rattle.rules_format.specs.Fields.{read}
 use Rattle.rules_replies.specs.Replies.{replies}
-use Rattle.engine_settling.specs.declared.Settled.{Settled}
+use Rattle.engine_refusals.specs.declared.Refusal.{Refusal}
+use Rattle.engine_looks.specs.declared.readings.Preview.{Preview}
+use Rattle.engine_settling.specs.declared.Settlement.{Settlement}
 use Rattle.trace_text.specs.decimal_text.Puts.{Puts}
 use Rattle.trace_text.specs.settling_text.SettledLines.{settled_lines}
 use Rattle.trace_text.specs.Words.{closed_lines, preview_line, point_line, lines_before, lines_below}
-use Rattle.trace_text.specs.declared.PreviewShown.{PreviewShown}
 use Rattle.record_replay.specs.Replayed.{printed}
 use Rattle.frame_reading.specs.frames.Decoded.{call_in, Zero}
 use Rattle.frame_reading.specs.declared.frames.Frame.{Frame}
@@ -49,13 +50,13 @@ pub data Prints : (bytes old new : List ℕ) → ℕ → Type 0 where
       Prints x.0.now x.1.0.now y.1.0.now r
 
 -- at the place a of the buffer `old`, before a reply of this kind; b is the place behind
-pub data PutsBefore : (kind : ℕ) (p : PreviewShown) (old new : List ℕ) (a b : ℕ) → Type 0 where
+pub data PutsBefore : (kind : ℕ) (p : Option (Result Preview Refusal)) (old new : List ℕ) (a b : ℕ) → Type 0 where
   puts_before :
       (κs : Lfts 1) (x : ArgsD before_signature κs) (r : ℕ) (y : AtExit (ended_of 1 before_kinds.ps before_kinds.r) κs) →
       before_reads.Post κs x r y → PutsBefore x.1.1.0 x.1.1.1.0 x.0.now y.0.now x.1.0 r
 
 -- below it
-pub data PutsBelow : (kind : ℕ) (accepted : Bool) (p : PreviewShown) (s : Settled) (awards old new : List ℕ) (a b : ℕ) → Type 0 where
+pub data PutsBelow : (kind : ℕ) (accepted : Bool) (p : Option (Result Preview Refusal)) (s : Option Settlement) (awards old new : List ℕ) (a b : ℕ) → Type 0 where
   puts_below :
       (κs : Lfts 1) (x : ArgsD below_signature κs) (r : ℕ) (y : AtExit (ended_of 1 below_kinds.ps below_kinds.r) κs) → below_reads.Post κs x r y →
       PutsBelow x.1.1.0 x.1.1.1.0 x.1.1.1.1.0 x.1.1.1.1.1.0 x.1.1.1.1.1.1.0 x.0.now y.0.now x.1.0 r
@@ -149,11 +150,11 @@ module _ {M : Type 1} (e : TraceStated M) where
   point_asks_room κs x h = e.point_asks κs x h
 
   pub before_returned :
-      {kind : ℕ} {p : PreviewShown} {old new : List ℕ} {a b : ℕ} → PutsBefore kind p old new a b → Puts (lines_before kind p) 100 old new a b
+      {kind : ℕ} {p : Option (Result Preview Refusal)} {old new : List ℕ} {a b : ℕ} → PutsBefore kind p old new a b → Puts (lines_before kind p) 100 old new a b
   before_returned (puts_before κs x r y q) = e.before_returns κs x r y q
 
   pub below_returned :
-      {kind : ℕ} {accepted : Bool} {p : PreviewShown} {t : Settled} {awards old new : List ℕ} {a b : ℕ} →
+      {kind : ℕ} {accepted : Bool} {p : Option (Result Preview Refusal)} {t : Option Settlement} {awards old new : List ℕ} {a b : ℕ} →
       PutsBelow kind accepted p t awards old new a b → Puts (lines_below kind accepted p t awards) 3000 old new a b
   below_returned (puts_below κs x r y q) = e.below_returns κs x r y q
 
@@ -162,13 +163,13 @@ module _ {M : Type 1} (e : TraceStated M) where
       Puts (point_line price before after) 100 old new a b
   point_returned (puts_point κs x r y q) = e.point_returns κs x r y q
 
-  pub preview_before : (kind : ℕ) (p : PreviewShown) → (kind ≡ 5 → lines_before kind p ≡ preview_line p) × ((kind ≡ 5 → ⊥) → lines_before kind p ≡ [])
+  pub preview_before : (kind : ℕ) (p : Option (Result Preview Refusal)) → (kind ≡ 5 → lines_before kind p ≡ preview_line p) × ((kind ≡ 5 → ⊥) → lines_before kind p ≡ [])
   preview_before kind p = e.lines_before_lem kind p
 
   pub words_below :
-      (kind : ℕ) (p : PreviewShown) (accepted : Bool) (t : Settled) (awards : List ℕ) →
+      (kind : ℕ) (p : Option (Result Preview Refusal)) (accepted : Bool) (t : Option Settlement) (awards : List ℕ) →
       (accepted ≡ false → lines_below kind accepted p t awards ≡ [])
-      × (accepted ≡ true → kind ≡ 5 → lines_below kind accepted p t awards ≡ closed_lines p.excess p.remainder)
+      × (accepted ≡ true → kind ≡ 5 → lines_below kind accepted p t awards ≡ closed_lines p)
       × (accepted ≡ true → kind ≡ 6 → lines_below kind accepted p t awards ≡ settled_lines t awards)
       × ((kind ≡ 5 → ⊥) → (kind ≡ 6 → ⊥) → lines_below kind accepted p t awards ≡ [])
   words_below kind p accepted t awards = e.lines_below_lem kind p accepted t awards
@@ -181,11 +182,11 @@ module _ {M : Type 1} (e : TraceStated M) where
 
 module _ {M : Type 1} (s : EngineCorrect M) {old new new' : List ℕ} {a b b' : ℕ} where
   pub same_before :
-      (kind : ℕ) (p : PreviewShown) → PutsBefore kind p old new a b → PutsBefore kind p old new' a b' → (b ≡ b') × (new ≡ new')
+      (kind : ℕ) (p : Option (Result Preview Refusal)) → PutsBefore kind p old new a b → PutsBefore kind p old new' a b' → (b ≡ b') × (new ≡ new')
   same_before kind p w v = let e = of_trace (of_programs s) in text_decided e _ _ _ _ _ _ _ _ (before_returned e w) (before_returned e v)
 
   pub same_below :
-      (kind : ℕ) (accepted : Bool) (p : PreviewShown) (t : Settled) (awards : List ℕ) → PutsBelow kind accepted p t awards old new a b →
+      (kind : ℕ) (accepted : Bool) (p : Option (Result Preview Refusal)) (t : Option Settlement) (awards : List ℕ) → PutsBelow kind accepted p t awards old new a b →
       PutsBelow kind accepted p t awards old new' a b' → (b ≡ b') × (new ≡ new')
   same_below kind accepted p t awards w v =
       let e = of_trace (of_programs s) in text_decided e _ _ _ _ _ _ _ _ (below_returned e w) (below_returned e v)

@@ -1,6 +1,6 @@
 -- READ OUT, lists that reach one auction: a cancelled offer is as if never made (document 02, 7), and developers' own calls may arrive in any order
 -- (document 02, 12). What is answered along them stands in OtherOrders.
-use Rattle.std.specs.Prelude.{ℕ, ◌≡◌, List, ◌++◌}
+use Rattle.std.specs.Prelude.{ℕ, ◌≡◌, List, ◌++◌, Result}
 use contract.Lifetimes.{Lfts}
 use denote.Triple.Clauses.{AtExit}
 use borrow.Fn.World.{ArgsD}
@@ -11,7 +11,8 @@ use Rattle.rules_auction.specs.Rounds.{step_all, Answered}
 use Rattle.laws_arrival.specs.cancelling.TakenBack.{own, TakenBack, taken, never_made}
 use Rattle.laws_arrival.specs.arrival.Arrival.{Reordered, answered_from, all_accepted, Alike}
 use Rattle.engine_auction.specs.declared.Auction.{Auction}
-use Rattle.engine_settling.specs.declared.Settled.{Settled}
+use Rattle.engine_refusals.specs.declared.Refusal.{Refusal}
+use Rattle.engine_settling.specs.declared.Settlement.{Settlement}
 use Rattle.engine_settling.specs.contracts.settle.{signature}
 use Rattle.engine_settling.proofs.settle.Kinds as kinds
 use Rattle.engine_settling.proofs.settle.Reads as settle
@@ -26,7 +27,7 @@ module _ {cs cs' : List Call} (e : EqualAuctions cs cs') where
   one_auction w v = e.auctions w v
 
   pub one_settling :
-      {rs rs' : List Answered} (κs κs' : Lfts 1) (x : ArgsD signature κs) (x' : ArgsD signature κs') (r r' : Settled)
+      {rs rs' : List Answered} (κs κs' : Lfts 1) (x : ArgsD signature κs) (x' : ArgsD signature κs') (r r' : Result Settlement Refusal)
       (y : AtExit (ended_of 1 kinds.ps kinds.r) κs) (y' : AtExit (ended_of 1 kinds.ps kinds.r) κs') → Run cs rs x.0 → Run cs' rs' x'.0 →
       x.1.0 ≡ x'.1.0 → x.1.1.0.now ≡ x'.1.1.0.now → settle.Post κs x r y → settle.Post κs' x' r' y' →
       (r ≡ r') × (y.1.1.0.now ≡ y'.1.1.0.now)

@@ -1,6 +1,6 @@
 -- READ OUT, the sealed auction for long builds (document 02, 13): whatever the arguments x, ceiling, demand, prices, quantities, minimums, ages and the
 -- buffer; y are the same at the call's end.
-use Rattle.std.specs.Prelude.{ℕ, ◌≤◌, ◌<◌, ◌≡◌, ◌⊎◌, true, List, length}
+use Rattle.std.specs.Prelude.{ℕ, ◌≤◌, ◌<◌, ◌≡◌, ◌⊎◌, true, List, length, Result}
 use contract.Lifetimes.{Lfts}
 use denote.Triple.Clauses.{AtExit}
 use borrow.Fn.World.{ArgsD}
@@ -10,7 +10,8 @@ use Rattle.rules_numbers.specs.reordering.Exchanges.{SameOfEach}
 use Rattle.rules_sealed.specs.Sealed.{Book, book_of, size, offer_at, offers, book_ok, taking_order, award_at, awards, left_over, lent_refusal}
 use Rattle.rules_sealed.specs.InWords.{InWords, of_kind, awarded_offers, SameAwards}
 use Rattle.rules_sealed.specs.WordsDecide.{AsAsked}
-use Rattle.engine_sealed.specs.declared.sealed_auction.Lent.{Lent}
+use Rattle.engine_refusals.specs.declared.Refusal.{Refusal}
+use Rattle.engine_sealed.specs.sealed_auction.Cleared.{Lent, lent_in}
 use Rattle.engine_sealed.specs.contracts.sealed_auction.sealed_auction.{signature}
 use Rattle.engine_sealed.proofs.sealed_auction.sealed_auction.Kinds as kinds
 use Rattle.engine_sealed.proofs.sealed_auction.sealed_auction.Reads as sealing
@@ -52,9 +53,9 @@ module _ {M : Type 1} (s : EngineCorrect M) where
 
   -- whatever the arguments, as said above
   pub sealed_stated :
-      (κs : Lfts 5) (x : ArgsD signature κs) (r : Lent) (y : AtExit (ended_of 5 kinds.ps kinds.r) κs) → sealing.Post κs x r y →
+      (κs : Lfts 5) (x : ArgsD signature κs) (r : Result ℕ Refusal) (y : AtExit (ended_of 5 kinds.ps kinds.r) κs) → sealing.Post κs x r y →
       SealedAnswered x.0 x.1.0 (book_of x.1.1.0.now x.1.1.1.0.now x.1.1.1.1.0.now x.1.1.1.1.1.0.now)
-      x.1.1.1.1.1.1.0.now y.1.1.1.1.1.1.0.now r
+      x.1.1.1.1.1.1.0.now y.1.1.1.1.1.1.0.now (lent_in r)
   sealed_stated κs x r y q = s.sealed.answered κs x r y q
 
   -- accepted, the request's words decide it

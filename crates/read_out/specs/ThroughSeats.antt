@@ -1,5 +1,5 @@
 -- READ OUT, through the seats of a hall (document 02, 14): what a server's author may promise to each seat.
-use Rattle.std.specs.Prelude.{ℕ, ◌≡◌, true, false, cond, ◌&&◌, List, [], ◌∷◌, ◌++◌, eqb}
+use Rattle.std.specs.Prelude.{ℕ, ◌≡◌, true, false, cond, ◌&&◌, List, [], ◌∷◌, ◌++◌, eqb, Result}
 use Rattle.std.proofs.Common.{sym, ◌∙◌}
 use contract.Lifetimes.{Lfts}
 use denote.Triple.Clauses.{AtExit}
@@ -18,8 +18,9 @@ use Rattle.hall.specs.declared.seat_readings.Reading.{Reading}
 use Rattle.seats.specs.Rights.{seat_in}
 use Rattle.seats.specs.declared.Seat.TheVariants.{Developer}
 use Rattle.seats.specs.declared.Seat.{Seat}
-use Rattle.engine_settling.specs.Settles.{refused_with}
-use Rattle.engine_settling.specs.declared.Settled.{Settled}
+use Rattle.engine_refusals.specs.declared.Refusal.{Refusal}
+use Rattle.engine_settling.specs.Settles.{settled_in, refused_with}
+use Rattle.engine_settling.specs.declared.Settlement.{Settlement}
 use Rattle.hall.specs.contracts.hall_readings.settle.{signature}
 use Rattle.hall.proofs.hall_readings.settle.Kinds as kinds
 use Rattle.hall.proofs.hall_readings.settle.Reads as settle
@@ -118,17 +119,17 @@ module _ {M : Type 1} (s : EngineCorrect M) where
 
   -- ---- settling through a seat: the arguments x are the hall, the seat, the limit, the buffer
 
-  module _ (κs : Lfts 1) (x : ArgsD signature κs) (r : Settled) (y : AtExit (ended_of 1 kinds.ps kinds.r) κs) (q : settle.Post κs x r y) where
+  module _ (κs : Lfts 1) (x : ArgsD signature κs) (r : Result Settlement Refusal) (y : AtExit (ended_of 1 kinds.ps kinds.r) κs) (q : settle.Post κs x r y) where
     -- without the right: 20, and the buffer is as it was
-    pub settling_barred : may_settle (seat_in x.1.0) ≡ false → (r ≡ refused_with 20) × (y.1.1.1.0.now ≡ x.1.1.1.0.now)
+    pub settling_barred : may_settle (seat_in x.1.0) ≡ false → (settled_in r ≡ refused_with 20) × (y.1.1.1.0.now ≡ x.1.1.1.0.now)
     settling_barred e = s.seats.settling_barred κs x r y e q
 
     -- by whichever number it is refused
-    pub settling_refused : (r.number ≡ 0 → ⊥) → (r ≡ refused_with r.number) × (y.1.1.1.0.now ≡ x.1.1.1.0.now)
+    pub settling_refused : let a = settled_in r in (a.number ≡ 0 → ⊥) → (a ≡ refused_with a.number) × (y.1.1.1.0.now ≡ x.1.1.1.0.now)
     settling_refused z = s.untouched.refused_hall_settling κs x r y q z
 
     -- with the right: as is stated of the permitted calls
     pub settling_through :
         {es : List Entry} {rs : List Answered} → SeatedRun es rs x.0.auction → may_settle (seat_in x.1.0) ≡ true →
-        Stated (ledger (permitted es)) x.1.1.0 x.1.1.1.0.now y.1.1.1.0.now r
+        Stated (ledger (permitted es)) x.1.1.0 x.1.1.1.0.now y.1.1.1.0.now (settled_in r)
     settling_through w e = s.seats.settles κs x r y w e q

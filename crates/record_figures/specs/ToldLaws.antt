@@ -1,5 +1,5 @@
 -- From what is told of the auction behind a session to what a seat is told of it: 20 without the right, else the same.
-use Rattle.std.specs.Prelude.{ℕ, ◌-◌, ◌^◌, ◌≡◌, Bool, eqb, length}
+use Rattle.std.specs.Prelude.{ℕ, ◌-◌, ◌^◌, ◌≡◌, Bool, Result, Ok, Err, eqb, length}
 use Rattle.std.proofs.Math.Path.{refl, ap₂}
 use Rattle.std.proofs.Common.{ap, ◌∙◌, subst}
 use Rattle.std.proofs.Math.Bool.{true, false, cond}
@@ -21,14 +21,18 @@ use Rattle.seats.specs.seat_numbers.ByteSeatLaws.{held_reads}
 use Rattle.rules_seats.specs.sessions.SessionFigures.{seat_may, session_reading_refusal, session_reading, session_preview_refusal, session_preview}
 use Rattle.rules_seats.specs.sessions.SessionFigures.{session_curve_refusal, session_curve}
 use Rattle.rules_seats.specs.sessions.SessionFigures.{session_settlement_refusal, session_settlement}
-use Rattle.figure_writing.specs.lent_numbers.Lent.{GivesFigures, Counts}
-use Rattle.figure_writing.specs.declared.Counted.{Counted}
-use Rattle.record_replay.specs.host_numbers.HostNumbers.{value_answer, host_number}
+use Rattle.engine_refusals.specs.declared.Refusal.{Refusal}
+use Rattle.figure_writing.specs.lent_numbers.Lent.{GivesFigures, Counted, counted_in, Counts}
+use Rattle.record_replay.specs.host_numbers.HostNumbers.{value_answer, answered, host_number}
 use Rattle.record_replay.specs.record_auction.Leaves.{ledger_of, record_ledger_of, session_ledger_of}
 use Rattle.record_figures.specs.Told.{Tells, TellsBoth, TellsState, TellsPreview, TellsCurve, TellsSettlement, TellsReading, TellsPreviewThrough}
 use Rattle.record_figures.specs.Told.{TellsCurveThrough, TellsSettlementThrough}
 
 -- ---- from what is written into the lent numbers
+
+pub counted_answer : (t : Result ℕ Refusal) → answered t ≡ value_answer (counted_in t).number (counted_in t).count
+counted_answer (Ok n) = refl
+counted_answer (Err e) = refl
 
 module _ (figures old new : List ℕ) (r : ℕ) where
   pub gives_tells : (m n : ℕ) → GivesFigures m figures old new n → r ≡ host_number (value_answer n 0) →

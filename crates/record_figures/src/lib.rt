@@ -16,8 +16,8 @@ pub fn state(bytes: &[u8], figures: &mut [u64]) -> u64
 {
     let after = record_auction::after(bytes, false);
     let closings = after.closings as u64;
-    let refusal = figure_writing::state(after.auction, after.excess, closings, figures);
-    host_numbers::host_number(refusal, 0)
+    let state = figure_writing::state(after.auction, after.excess, closings, figures);
+    host_numbers::bare_number(state)
 }
 
 // What closing would answer now (document 02, 6).
@@ -25,8 +25,8 @@ pub fn preview(bytes: &[u8], seated: bool, figures: &mut [u64]) -> u64
     ensures { TellsPreview (ledger_of seated bytes.now) figures.old figures.new result }
 {
     let open = record_auction::after(bytes, seated);
-    let refused = closing_preview::previewed(open.auction, figures);
-    host_numbers::host_number(refused, 0)
+    let preview = closing_preview::previewed(open.auction, figures);
+    host_numbers::bare_number(preview)
 }
 
 // The supply curve (document 02, 9): the number of its points.
@@ -34,8 +34,7 @@ pub fn curve(bytes: &[u8], seated: bool, points: &mut [u64]) -> u64
     ensures { TellsCurve (ledger_of seated bytes.now) points.old points.new result }
 {
     let after = record_auction::after(bytes, seated);
-    let told = figure_writing::curve(after.auction, points);
-    host_numbers::host_number(told.number, told.count)
+    host_numbers::host_number(figure_writing::curve(after.auction, points))
 }
 
 // The settlement (document 01, Award), with its award records in lent bytes.
@@ -50,6 +49,6 @@ pub fn settlement(
         awards.new result }
 {
     let closed = record_auction::after(bytes, seated);
-    let number = figure_writing::settlement(closed.auction, limit, figures, awards);
-    host_numbers::host_number(number, 0)
+    let settlement = figure_writing::settlement(closed.auction, limit, figures, awards);
+    host_numbers::bare_number(settlement)
 }

@@ -2,7 +2,7 @@
 // refused by 20 before the session is read.
 ghost use Rattle.record_figures.specs.Told.{TellsReading, TellsPreviewThrough, TellsCurveThrough, TellsSettlementThrough};
 
-use engine_refusals::NO_RIGHT;
+use engine_refusals::Refusal;
 use record_replay::{host_numbers, record_auction};
 use seats::seat_numbers;
 
@@ -11,19 +11,18 @@ pub fn reading(bytes: &[u8], kind: u64, number: u64, figures: &mut [u64]) -> u64
     ensures { TellsReading bytes.now kind number figures.old figures.new result }
 {
     if !seat_numbers::names_seat(kind, number) {
-        return host_numbers::host_number(NO_RIGHT, 0);
+        return host_numbers::host_number(Err(Refusal::NoRight));
     }
     let seat = seat_numbers::seat_by(kind, number);
     let after = record_auction::after(bytes, true);
-    let told = figure_writing::reading(after.auction, after.excess, seat, figures);
-    host_numbers::host_number(told.number, told.count)
+    host_numbers::host_number(figure_writing::reading(after.auction, after.excess, seat, figures))
 }
 
 pub fn preview(bytes: &[u8], kind: u64, number: u64, figures: &mut [u64]) -> u64
     ensures { TellsPreviewThrough bytes.now kind number figures.old figures.new result }
 {
     if !seat_numbers::conducts_by(kind, number) {
-        return host_numbers::host_number(NO_RIGHT, 0);
+        return host_numbers::host_number(Err(Refusal::NoRight));
     }
     crate::preview(bytes, true, figures)
 }
@@ -32,7 +31,7 @@ pub fn curve(bytes: &[u8], kind: u64, number: u64, points: &mut [u64]) -> u64
     ensures { TellsCurveThrough bytes.now kind number points.old points.new result }
 {
     if !seat_numbers::conducts_by(kind, number) {
-        return host_numbers::host_number(NO_RIGHT, 0);
+        return host_numbers::host_number(Err(Refusal::NoRight));
     }
     crate::curve(bytes, true, points)
 }
@@ -49,7 +48,7 @@ pub fn settlement(
         awards.new result }
 {
     if !seat_numbers::settles_by(kind, number) {
-        return host_numbers::host_number(NO_RIGHT, 0);
+        return host_numbers::host_number(Err(Refusal::NoRight));
     }
     crate::settlement(bytes, true, limit, figures, awards)
 }

@@ -21,8 +21,5 @@ pub fn frame_part(line: &[u8], seated: bool) -> &[u8]
 pub fn is_barred(line: &[u8], seated: bool, frame: Frame) -> bool
     ensures { result ≡ barred_by seated line.now frame.kind (get_or (fields_in frame) 0 0) }
 {
-    if !seated {
-        return false;
-    }
-    session_lines::is_barred(line, frame.kind, arguments::field(frame, 0))
+    seated && session_lines::is_barred(line, frame.kind, arguments::field(frame, 0))
 }

@@ -33,10 +33,18 @@ use Rattle.record_lines.specs.record_start.Begins.{Begins}
 use Rattle.record_lines.specs.declared.record_start.Begun.{Begun}
 use Rattle.record_replies.specs.Runs.{Runs}
 use Rattle.record_replies.specs.declared.Ran.{Ran}
-use Rattle.record_replay.specs.host_numbers.HostNumbers.{value_answer, host_number}
+use Rattle.std.specs.Prelude.{Result, Ok, Err}
+use Rattle.engine_refusals.specs.Numbers.{number_in, after}
+use Rattle.engine_refusals.specs.NumberLaws.{number_not_0}
+use Rattle.engine_refusals.specs.declared.Refusal.{Refusal}
+use Rattle.engine_refusals.specs.declared.Refusal.TheVariants.{BufferTooShort}
+use Rattle.record_replay.specs.host_numbers.HostNumbers.{answered, host_number}
 use Rattle.record_replay.specs.Replayed.{replies_of, over, Replied, Fitted, hosted, printed}
 
 -- ---- a text where it fits
+
+abbrev number : Result ℕ Refusal → ℕ
+number r = number_in r
 
 module _ (t o : List ℕ) where
   over_yes : length t ≤ length o → over t o ≡ laid t o
@@ -47,33 +55,34 @@ module _ (t o : List ℕ) where
   unfolding over
   over_no h = rw (lt-leb (length t) (length o) h)
 
-  fitted_yes : (out : List ℕ) (r : ℕ) → length t ≤ length o → r ≡ length t → out ≡ laid t o → Fitted t o out r
-  fitted_yes out r h e w = record { text = w ∙ sym (over_yes h); size = λ _. e; beyond = λ g. absurd (omega arith) }
+  fitted_yes : (out : List ℕ) (n : ℕ) → length t ≤ length o → n ≡ length t → out ≡ laid t o → Fitted t o out (Ok n)
+  fitted_yes out n h e w = record { text = w ∙ sym (over_yes h); size = λ _. ap (λ (k : ℕ). Ok k) e; beyond = λ g. absurd (omega arith) }
 
-  fitted_no : (r : ℕ) → length o < length t → length o < r → Fitted t o o r
-  fitted_no r h g = record { text = sym (over_no h); size = λ f. absurd (omega arith); beyond = λ _. g }
+  fitted_no : length o < length t → Fitted t o o (Err BufferTooShort)
+  fitted_no h = record { text = sym (over_no h); size = λ f. absurd (omega arith); beyond = λ _. refl }
 
-  module _ (out : List ℕ) (r : ℕ) (f : Fitted t o out r) where
-    fits_all : r ≤ length o → length t ≤ length o
-    fits_all h = ⊎_elim (λ g. g) (λ g. absurd (omega (arith, f.beyond g))) (le_or_lt (length t) (length o))
+  module _ (out : List ℕ) (n : ℕ) (f : Fitted t o out (Ok n)) where
+    fits_all : length t ≤ length o
+    fits_all = ⊎_elim (λ g. g) (λ g. absurd (omega (arith, ap number (f.beyond g)))) (le_or_lt (length t) (length o))
 
-    fits_not : length o < r → length o < length t
-    fits_not h = ⊎_elim (λ g. absurd (omega (arith, f.size g))) (λ g. g) (le_or_lt (length t) (length o))
-
-    pub fitted_written : r ≤ length o → (r ≡ length t) × (out ≡ laid t o)
-    fitted_written h = (f.size (fits_all h), f.text ∙ over_yes (fits_all h))
-
-    pub fitted_kept : length o < r → out ≡ o
-    fitted_kept h = f.text ∙ over_no (fits_not h)
+    pub fitted_written : (n ≡ length t) × (out ≡ laid t o)
+    fitted_written = (ap (after 0) (f.size fits_all), f.text ∙ over_yes fits_all)
 
     -- what a host gets
-    pub hosted_yes : r ≤ length o → r ≡ hosted t o
+    pub hosted_yes : n ≡ hosted t o
     unfolding hosted host_number
-    hosted_yes h = f.size (fits_all h) ∙ rw (le-leb (length t) (length o) (fits_all h))
+    hosted_yes = fitted_written.0 ∙ rw (le-leb (length t) (length o) fits_all)
 
-    pub hosted_no : length o < r → host_number (value_answer 11 0) ≡ hosted t o
+  module _ (out : List ℕ) (e : Refusal) (f : Fitted t o out (Err e)) where
+    fits_not : length o < length t
+    fits_not = ⊎_elim (λ g. absurd (number_not_0 e (ap number (f.size g)))) (λ g. g) (le_or_lt (length t) (length o))
+
+    pub fitted_kept : out ≡ o
+    fitted_kept = f.text ∙ over_no fits_not
+
+    pub hosted_no : host_number (answered (Err e)) ≡ hosted t o
     unfolding hosted host_number
-    hosted_no h = rw (lt-leb (length t) (length o) (fits_not h))
+    hosted_no = ap (λ (r : Result ℕ Refusal). host_number (answered r)) (f.beyond fits_not) ∙ rw (lt-leb (length t) (length o) fits_not)
 
 -- ---- the replies of a run
 
@@ -93,7 +102,7 @@ module _ (s : List ℕ) (limit : ℕ) (o out : List ℕ) (b : Begun) (d : Begins
       (put_replied _ _ _ _ _ (all_replied _ _ _ _ _ _ _ _ _ _ _ d h))
 
   -- the run over those behind them
-  pub begun_run : (a : Auction) (out' : List ℕ) (r : Ran) → a ≡ with_clock (held_auction start) b.phase b.settings b.opening b.closing →
+  pub begun_run : (a : Auction) (out' : List ℕ) (r : Ran) → a ≡ with_clock (held_auction start) b.clock →
       Runs a s false b.read limit b.written out out' r → Replied (replies s) limit o out' r.written
   unfolding ledger step_all
   begun_run a out' r e w = subst (λ (t : List ℕ). Replied t limit o out' r.written) (record_replies_read s)
@@ -121,7 +130,7 @@ replies_most true s = rw (sym (behind_seats (lines s))) (session_replies_few s)
 
 -- into a buffer that is surely long enough
 pub replied_surely : (seated : Bool) (place : ℕ) (s o out : List ℕ) (r : ℕ) → place ≡ cond seated 5 1 → leb (most_by_all place s) (length o) ≡ true →
-    Replied (replies_of seated s) (length o) o out r → Fitted (replies_of seated s) o out r
+    Replied (replies_of seated s) (length o) o out r → Fitted (replies_of seated s) o out (Ok r)
 replied_surely seated place s o out r ep e w =
     let h : length (replies_of seated s) ≤ length o =
     omega (arith, leb-true (most_by_all place s) (length o) e, ap (λ (k : ℕ). most_by_all k s) ep, replies_most seated s) in
@@ -129,13 +138,13 @@ replied_surely seated place s o out r ep e w =
 
 -- into other bytes b first, now x, with the buffer's length as the limit
 module _ (t o b x : List ℕ) (n : ℕ) (w : Replied t (length o) b x n) where
-  pub tried_over : length o < n → Fitted t o o n
-  tried_over h = ⊎_elim (λ f. absurd (omega (arith, w.fits f))) (λ g. fitted_no t o n g h) (le_or_lt (length t) (length o))
+  pub tried_over : length o < n → Fitted t o o (Err BufferTooShort)
+  tried_over h = ⊎_elim (λ f. absurd (omega (arith, w.fits f))) (λ g. fitted_no t o g) (le_or_lt (length t) (length o))
 
   tried_fits : n ≤ length o → (length t ≤ length o) × (n ≡ length t)
   tried_fits h = ⊎_elim (λ f. (f, w.fits f)) (λ g. absurd (omega (arith, w.over g))) (le_or_lt (length t) (length o))
 
-  pub tried_copied : n ≤ length o → n ≤ length b → (out : List ℕ) → out ≡ laid (take n x) o → Fitted t o out n
+  pub tried_copied : n ≤ length o → n ≤ length b → (out : List ℕ) → out ≡ laid (take n x) o → Fitted t o out (Ok n)
   unfolding laid
   tried_copied h g out e =
       let f = tried_fits h in
@@ -143,7 +152,7 @@ module _ (t o b x : List ℕ) (n : ℕ) (w : Replied t (length o) b x n) where
       fitted_yes t o out n f.0 f.1 (e ∙ ap (λ (y : List ℕ). laid y o) p)
 
   -- and once more into the buffer itself
-  pub tried_again : n ≤ length o → (out : List ℕ) (r : ℕ) → Replied t n o out r → Fitted t o out r
+  pub tried_again : n ≤ length o → (out : List ℕ) (r : ℕ) → Replied t n o out r → Fitted t o out (Ok r)
   tried_again h out r v =
       let f = tried_fits h in
       let m : length t ≤ n = omega arith in
@@ -184,23 +193,23 @@ module _ (s : List ℕ) where
   print_long h o out n w = prints _ o out n (rw (lt-leb (length s) 65536 h)) (omega (arith, refusal_length)) w
 
   -- by the replies in the buffer's first 65,536 bytes
-  module _ (h : length s ≤ 65536) (o ys : List ℕ) (m : 65536 ≤ length o) (n : ℕ) (f : Fitted (replies s) (take 65536 o) ys n) where
+  module _ (h : length s ≤ 65536) (o ys : List ℕ) (m : 65536 ≤ length o) where
     front : length (take 65536 o) ≡ 65536
     front = length-take-le 65536 o m
 
-    pub print_replies : n ≤ 65536 → Prints o (ys ++ drop 65536 o) n
+    pub print_replies : (n : ℕ) → Fitted (replies s) (take 65536 o) ys (Ok n) → Prints o (ys ++ drop 65536 o) n
     unfolding printed
-    print_replies y =
-        let w = fitted_written (replies s) (take 65536 o) ys n f (omega (arith, front)) in
-        let g : length (replies s) ≤ 65536 = omega (arith, w.0) in
+    print_replies n f =
+        let w = fitted_written (replies s) (take 65536 o) ys n f in
+        let g : length (replies s) ≤ 65536 = omega (arith, fits_all (replies s) (take 65536 o) ys n f, front) in
         prints (replies s) o _ n (rw (le-leb (length s) 65536 h, le-leb (length (replies s)) 65536 g)) g
         (w.0, ap (λ (l : List ℕ). l ++ drop 65536 o) w.1 ∙ front_laid (replies s) o 65536 g m)
 
-    pub print_over : 65536 < n → (out : List ℕ) (k : ℕ) → (k ≡ length (answer_line 255 11 [])) × (out ≡ laid (answer_line 255 11 []) (ys ++ drop 65536 o)) →
+    pub print_over : (e : Refusal) → Fitted (replies s) (take 65536 o) ys (Err e) → (out : List ℕ) (k : ℕ) → (k ≡ length (answer_line 255 11 [])) × (out ≡ laid (answer_line 255 11 []) (ys ++ drop 65536 o)) →
         Prints o out k
     unfolding printed
-    print_over y out k w =
-        let e = fitted_kept (replies s) (take 65536 o) ys n f (omega (arith, front)) in
-        let g : 65536 < length (replies s) = omega (arith, fits_not (replies s) (take 65536 o) ys n f (omega (arith, front)), front) in
+    print_over refusal f out k w =
+        let e = fitted_kept (replies s) (take 65536 o) ys refusal f in
+        let g : 65536 < length (replies s) = omega (arith, fits_not (replies s) (take 65536 o) ys refusal f, front) in
         prints (answer_line 255 11 []) o out k (rw (le-leb (length s) 65536 h, lt-leb (length (replies s)) 65536 g)) (omega (arith, refusal_length))
         (w.0, w.1 ∙ ap (laid (answer_line 255 11 [])) (ap (λ (l : List ℕ). l ++ drop 65536 o) e ∙ take-append-drop 65536 o))

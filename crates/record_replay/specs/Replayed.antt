@@ -1,8 +1,10 @@
 -- A text in a lent buffer, the number that a host is given for it, and what the program prints (document 01, Frames).
-use Rattle.std.specs.Prelude.{ℕ, ◌≤◌, ◌<◌, ◌≡◌, Bool, cond, ◌&&◌, List, [], leb, length}
+use Rattle.std.specs.Prelude.{ℕ, ◌≤◌, ◌<◌, ◌≡◌, Bool, cond, ◌&&◌, List, [], leb, length, Result, Ok, Err}
 use Rattle.rules_numbers.specs.Tails.{laid}
 use Rattle.rules_replies.specs.Replies.{answer_line, replies}
 use Rattle.rules_seats.specs.sessions.Sessions.{session_replies}
+use Rattle.engine_refusals.specs.declared.Refusal.{Refusal}
+use Rattle.engine_refusals.specs.declared.Refusal.TheVariants.{BufferTooShort}
 use Rattle.record_replay.specs.host_numbers.HostNumbers.{value_answer, host_number}
 
 -- the replies to a record or, where `seated` says so, to a session
@@ -19,11 +21,11 @@ pub record Replied (t : List ℕ) (limit : ℕ) (o out : List ℕ) (r : ℕ) : T
 unfoldable pub over : List ℕ → List ℕ → List ℕ
 over t o = cond (leb (length t) (length o)) (laid t o) o
 
--- such a text: r is its length, or more than the buffer's
-pub record Fitted (t o out : List ℕ) (r : ℕ) : Type 0 where
+-- such a text: its length is told, or that the buffer is too short
+pub record Fitted (t o out : List ℕ) (r : Result ℕ Refusal) : Type 0 where
   pub text : out ≡ over t o
-  pub size : length t ≤ length o → r ≡ length t
-  pub beyond : length o < length t → length o < r
+  pub size : length t ≤ length o → r ≡ Ok (length t)
+  pub beyond : length o < length t → r ≡ Err BufferTooShort
 
 -- what a host gets: how many bytes were written, or refusal 11 where the buffer is too short
 unfoldable pub hosted : List ℕ → List ℕ → ℕ

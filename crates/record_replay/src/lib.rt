@@ -9,6 +9,7 @@ ghost use Rattle.reply_writing.specs.Placed.{most};
 ghost use Rattle.record_replay.specs.Replayed.{replies_of, hosted, over, Replied, Fitted, longest_record, printed};
 
 use engine_auction::Auction;
+use engine_refusals::Refusal;
 use record_lines::record_start;
 use reply_writing::reply_bound;
 
@@ -23,18 +24,6 @@ const LONGEST_RECORD: usize = 65_536;
 // Bytes that replies are written to first where their lines leave open whether they fit: a record of ordinary size is then read once. Each such replay
 // clears them, and the stack has them besides what the calls take (include/reference_engine.h), so there are no more.
 const SCRATCH: usize = 24_576;
-
-// Copies bytes to the start of a buffer; those behind them stay.
-fn copy(bytes: &[u8], out: &mut [u8])
-    requires { length bytes.now ≤ length out.old }
-    ensures { out.new ≡ laid bytes.now out.old }
-{
-    let mut i: usize = 0;
-    while i < bytes.len() {
-        out[i] = bytes[i];
-        i += 1;
-    }
-}
 
 // The replies to a session, from a fresh hall on: their number of bytes.
 fn run_session(bytes: &[u8], limit: usize, out: &mut [u8]) -> usize
@@ -59,33 +48,34 @@ fn run_fresh(bytes: &[u8], seated: bool, limit: usize, out: &mut [u8]) -> usize
     if bytes.len() <= begun.read {
         return begun.written;
     }
-    let settings = begun.settings;
     let mut auction = Auction::new();
-    auction.phase = begun.phase;
-    auction.settings = settings;
-    auction.opening = begun.opening;
-    auction.closing = begun.closing;
+    auction.clock = begun.clock;
     let ran = record_replies::run(auction, bytes, false, begun.read, limit, begun.written, out);
     ran.written
 }
 
 // Writes the replies, if they fit, through a scratch buffer: from there they are copied. What is too long for it is computed again.
-fn replies_by_scratch(bytes: &[u8], seated: bool, scratch: &mut [u8], out: &mut [u8]) -> usize
+fn replies_by_scratch(
+    bytes: &[u8],
+    seated: bool,
+    scratch: &mut [u8],
+    out: &mut [u8],
+) -> Result<usize, Refusal>
     ensures { Fitted (replies_of seated bytes.now) out.old out.new result }
 {
     let room = out.len();
     let n = run_fresh(bytes, seated, room, scratch);
     if room < n {
-        return n;
+        return Err(Refusal::BufferTooShort);
     }
     if n <= scratch.len() {
-        copy(&scratch[..n], out);
-        return n;
+        out[..n].copy_from_slice(&scratch[..n]);
+        return Ok(n);
     }
-    run_fresh(bytes, seated, n, out)
+    Ok(run_fresh(bytes, seated, n, out))
 }
 
-fn replies_tried(bytes: &[u8], seated: bool, out: &mut [u8]) -> usize
+fn replies_tried(bytes: &[u8], seated: bool, out: &mut [u8]) -> Result<usize, Refusal>
     ensures { Fitted (replies_of seated bytes.now) out.old out.new result }
 {
     let mut scratch = [0u8; SCRATCH];
@@ -96,19 +86,16 @@ fn replies_tried(bytes: &[u8], seated: bool, out: &mut [u8]) -> usize
 fn kind_place(seated: bool) -> usize
     ensures { result ≡ cond seated 5 1 }
 {
-    if seated {
-        return 5;
-    }
-    1
+    if seated { 5 } else { 1 }
 }
 
-// Writes the replies, if they fit: how many bytes they have, or more than the buffer has.
-fn replies_in(bytes: &[u8], seated: bool, out: &mut [u8]) -> usize
+// Writes the replies, if they fit: how many bytes they have.
+fn replies_in(bytes: &[u8], seated: bool, out: &mut [u8]) -> Result<usize, Refusal>
     ensures { Fitted (replies_of seated bytes.now) out.old out.new result }
 {
     let room = out.len();
     if reply_bound::enough(bytes, kind_place(seated), room) {
-        return run_fresh(bytes, seated, room, out);
+        return Ok(run_fresh(bytes, seated, room, out));
     }
     replies_tried(bytes, seated, out)
 }
@@ -118,12 +105,10 @@ fn replayed(bytes: &[u8], seated: bool, out: &mut [u8]) -> u64
     ensures value { result ≡ hosted (replies_of seated bytes.now) out.old }
     ensures out_after { out.new ≡ over (replies_of seated bytes.now) out.old }
 {
-    let room = out.len();
-    let n = replies_in(bytes, seated, out);
-    if n <= room {
-        return n as u64;
+    match replies_in(bytes, seated, out) {
+        Ok(n) => n as u64,
+        Err(refusal) => host_numbers::host_number(Err(refusal)),
     }
-    host_numbers::host_number(engine_refusals::BUFFER_TOO_SHORT, 0)
 }
 
 // Replays a record: how many bytes its replies have, or 2^64 less 11 where they do not fit the buffer.
@@ -147,7 +132,7 @@ fn put_refusal(out: &mut [u8]) -> usize
     requires { 5 ≤ length out.old }
     ensures { (result ≡ length (answer_line 255 11 [])) × (out.new ≡ laid (answer_line 255 11 []) out.old) }
 {
-    reply_writing::plain_at(out, 5, 0, 255, engine_refusals::BUFFER_TOO_SHORT)
+    reply_writing::plain_at(out, 5, 0, 255, u8::from(Refusal::BufferTooShort))
 }
 
 // Writes what the program prints for a record, and gives its number of bytes.
@@ -159,9 +144,8 @@ pub fn print(bytes: &[u8], out: &mut [u8]) -> usize
     if LONGEST_RECORD < bytes.len() {
         return put_refusal(out);
     }
-    let n = replies_in(bytes, false, &mut out[..LONGEST_RECORD]);
-    if LONGEST_RECORD < n {
-        return put_refusal(out);
+    match replies_in(bytes, false, &mut out[..LONGEST_RECORD]) {
+        Ok(n) => n,
+        Err(_) => put_refusal(out),
     }
-    n
 }

@@ -20,9 +20,8 @@ pub fn after(bytes: &[u8], seated: bool) -> Left
     let fresh = Auction::new();
     let mut nothing = [0u8; 1];
     let ran = record_replies::run(fresh, bytes, seated, 0, 0, 0, &mut nothing);
-    let auction = ran.auction;
     Left {
-        auction,
+        auction: ran.auction,
         excess: ran.excess,
         closings: ran.closings,
     }

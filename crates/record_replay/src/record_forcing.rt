@@ -1,29 +1,12 @@
 // Who can force the price in the auction that a record or a session leaves behind (document 02, 11). The best first move goes into a lent buffer.
-ghost use Rattle.std.specs.Prelude.{◌≡◌, cond};
 ghost use Rattle.record_replay.specs.record_auction.Leaves.{ledger_of};
-ghost use Rattle.record_replay.specs.record_forcing.Chosen.{Tells};
+ghost use Rattle.record_replay.specs.record_forcing.Chosen.{told_in, Tells};
 
 use crate::record_auction;
 use engine_looks::forcing;
+use engine_refusals::Refusal;
 
-// What is told: a refusal's number and 0, or 0 and the outcome.
-#[derive(Clone, Copy)]
-pub struct Told {
-    pub number: u8,
-    pub outcome: u32,
-}
-
-// A move as a byte: 1 where it withdraws.
-fn move_byte(withdraws: bool) -> u8
-    ensures { result ≡ cond withdraws 1 0 }
-{
-    if withdraws {
-        return 1;
-    }
-    0
-}
-
-// Makes the calls that a record or, where `seated` says so, a session asks, from a fresh auction, and tells who can force the price there.
+// Makes the calls that a record or, where `seated` says so, a session asks, from a fresh auction, and tells who can force the price there: the outcome.
 pub fn who_can_force(
     src: &[u8],
     seated: bool,
@@ -31,27 +14,16 @@ pub fn who_can_force(
     second: u64,
     prices: &[u64],
     chosen: &mut [u8],
-) -> Told
-    ensures { Tells (ledger_of seated src.now) first second prices.now chosen.old chosen.new result }
+) -> Result<u32, Refusal>
+    ensures { Tells (ledger_of seated src.now) first second prices.now chosen.old chosen.new (told_in result) }
 {
     let left = record_auction::after(src, seated);
     let auction = left.auction;
-    let forced = forcing::who_can_force(auction, first, second, prices);
-    if forced.number != 0 {
-        return Told {
-            number: forced.number,
-            outcome: 0,
-        };
+    let forced = forcing::who_can_force(auction, first, second, prices)?;
+    if chosen.is_empty() {
+        return Err(Refusal::BufferTooShort);
     }
-    if chosen.len() == 0 {
-        return Told {
-            number: engine_refusals::BUFFER_TOO_SHORT,
-            outcome: 0,
-        };
-    }
-    chosen[0] = move_byte(forced.withdraws);
-    Told {
-        number: 0,
-        outcome: forced.outcome,
-    }
+    // 1 withdraws, 0 keeps.
+    chosen[0] = u8::from(forced.withdraws);
+    Ok(forced.outcome)
 }

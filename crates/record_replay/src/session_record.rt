@@ -1,6 +1,6 @@
 // The plain record of a session (docs/FORMAT.md, sessions): the frames of all lines that 20 does not refuse, settlings among them and malformed lines left
 // out, each with its 0A. Nothing is written unless all fits.
-ghost use Rattle.std.specs.Prelude.{◌≡◌, ◌≤◌, leb, length, take, drop};
+ghost use Rattle.std.specs.Prelude.{◌≡◌, ◌≤◌, ◌<◌, [], IfSome, IfNone, leb, length, take, drop};
 ghost use Rattle.rules_numbers.specs.Tails.{laid};
 ghost use Rattle.rules_format.specs.Hex.{hex_number};
 ghost use Rattle.rules_seats.specs.sessions.Sessions.{session_record};
@@ -8,6 +8,7 @@ ghost use Rattle.record_replay.specs.Replayed.{hosted, over};
 ghost use Rattle.record_replay.specs.session_record.KeptFrames.{kept_frame, kept_text};
 
 use crate::host_numbers;
+use engine_refusals::Refusal;
 use frame_bytes::{field_reading, field_writing, lines};
 use frame_reading::frames;
 use seats::session_lines;
@@ -22,30 +23,30 @@ fn developer_in(frame: &[u8]) -> u64
     field_reading::field(frame, 2, 2)
 }
 
-// The frame that the record has of a line, nothing where it has none.
-fn kept_frame(line: &[u8]) -> &[u8]
-    ensures { result.now ≡ kept_frame line.now }
+// The frame that the record has of a line.
+fn kept_frame(line: &[u8]) -> Option<&[u8]>
+    ensures kept { IfSome result (λ frame. (frame.now ≡ kept_frame line.now) × (0 < length frame.now)) }
+    ensures left_out { IfNone result (kept_frame line.now ≡ []) }
 {
     let part = session_lines::frame_part(line);
     let kind = frames::kind_in(part);
     if kind == 0 {
-        return &line[..0];
+        return None;
     }
     if session_lines::is_barred(line, kind, developer_in(part)) {
-        return &line[..0];
+        return None;
     }
-    part
+    Some(part)
 }
 
 // How many bytes the record has of a line.
 fn kept_size(line: &[u8]) -> usize
     ensures { result ≡ length (kept_text line.now) }
 {
-    let n = kept_frame(line).len();
-    if n == 0 {
-        return 0;
+    match kept_frame(line) {
+        Some(frame) => frame.len() + 1,
+        None => 0,
     }
-    n + 1
 }
 
 // Whether the record fits so many bytes.
@@ -71,12 +72,11 @@ fn put_kept(line: &[u8], out: &mut [u8]) -> usize
     requires { length (kept_text line.now) ≤ length out.old }
     ensures { (result ≡ length (kept_text line.now)) × (out.new ≡ laid (kept_text line.now) out.old) }
 {
-    let frame = kept_frame(line);
-    let n = frame.len();
-    if n == 0 {
+    let Some(frame) = kept_frame(line) else {
         return 0;
-    }
-    crate::copy(frame, out);
+    };
+    let n = frame.len();
+    out[..n].copy_from_slice(frame);
     field_writing::put_byte(&mut out[n..], 10);
     n + 1
 }
@@ -103,7 +103,7 @@ pub fn session_record(session: &[u8], out: &mut [u8]) -> u64
     ensures out_after { out.new ≡ over (session_record session.now) out.old }
 {
     if !record_fits(session, out.len()) {
-        return host_numbers::host_number(engine_refusals::BUFFER_TOO_SHORT, 0);
+        return host_numbers::host_number(Err(Refusal::BufferTooShort));
     }
     put_record(session, out) as u64
 }

@@ -1,4 +1,4 @@
--- The orders of frames 05 and 06, and the reply to an accepted closing.
+-- What a set-up or opening leaves, the orders of frames 05 and 06, and the reply to an accepted closing.
 use mathlib.Core.Path.{◌≡◌, refl, sym, ap, ◌∙◌}
 use native.Mathlib.Omega.{arith}
 use Prim.Native.Nat.{ℕ}
@@ -9,14 +9,33 @@ use Rattle.rules_replies.specs.Orders.{Asks, Settle, order_of, ordered}
 use Rattle.frame_reading.specs.frames.Decoded.{call_in}
 use Rattle.frame_reading.specs.declared.frames.Frame.{Frame}
 use Rattle.frame_reading.specs.arguments.FrameFields.{fields_in}
+use Rattle.std.specs.Prelude.{Result, Ok, Err, []}
+use Rattle.std.specs.Result.{result_unwrap_or}
+use Rattle.rules_replies.specs.Replies.{answer_line}
+use Rattle.engine_refusals.specs.Numbers.{number_in, after}
+use Rattle.engine_refusals.specs.declared.Refusal.{Refusal}
+use Rattle.engine_checks.specs.declared.clock.Clock.{Clock}
 use Rattle.engine_auction.specs.Called.{Called}
+use Rattle.engine_auction.specs.Parts.{with_clock}
 use Rattle.engine_auction.specs.declared.Auction.{Auction}
 use Rattle.reply_writing.specs.reply_sizes.Texts.{text_of}
 use Rattle.reply_writing.specs.declared.reply_sizes.Reply.{Reply}
 use Rattle.reply_values.specs.Shows.{ShowsClosing}
 use Rattle.reply_values.specs.ShowsLaws.{closing_replied}
-use Rattle.record_lines.specs.line_calls.Decisions.{Takes}
-use Rattle.record_lines.specs.line_calls.DecisionLaws.{ordered_as}
+use Rattle.record_lines.specs.line_calls.Decisions.{DecidesClock, Takes}
+use Rattle.record_lines.specs.line_calls.DecisionLaws.{ordered_as, takes_call}
+
+-- ---- a set-up or an opening: what it leaves is stored
+
+left : {A : Type 0} (x : A) (r : Result A Refusal) → result_unwrap_or r x ≡ after x r
+left x (Ok y) = refl
+left x (Err e) = refl
+
+pub takes_clock : (f : Frame) (a : Auction) (r : Result Clock Refusal) (t : Clock) (k : ℕ) → DecidesClock f a r → t ≡ result_unwrap_or r a.clock → k ≡ number_in r →
+    Takes a (ordered (call_in f)) (with_clock a t) (answer_line f.kind k [])
+takes_clock f a r t k w et ek = rw (et ∙ left a.clock r, ek) (takes_call f w.call a (with_clock a (after a.clock r)) (number_in r) w.asked w.answers)
+
+-- ---- closings and settlings
 
 pub asks_close : (f : Frame) → f.kind ≡ 5 → ordered (call_in f) ≡ Asks Close
 unfolding order_of

@@ -9,7 +9,7 @@ use lib.IntN.{ℤ, pos}
 use lib.ListN.{length}
 use Rattle.rules_format.specs.LineLaws.{no_line}
 use Rattle.rules_auction.specs.Ledger.{Call, SetUp, Register, Open, By, Close, Ledger}
-use Rattle.rules_auction.specs.Refusals.{refusal}
+use Rattle.rules_auction.specs.Refusals.{in_round, refusal}
 use Rattle.rules_auction.specs.Rounds.{step_all, ledger, Answered}
 use Rattle.laws_ledger.specs.reachable.Steps.{ledger_append}
 use Rattle.rules_replies.specs.Orders.{ordered}
@@ -21,6 +21,7 @@ use Rattle.rules_seats.specs.figures.FigureLaws.{hall_after_append, hall_after_l
 use Rattle.rules_seats.specs.sessions.LinesRead.{calls_as}
 use Rattle.frame_reading.specs.frames.Decoded.{call_in}
 use Rattle.frame_reading.specs.declared.frames.Frame.{Frame}
+use Rattle.engine_checks.specs.clock.Reading.{phase_in}
 use Rattle.engine_auction.specs.Called.{Called}
 use Rattle.engine_auction.specs.Holds.{held_auction}
 use Rattle.engine_auction.specs.declared.Auction.{Auction}
@@ -62,7 +63,7 @@ module _ (a : Auction) (e : ℤ) (n : ℕ) where
   counts_asked f c w = rw w.order (counts_other c (λ cs h. no_closing (ledger cs) c (λ z. w.bare (sym w.kind ∙ z))))
 
   -- a closing where no round is open
-  pub counts_no_round : (a.phase ≡ 2 → ⊥) → Counts a (Close ∷ []) e n e n
+  pub counts_no_round : in_round (phase_in a.clock.phase) ≡ false → Counts a (Close ∷ []) e n e n
   unfolding closes_round
   counts_no_round z = counts_other Close (λ cs h. ne_eqb (refusal (ledger cs) Close) 0 (λ y. let w = sym y ∙ no_round a z cs h in omega arith))
 

@@ -1,5 +1,5 @@
 -- What a run over the lines of a record, or of a session where `seated` says so, ensures.
-use Rattle.std.specs.Prelude.{ℕ, ◌≡◌, Bool, true, List, ◌++◌, ℤ, pos, length, drop}
+use Rattle.std.specs.Prelude.{ℕ, ◌≡◌, Bool, List, Some, ◌++◌, ℤ, pos, length, drop}
 use Rattle.rules_format.specs.Lines.{lines}
 use Rattle.rules_auction.specs.Ledger.{Call, Ledger}
 use Rattle.rules_auction.specs.Rounds.{ledger}
@@ -10,6 +10,8 @@ use Rattle.rules_seats.specs.sessions.LinesRead.{replies_as, calls_as}
 use Rattle.engine_auction.specs.Holds.{held_auction}
 use Rattle.engine_auction.specs.declared.Auction.{Auction}
 use Rattle.engine_settling.specs.Kept.{Kept}
+use Rattle.engine_settling.specs.Settles.{accepted_in}
+use Rattle.engine_settling.specs.declared.Settlement.{Settlement}
 use Rattle.reply_writing.specs.Placed.{Puts}
 use Rattle.record_replies.specs.declared.Ran.{Ran}
 
@@ -26,5 +28,5 @@ pub record Runs (a : Auction) (s : List ℕ) (seated : Bool) (from limit before 
   pub excess : (cs : List Call) → a ≡ held_auction (ledger cs) →
       r.excess ≡ (hall_after (with_excess (ledger cs) (pos 0)) (calls_as seated (lines (drop from s)))).excess
   pub closings : (cs : List Call) → a ≡ held_auction (ledger cs) → r.closings ≡ closings_from (ledger cs) (calls_as seated (lines (drop from s)))
-  pub kept : (cs : List Call) → a ≡ held_auction (ledger cs) → r.kept ≡ true →
-      Kept (ledger (cs ++ calls_as seated (lines (drop from s)))) award_room r.settled r.awards
+  pub kept : (cs : List Call) → a ≡ held_auction (ledger cs) → (x : Settlement) → r.settled ≡ Some x →
+      Kept (ledger (cs ++ calls_as seated (lines (drop from s)))) award_room (accepted_in x) r.awards

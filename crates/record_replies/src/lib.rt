@@ -2,28 +2,37 @@
 // is read and decided from the clock and what the auction holds where the call reaches, and only what changes is stored.
 #![tactic(auto)]
 
-ghost use Rattle.std.specs.Prelude.{◌≡◌, ◌<◌};
+ghost use Rattle.std.specs.Prelude.{◌≡◌, ◌<◌, []};
+ghost use Rattle.rules_replies.specs.Replies.{answer_line};
+ghost use Rattle.engine_refusals.specs.Numbers.{number_of};
 ghost use Rattle.record_replies.specs.Runs.{Runs};
-ghost use Rattle.reply_writing.specs.Placed.{most};
+ghost use Rattle.reply_writing.specs.Placed.{most, Puts};
 
 use engine_auction::Auction;
-use engine_refusals::{MALFORMED_LINE, NO_RIGHT, NOT_IN_THIS_PHASE};
-use engine_settling::{Settled, UNSETTLED};
+use engine_refusals::Refusal;
+use engine_settling::Settlement;
 use frame_bytes::lines;
 use frame_reading::{arguments, frames};
 use record_lines::{line_calls, line_seats};
 
 // The auction behind the lines; the place behind their replies, above the limit where they have more; the excess of the latest closing that was accepted, 0
-// before there is any, and how many were; and the settlement with the bytes of the award records, if one was kept.
+// before there is any, and how many were; and the settlement, if one was accepted, with the bytes of its award records.
 #[derive(Clone, Copy)]
 pub struct Ran {
     pub auction: Auction,
     pub written: usize,
     pub excess: i64,
     pub closings: usize,
-    pub kept: bool,
-    pub settled: Settled,
+    pub settled: Option<Settlement>,
     pub awards: [u8; 192],
+}
+
+// The reply to a refused call of this kind: the place behind it, or one above the limit.
+fn refusal_at(out: &mut [u8], limit: usize, at: usize, kind: usize, refusal: Refusal) -> usize
+    requires { limit < most }
+    ensures { Puts (answer_line kind (number_of refusal) []) limit at out.old out.new result }
+{
+    reply_writing::plain_at(out, limit, at, kind, u8::from(refusal))
 }
 
 // The replies to the lines from the place `from` on, of a record or, where `seated` says so, of a session, written from the place `end` of `out` on: each
@@ -44,8 +53,7 @@ pub fn run(
     let mut excess: i64 = 0;
     let mut closings: usize = 0;
     // a closed auction never changes again: its settlement, once found
-    let mut kept = false;
-    let mut settled = UNSETTLED;
+    let mut settled: Option<Settlement> = None;
     let mut awards = [0u8; 192];
     let mut read: usize = from;
     let mut written: usize = end;
@@ -55,101 +63,63 @@ pub fn run(
         read = read + line.len() + 1;
         let kind = frame.kind;
         if line_seats::is_barred(line, seated, frame) {
-            written = reply_writing::plain_at(out, limit, written, kind, NO_RIGHT);
+            written = refusal_at(out, limit, written, kind, Refusal::NoRight);
             continue;
         }
         if line_calls::is_move(kind) {
-            let i = line_calls::mover(frame);
-            let settings = auction.settings;
-            let declared = auction.declared[i];
-            let before = auction.histories[i];
-            let moved = line_calls::decide_move(
-                frame,
-                auction.phase,
-                settings,
-                auction.opening,
-                auction.closing,
-                auction.kinds[i],
-                declared,
-                auction.quantities[i],
-                before,
-            );
-            let after = moved.history;
-            auction.histories[i] = after;
-            written = reply_writing::plain_at(out, limit, written, kind, moved.number);
+            let place = line_calls::mover(frame);
+            let entry = auction.entry(place);
+            let history = match line_calls::decide_move(frame, &auction.clock, &entry) {
+                Ok(history) => history,
+                Err(refused) => {
+                    written = refusal_at(out, limit, written, kind, refused);
+                    continue;
+                }
+            };
+            auction.histories[place] = history;
+            written = reply_writing::plain_at(out, limit, written, kind, 0);
             continue;
         }
         if line_calls::is_registration(kind) {
-            let projects = auction.projects;
-            let kinds = auction.kinds;
-            let entered = line_calls::decide_registration(frame, auction.phase, projects, kinds);
-            if entered.number != 0 {
-                written = reply_writing::plain_at(out, limit, written, kind, entered.number);
-                continue;
-            }
-            let i = entered.place;
-            let declared = entered.declared;
-            auction.projects[i] = entered.project;
-            auction.kinds[i] = entered.kind;
-            auction.agents[i] = entered.agent;
-            auction.studies[i] = entered.study;
-            auction.days[i] = entered.day;
-            auction.quantities[i] = entered.quantity;
-            auction.declared[i] = declared;
+            let newcomer = match line_calls::decide_registration(frame, &auction) {
+                Ok(newcomer) => newcomer,
+                Err(refusal) => {
+                    written = refusal_at(out, limit, written, kind, refusal);
+                    continue;
+                }
+            };
+            let place = newcomer.place;
+            let declared = newcomer.declared;
+            auction.projects[place] = newcomer.project;
+            auction.kinds[place] = newcomer.kind;
+            auction.agents[place] = newcomer.agent;
+            auction.studies[place] = newcomer.study;
+            auction.days[place] = newcomer.day;
+            auction.quantities[place] = newcomer.quantity;
+            auction.declared[place] = declared;
             written = reply_writing::plain_at(out, limit, written, kind, 0);
             continue;
         }
         if line_calls::is_clock(kind) {
-            let before = auction.settings;
-            let projects = auction.projects;
-            let quantities = auction.quantities;
-            let turned = line_calls::decide_clock(
-                frame,
-                auction.phase,
-                before,
-                auction.opening,
-                auction.closing,
-                projects,
-                quantities,
-            );
-            let settings = turned.settings;
-            auction.phase = turned.phase;
-            auction.settings = settings;
-            auction.opening = turned.opening;
-            auction.closing = turned.closing;
-            written = reply_writing::plain_at(out, limit, written, kind, turned.number);
+            let turned = line_calls::decide_clock(frame, &auction);
+            auction.clock = turned.unwrap_or(auction.clock);
+            let number = engine_refusals::answer_number(&turned);
+            written = reply_writing::plain_at(out, limit, written, kind, number);
             continue;
         }
         if kind == 5 {
-            if auction.phase != Auction::ROUND {
-                written = reply_writing::plain_at(out, limit, written, 5, NOT_IN_THIS_PHASE);
+            if !auction.clock.phase.in_round() {
+                written = refusal_at(out, limit, written, 5, Refusal::NotInThisPhase);
                 continue;
             }
-            let settings = auction.settings;
-            let projects = auction.projects;
-            let kinds = auction.kinds;
-            let quantities = auction.quantities;
-            let declared = auction.declared;
-            let histories = auction.histories;
-            let curve = auction.curve;
-            let rounded = engine_auction::closing_round(
-                settings,
-                auction.opening,
-                auction.closing,
-                projects,
-                kinds,
-                quantities,
-                declared,
-                histories,
-                curve,
-            );
-            let left = rounded.quantities;
-            let withdrawn = rounded.histories;
-            let extended = rounded.curve;
-            auction.phase = rounded.phase;
-            auction.quantities = left;
-            auction.histories = withdrawn;
-            auction.curve = extended;
+            let rounded = engine_auction::closing_round(&auction);
+            let quantities = rounded.quantities;
+            let histories = rounded.histories;
+            let curve = rounded.curve;
+            auction.clock.phase = rounded.phase;
+            auction.quantities = quantities;
+            auction.histories = histories;
+            auction.curve = curve;
             excess = rounded.excess;
             closings += 1;
             let reply = reply_values::closing_reply(0, rounded.excess, rounded.remainder);
@@ -160,35 +130,33 @@ pub fn run(
             if limit < written {
                 continue;
             }
-            if auction.phase != Auction::CLOSED {
-                written = reply_writing::plain_at(out, limit, written, 6, NOT_IN_THIS_PHASE);
+            if !auction.clock.phase.is_closed() {
+                written = refusal_at(out, limit, written, 6, Refusal::NotInThisPhase);
                 continue;
             }
             let asked = arguments::word(frame, 0);
-            if kept {
-                let number = engine_settling::refusal_again(settled, asked);
-                if number != 0 {
-                    written = reply_writing::plain_at(out, limit, written, 6, number);
+            if let Some(settlement) = settled {
+                if let Err(refusal) = engine_settling::check_again(settlement, asked) {
+                    written = refusal_at(out, limit, written, 6, refusal);
                     continue;
                 }
-                let again = reply_values::settling_reply(settled, &awards);
+                let again = reply_values::settling_reply(Ok(settlement), &awards);
                 written = reply_writing::reply_at(out, limit, written, again);
                 continue;
             }
-            settled = engine_settling::settle(auction, asked, &mut awards);
-            kept = settled.number == 0;
-            let reply = reply_values::settling_reply(settled, &awards);
+            let answer = engine_settling::settle(auction, asked, &mut awards);
+            settled = answer.ok();
+            let reply = reply_values::settling_reply(answer, &awards);
             written = reply_writing::reply_at(out, limit, written, reply);
             continue;
         }
-        written = reply_writing::plain_at(out, limit, written, 255, MALFORMED_LINE);
+        written = refusal_at(out, limit, written, 255, Refusal::MalformedLine);
     }
     Ran {
         auction,
         written,
         excess,
         closings,
-        kept,
         settled,
         awards,
     }

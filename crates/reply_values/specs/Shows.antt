@@ -6,8 +6,7 @@ use Rattle.rules_numbers.specs.Tails.{laid}
 use Rattle.rules_auction.specs.Rounds.{Answered}
 use Rattle.rules_auction.specs.Settling.{Settlement}
 use Rattle.rules_replies.specs.Replies.{closing_text, settling_text, answer_line, award_room}
-use Rattle.engine_settling.specs.Settles.{settled_as}
-use Rattle.engine_settling.specs.declared.Settled.{Settled}
+use Rattle.engine_settling.specs.Settles.{Settled, settled_as}
 use Rattle.reply_writing.specs.reply_sizes.Texts.{text_of}
 use Rattle.reply_writing.specs.declared.reply_sizes.Reply.{Reply}
 

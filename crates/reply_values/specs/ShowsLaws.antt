@@ -12,8 +12,7 @@ use Rattle.engine_auction.specs.Holds.{held_auction}
 use Rattle.engine_auction.specs.declared.Auction.{Auction}
 use Rattle.engine_settling.specs.Kept.{refusal_again, Kept}
 use Rattle.engine_settling.specs.KeptLaws.{kept, kept_number}
-use Rattle.engine_settling.specs.Settles.{Settles}
-use Rattle.engine_settling.specs.declared.Settled.{Settled}
+use Rattle.engine_settling.specs.Settles.{Settled, Settles}
 use Rattle.reply_writing.specs.reply_sizes.Texts.{text_of}
 use Rattle.reply_writing.specs.declared.reply_sizes.Reply.{Reply}
 use Rattle.reply_values.specs.Shows.{ShowsClosing, HoldsAwards, ShowsSettling}

@@ -4,13 +4,14 @@
 ghost use Rattle.std.specs.Prelude.{◌≡◌, cond, min, ◌*◌, replicate};
 ghost use Rattle.rules_numbers.specs.Lists.{padded};
 ghost use Rattle.rules_auction.specs.Rounds.{Answered};
-ghost use Rattle.rules_auction.specs.Settling.{Settlement};
+ghost use Rattle.rules_auction.specs.Settling as rules;
 ghost use Rattle.rules_replies.specs.Replies.{twos_complement, values_of, closing_fields};
-ghost use Rattle.engine_settling.specs.Settles.{settled_as};
+ghost use Rattle.engine_settling.specs.Settles.{accepted_in, settled_in, settled_as};
 ghost use Rattle.reply_writing.specs.reply_sizes.Texts.{Valued};
 ghost use Rattle.reply_values.specs.Shows.{ShowsClosing, ShowsSettling};
 
-use engine_settling::Settled;
+use engine_refusals::Refusal;
+use engine_settling::Settlement;
 use reply_writing::reply_sizes::{AWARD_ROOM, Reply, Values};
 
 // A reply of this kind and number, zero in every other place.
@@ -23,9 +24,9 @@ pub fn blank(kind: u8, number: u8) -> Reply
         tail: [0; 8],
     };
     Reply {
-        kind: kind,
-        number: number,
-        values: values,
+        kind,
+        number,
+        values,
         filled: 0,
         awards: [0; AWARD_ROOM],
     }
@@ -35,11 +36,7 @@ pub fn blank(kind: u8, number: u8) -> Reply
 pub fn bits_of(x: i64) -> u64
     ensures { result ≡ twos_complement x }
 {
-    if x < 0 {
-        let y = -1 - x;
-        return 18446744073709551615 - (y as u64);
-    }
-    x as u64
+    x.cast_unsigned()
 }
 
 // Of a closing, by the excess in two's complement and the remainder.
@@ -48,7 +45,7 @@ pub fn closing_values(bits: u64, remainder: u32) -> Values
 {
     Values {
         head: [bits, remainder as u64, 0, 0, 0, 0, 0, 0],
-        tail: [0, 0, 0, 0, 0, 0, 0, 0],
+        tail: [0; 8],
     }
 }
 
@@ -56,33 +53,30 @@ pub fn closing_values(bits: u64, remainder: u32) -> Values
 pub fn mark(set: bool) -> u64
     ensures { result ≡ cond set 1 0 }
 {
-    if set {
-        return 1;
-    }
-    0
+    u64::from(set)
 }
 
 // Of a settling.
-pub fn settling_values(settled: Settled) -> Values
-    ensures { (s : Settlement) → settled ≡ settled_as s → Valued s result }
+pub fn settling_values(settlement: Settlement) -> Values
+    ensures { (s : rules.Settlement) → accepted_in settlement ≡ settled_as s → Valued s result }
 {
     Values {
         head: [
-            settled.price as u64,
-            settled.demand,
-            settled.total,
-            settled.choices,
-            settled.covering,
-            settled.records as u64,
+            settlement.price as u64,
+            settlement.demand,
+            settlement.total,
+            settlement.choices,
+            settlement.covering,
+            settlement.records as u64,
             0,
             0,
         ],
         tail: [
-            settled.remainder as u64,
-            settled.second as u64,
-            mark(settled.short),
-            mark(settled.insufficient),
-            settled.paid as u64,
+            settlement.remainder as u64,
+            settlement.second as u64,
+            mark(settlement.short),
+            mark(settlement.insufficient),
+            settlement.paid as u64,
             0,
             0,
             0,
@@ -94,32 +88,32 @@ pub fn settling_values(settled: Settled) -> Values
 pub fn award_bytes(records: usize) -> usize
     ensures { result ≡ 6 * min records 32 }
 {
-    if records < 32 {
-        return 6 * records;
-    }
-    AWARD_ROOM
+    6 * records.min(32)
 }
 
 // The reply to a closing; a refusal shows nothing of the excess and the remainder.
 pub fn closing_reply(number: u8, excess: i64, remainder: u32) -> Reply
     ensures { ShowsClosing number excess remainder result }
 {
-    let mut reply = blank(5, number);
     let values = closing_values(bits_of(excess), remainder);
-    reply.values = values;
-    reply
+    Reply {
+        values,
+        ..blank(5, number)
+    }
 }
 
 // The reply to a settling, with the bytes that it wrote its award records to; a refusal shows nothing of them.
-pub fn settling_reply(settled: Settled, awards: &[u8; AWARD_ROOM]) -> Reply
-    ensures { ShowsSettling settled awards.now result }
+pub fn settling_reply(settled: Result<Settlement, Refusal>, awards: &[u8; AWARD_ROOM]) -> Reply
+    ensures { ShowsSettling (settled_in settled) awards.now result }
 {
-    let values = settling_values(settled);
-    Reply {
-        kind: 6,
-        number: settled.number,
-        values: values,
-        filled: award_bytes(settled.records),
-        awards: *awards,
+    match settled {
+        Ok(settlement) => Reply {
+            kind: 6,
+            number: 0,
+            values: settling_values(settlement),
+            filled: award_bytes(settlement.records),
+            awards: *awards,
+        },
+        Err(refusal) => blank(6, u8::from(refusal)),
     }
 }

@@ -22,10 +22,8 @@ fn put_bytes(out: &mut [u8], bytes: [u8; 192], n: usize)
     requires { (n ≤ 192) × (2 * n ≤ length out.old) }
     ensures { out.new ≡ laid (flatten (map (digits 2) (take n bytes))) out.old }
 {
-    let mut i: usize = 0;
-    while i < n {
-        field_writing::put_hex(&mut out[2 * i..], bytes[i] as u64, 2);
-        i += 1;
+    for (i, byte) in bytes[..n].iter().enumerate() {
+        field_writing::put_hex(&mut out[2 * i..], u64::from(*byte), 2);
     }
 }
 
@@ -48,17 +46,11 @@ fn put_added(out: &mut [u8], reply: Reply) -> usize
         return 0;
     }
     let form = reply_sizes::form_of(reply.kind);
-    let n = reply_sizes::least(reply.filled, form.room);
-    let values = reply.values;
-    let head = form.head;
-    let first = values.head;
-    let records = put_values(out, head, first);
-    let awards = reply.awards;
-    put_bytes(&mut out[records..], awards, n);
+    let n = reply.filled.min(form.room);
+    let records = put_values(out, form.head, reply.values.head);
+    put_bytes(&mut out[records..], reply.awards, n);
     let behind = records + 2 * n;
-    let tail = form.tail;
-    let last = values.tail;
-    behind + put_values(&mut out[behind..], tail, last)
+    behind + put_values(&mut out[behind..], form.tail, reply.values.tail)
 }
 
 // Writes the reply at the start of `out`, and gives how many bytes it has.

@@ -1,5 +1,5 @@
 // A reply in numbers, the form of what its kind adds, and its size.
-ghost use Rattle.std.specs.Prelude.{◌≡◌, min, length};
+ghost use Rattle.std.specs.Prelude.{◌≡◌, length};
 ghost use Rattle.rules_replies.specs.Lengths.{most_of};
 ghost use Rattle.reply_writing.specs.reply_sizes.Texts.{FormOf, size_of, text_of};
 
@@ -38,7 +38,7 @@ pub struct Form {
 const CLOSING: Form = Form {
     head: [16, 8, 0, 0, 0, 0, 0, 0],
     room: 0,
-    tail: [0, 0, 0, 0, 0, 0, 0, 0],
+    tail: [0; 8],
 };
 
 // 06: P, Dem, total, choices, covering, awards; behind the awards the remainder, the second price and its mark, the mark of participation and the
@@ -51,9 +51,9 @@ const SETTLING: Form = Form {
 
 // The others add nothing.
 const PLAIN: Form = Form {
-    head: [0, 0, 0, 0, 0, 0, 0, 0],
+    head: [0; 8],
     room: 0,
-    tail: [0, 0, 0, 0, 0, 0, 0, 0],
+    tail: [0; 8],
 };
 
 pub fn form_of(kind: u8) -> Form
@@ -68,25 +68,15 @@ pub fn form_of(kind: u8) -> Form
     PLAIN
 }
 
-// The less of two: a form has room for so many of the bytes that are there.
-pub fn least(x: usize, y: usize) -> usize
-    ensures { result ≡ min x y }
-{
-    if x < y {
-        return x;
-    }
-    y
-}
-
 // How many bytes an accepted reply of this kind has, if so many bytes of award records are there: each shown is two digits; kind, answer and 0A
 // are five bytes.
 fn size_of(kind: u8, filled: usize) -> usize
     ensures { result ≡ size_of kind filled }
 {
     let form = form_of(kind);
-    let head = form.head;
-    let tail = form.tail;
-    5 + field_writing::span_of(&head) + 2 * least(filled, form.room) + field_writing::span_of(&tail)
+    5 + field_writing::span_of(&form.head)
+        + 2 * filled.min(form.room)
+        + field_writing::span_of(&form.tail)
 }
 
 // The most bytes of a reply of this kind.

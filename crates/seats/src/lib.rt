@@ -20,22 +20,14 @@ pub enum Seat {
 pub fn conducts(seat: Seat) -> bool
     ensures { result ≡ may_conduct (seat_in seat) }
 {
-    match seat {
-        Seat::Auctioneer => true,
-        Seat::Auditor => false,
-        Seat::Developer(_) => false,
-    }
+    matches!(seat, Seat::Auctioneer)
 }
 
 // Whether the seat settles.
 pub fn settles(seat: Seat) -> bool
     ensures { result ≡ may_settle (seat_in seat) }
 {
-    match seat {
-        Seat::Auctioneer => true,
-        Seat::Auditor => true,
-        Seat::Developer(_) => false,
-    }
+    matches!(seat, Seat::Auctioneer | Seat::Auditor)
 }
 
 // Whether the seat offers and cancels for this developer.
@@ -43,8 +35,7 @@ pub fn offers_for(seat: Seat, developer: u64) -> bool
     ensures { result ≡ may_offer_for (seat_in seat) developer }
 {
     match seat {
-        Seat::Auctioneer => false,
-        Seat::Auditor => false,
-        Seat::Developer(n) => developer == n as u64,
+        Seat::Auctioneer | Seat::Auditor => false,
+        Seat::Developer(n) => developer == u64::from(n),
     }
 }

@@ -11,48 +11,39 @@ use crate::{Seat, seat_numbers};
 use frame_bytes::{field_reading, field_table};
 
 // Whether the line begins with four digits that name a seat.
+#[tactic(auto, unfolding(rules_format::specs::SessionLines::names_seat, rules_format::specs::SessionLines::seat_kind, rules_format::specs::SessionLines::seat_number))]
 fn begins_with_seat(line: &[u8]) -> bool
     ensures { result ≡ names_seat line.now }
 {
-    if line.len() < SEAT_WIDTH {
-        return false;
-    }
-    if !field_reading::all_hex(&line[..SEAT_WIDTH]) {
-        return false;
-    }
-    seat_numbers::names_seat(
-        field_reading::field(line, 0, 2),
-        field_reading::field(line, 2, 2),
-    )
+    SEAT_WIDTH <= line.len()
+        && field_reading::all_hex(&line[..SEAT_WIDTH])
+        && seat_numbers::names_seat(
+            field_reading::field(line, 0, 2),
+            field_reading::field(line, 2, 2),
+        )
 }
 
 // The frame behind the seat; nothing where the line names none, and nothing is malformed.
 pub fn frame_part(line: &[u8]) -> &[u8]
     ensures { result.now ≡ frame_behind line.now }
 {
-    if !begins_with_seat(line) {
-        return &line[..0];
+    if begins_with_seat(line) {
+        &line[SEAT_WIDTH..]
+    } else {
+        &line[..0]
     }
-    &line[SEAT_WIDTH..]
 }
 
 // Whether the seat has no right to a frame of this kind, whose first field is this: offers and cancellations are for the developer that it names.
+#[tactic(auto, using(crate::proofs::session_lines::Barring::row_tells), unfolding(rules_seats::specs::sessions::SeatedLines::barred_by_kind))]
 fn bars(seat: Seat, kind: usize, first: u64) -> bool
     ensures { result ≡ barred_by_kind (seat_in seat) kind (first ∷ []) }
 {
-    if kind == 4 {
-        return !crate::offers_for(seat, first);
+    match kind {
+        4 | 9 => !crate::offers_for(seat, first),
+        6 => !crate::settles(seat),
+        _ => !crate::conducts(seat) && field_table::row_of(kind).is_some(),
     }
-    if kind == 9 {
-        return !crate::offers_for(seat, first);
-    }
-    if kind == 6 {
-        return !crate::settles(seat);
-    }
-    if crate::conducts(seat) {
-        return false;
-    }
-    field_table::row_of(kind).kind != 0
 }
 
 // Whether the seat that the line names has no right to its frame, which is of this kind and has this first field.

@@ -6,7 +6,7 @@ use Rattle.std.proofs.Common.{ap, ◌∙◌}
 use mathlib.Core.List.{List, ◌++◌, map, flatten}
 use Rattle.rules_format.specs.Lines.{lines}
 use Rattle.rules_replies.specs.Replies.{replies}
-use Rattle.laws_arrival.specs.arrival.Arrival.{ReorderedLines, replied, AsReplied, RepliedAlike}
+use Rattle.laws_arrival.specs.arrival.Arrival.{ReorderedLines, AsReplied, RepliedAlike}
 use Rattle.laws_arrival.specs.arrival.LineLaws.{replies_replied, lines_arrival}
 use Rattle.laws_arrival.specs.arrival.WordsDecide.{replies_decided}
 

@@ -1,7 +1,7 @@
 -- THE DEMAND CALL (document 01, Demand) with its remainder (document 02, 4), for any five numbers CE, D, M1, M2 and p. It is refused by 1 exactly where
 -- settings or price are outside the bounds; else its quantity is the least whole one that the curve of numeral 3.8 prices at most p, M1 at the top
 -- price 2 CE, and quantity times CE less the remainder is exact demand times CE. It is tied in through its own contract, which it meets.
-use Rattle.std.specs.Prelude.{ℕ, suc, ◌+◌, ◌*◌, ◌≤◌, ◌<◌, ◌≡◌, refl, ◌↔◌, Bool, true, false, cond, ◌&&◌}
+use Rattle.std.specs.Prelude.{ℕ, suc, ◌+◌, ◌*◌, ◌≤◌, ◌<◌, ◌≡◌, refl, ◌↔◌, Bool, true, false, ◌&&◌, Result, Ok, Err}
 use Rattle.std.proofs.Common.{sym, ap, ap₂, ◌∙◌, ⊎_elim, arith, suc-mul, mul-le-mul_right}
 use Rattle.rules_numbers.specs.Cases.{le_or_lt, three_way, and_true, never_true}
 use Rattle.rules_numbers.specs.Least.{Least, least_is}
@@ -14,16 +14,23 @@ use Rattle.rules_demand.specs.Order.{dem_top}
 use Rattle.rules_demand.specs.Words.{dem_least}
 use Rattle.rules_demand.specs.ExactInverse.{exact_between, exact_in_parts}
 use Rattle.rules_demand.specs.RemainderLaws.{remainder_makes_up, remainder_below_ce}
+use Rattle.engine_refusals.specs.NumberLaws.{number_not_0}
+use Rattle.engine_refusals.specs.declared.Refusal.{Refusal}
+use Rattle.engine_refusals.specs.declared.Refusal.TheVariants.{BeyondBounds}
 use Rattle.engine_demand.specs.Answers.{demanded_in}
 use Rattle.engine_demand.specs.declared.Demanded.{Demanded}
-use Rattle.engine_demand.specs.declared.Demanded.TheVariants.{Quantity, OutOfBounds}
 use Rattle.engine_demand.proofs.demand.Reads as demanding
 use Rattle.engine_demand.proofs.demand.Statement as demand_states
 use Rattle.engine_demand.proofs.demand.Met as demand_met
+use Rattle.statement.specs.RefusalNumbers.{number_determines}
 
 -- r is what the demand call answers to these numbers, as its own contract has it
-abbrev pub Asked : ℕ → ℕ → ℕ → ℕ → ℕ → Demanded → Type 0
+abbrev pub Asked : ℕ → ℕ → ℕ → ℕ → ℕ → Result Demanded Refusal → Type 0
 Asked ce d m1 m2 p r = demanding.Post tt (ce, (d, (m1, (m2, (p, tt))))) r (ce, (d, (m1, (m2, (p, tt)))))
+
+-- a quantity with its remainder
+abbrev pub demanded_as : ℕ → ℕ → Result Demanded Refusal
+demanded_as q e = Ok (record { quantity = q; remainder = e })
 
 -- the settings and the price are within the bounds of document 01
 abbrev pub within : ℕ → ℕ → ℕ → ℕ → ℕ → Bool
@@ -40,32 +47,32 @@ pub record DemandIs (ce d m1 m2 p q e : ℕ) : Type 0 where
   -- exact demand, all quantities counted in CE-ths of a kWh: the one n from M1 to M2 that the curve prices at p itself
   pub exact : (n : ℕ) → m1 * ce ≤ n → n ≤ m2 * ce → (n + e ≡ q * ce) ↔ PricedAt ce (d * ce) (m1 * ce) (m2 * ce) p n
 
-pub record DemandAnswered (ce d m1 m2 p : ℕ) (r : Demanded) : Type 0 where
-  pub refused : (within ce d m1 m2 p ≡ false) ↔ (r ≡ OutOfBounds)
-  pub accepted : within ce d m1 m2 p ≡ true → (q : ℕ) × (e : ℕ) × (r ≡ Quantity q e) × DemandIs ce d m1 m2 p q e
+pub record DemandAnswered (ce d m1 m2 p : ℕ) (r : Result Demanded Refusal) : Type 0 where
+  pub refused : (within ce d m1 m2 p ≡ false) ↔ (r ≡ Err BeyondBounds)
+  pub accepted : within ce d m1 m2 p ≡ true → (q : ℕ) × (e : ℕ) × (r ≡ demanded_as q e) × DemandIs ce d m1 m2 p q e
 
 pub record DemandStated (M : Type 1) : Type 2 where
   pub meets : demand_states.statement M
-  pub answered : (ce d m1 m2 p : ℕ) (r : Demanded) → Asked ce d m1 m2 p r → DemandAnswered ce d m1 m2 p r
+  pub answered : (ce d m1 m2 p : ℕ) (r : Result Demanded Refusal) → Asked ce d m1 m2 p r → DemandAnswered ce d m1 m2 p r
   -- as numbers: refused, 1 with 0 in every other place
   pub numbers :
-      (demanded_in OutOfBounds ≡ record { number = 1; value = 0; remainder = 0 })
-      × ((q e : ℕ) → demanded_in (Quantity q e) ≡ record { number = 0; value = q; remainder = e })
+      (demanded_in (Err BeyondBounds) ≡ record { number = 1; value = 0; remainder = 0 })
+      × ((q e : ℕ) → demanded_in (demanded_as q e) ≡ record { number = 0; value = q; remainder = e })
   -- the call asks nothing of its arguments, and for any five numbers there is an answer
   pub asks_nothing : (ce d m1 m2 p : ℕ) → demanding.Pre tt (ce, (d, (m1, (m2, (p, tt)))))
-  pub some_answer : (ce d m1 m2 p : ℕ) → (r : Demanded) × Asked ce d m1 m2 p r
+  pub some_answer : (ce d m1 m2 p : ℕ) → (r : Result Demanded Refusal) × Asked ce d m1 m2 p r
   -- what is stated leaves nothing free
-  pub determines : (ce d m1 m2 p : ℕ) (r r' : Demanded) → DemandAnswered ce d m1 m2 p r → DemandAnswered ce d m1 m2 p r' → r ≡ r'
+  pub determines : (ce d m1 m2 p : ℕ) (r r' : Result Demanded Refusal) → DemandAnswered ce d m1 m2 p r → DemandAnswered ce d m1 m2 p r' → r ≡ r'
 
 -- ---- what is answered
 
-quantity_of_lem : (r : Demanded) → (demanded_in r).number ≡ 0 → r ≡ Quantity (demanded_in r).value (demanded_in r).remainder
-quantity_of_lem (Quantity q e) z = refl
-quantity_of_lem OutOfBounds z = absurd (omega (arith, z))
+quantity_of_lem : (r : Result Demanded Refusal) → (demanded_in r).number ≡ 0 → r ≡ demanded_as (demanded_in r).value (demanded_in r).remainder
+quantity_of_lem (Ok x) z = refl
+quantity_of_lem (Err e) z = absurd (number_not_0 e z)
 
-refused_by : (r : Demanded) → (demanded_in r).number ≡ 1 → r ≡ OutOfBounds
-refused_by (Quantity q e) z = absurd (omega (arith, z))
-refused_by OutOfBounds z = refl
+refused_by : (r : Result Demanded Refusal) → (demanded_in r).number ≡ 1 → r ≡ Err BeyondBounds
+refused_by (Ok x) z = absurd (omega (arith, z))
+refused_by (Err e) z = ap Err (number_determines e BeyondBounds z)
 
 module _ (ce d m1 m2 p : ℕ) where
   answer_within :
@@ -98,7 +105,7 @@ module _ (ce d m1 m2 p : ℕ) (s : InBounds ce d m1 m2) (a : InRange ce p) where
             ((λ t. at.0 (omega (arith, t, made))), (λ t. let z = at.1 t in omega (arith, z, made)));
       }
 
-as_stated : (ce d m1 m2 p : ℕ) (r : Demanded) → Asked ce d m1 m2 p r → DemandAnswered ce d m1 m2 p r
+as_stated : (ce d m1 m2 p : ℕ) (r : Result Demanded Refusal) → Asked ce d m1 m2 p r → DemandAnswered ce d m1 m2 p r
 as_stated ce d m1 m2 p r w = record {
   refused = ((λ t. refused_by r (ap (λ (x : Answer). x.number) (w ∙ answer_outside ce d m1 m2 p t))), outside);
   accepted = λ t. let b = bounded ce d m1 m2 p t in (dem ce d m1 m2 p, remainder ce d m1 m2 p, quantity t, in_words ce d m1 m2 p b.0 b.1);
@@ -107,23 +114,23 @@ as_stated ce d m1 m2 p r w = record {
     answer : within ce d m1 m2 p ≡ true → demanded_in r ≡ record { number = 0; value = dem ce d m1 m2 p; remainder = remainder ce d m1 m2 p }
     answer t = w ∙ answer_within ce d m1 m2 p t
 
-    outside : r ≡ OutOfBounds → within ce d m1 m2 p ≡ false
+    outside : r ≡ Err BeyondBounds → within ce d m1 m2 p ≡ false
     outside o = never_true _ (λ t.
         let h : (demanded_in r).number ≡ 0 = ap (λ (x : Answer). x.number) (answer t) in
-        let g : (demanded_in r).number ≡ 1 = ap (λ (x : Demanded). (demanded_in x).number) o in
+        let g : (demanded_in r).number ≡ 1 = ap (λ (x : Result Demanded Refusal). (demanded_in x).number) o in
         omega (arith, h, g))
 
-    quantity : within ce d m1 m2 p ≡ true → r ≡ Quantity (dem ce d m1 m2 p) (remainder ce d m1 m2 p)
+    quantity : within ce d m1 m2 p ≡ true → r ≡ demanded_as (dem ce d m1 m2 p) (remainder ce d m1 m2 p)
     quantity t =
         quantity_of_lem r (ap (λ (x : Answer). x.number) (answer t))
-        ∙ ap₂ (λ (q e : ℕ). Quantity q e) (ap (λ (x : Answer). x.value) (answer t)) (ap (λ (x : Answer). x.remainder) (answer t))
+        ∙ ap₂ (λ (q e : ℕ). demanded_as q e) (ap (λ (x : Answer). x.value) (answer t)) (ap (λ (x : Answer). x.remainder) (answer t))
 
-an_answer : (ce d m1 m2 p : ℕ) → (r : Demanded) × Asked ce d m1 m2 p r
+an_answer : (ce d m1 m2 p : ℕ) → (r : Result Demanded Refusal) × Asked ce d m1 m2 p r
 an_answer ce d m1 m2 p = go (within ce d m1 m2 p) refl
   where
-    go : (t : Bool) → within ce d m1 m2 p ≡ t → (r : Demanded) × Asked ce d m1 m2 p r
-    go true t = (Quantity (dem ce d m1 m2 p) (remainder ce d m1 m2 p), sym (answer_within ce d m1 m2 p t))
-    go false t = (OutOfBounds, sym (answer_outside ce d m1 m2 p t))
+    go : (t : Bool) → within ce d m1 m2 p ≡ t → (r : Result Demanded Refusal) × Asked ce d m1 m2 p r
+    go true t = (demanded_as (dem ce d m1 m2 p) (remainder ce d m1 m2 p), sym (answer_within ce d m1 m2 p t))
+    go false t = (Err BeyondBounds, sym (answer_outside ce d m1 m2 p t))
 
 -- ---- nothing is left free: by the curve's words, and by rounding once more
 
@@ -167,7 +174,7 @@ by_rounding {ce} {d} {m1} {m2} {p} {q} {q'} {e} {e'} w v = (alike, omega (arith,
         (λ g. absurd (rounded_up_to ce n q' q e' e v.makes_up v.below_ce w.makes_up w.below_ce g)))
         (three_way q q')
 
-determined : (ce d m1 m2 p : ℕ) (r r' : Demanded) → DemandAnswered ce d m1 m2 p r → DemandAnswered ce d m1 m2 p r' → r ≡ r'
+determined : (ce d m1 m2 p : ℕ) (r r' : Result Demanded Refusal) → DemandAnswered ce d m1 m2 p r → DemandAnswered ce d m1 m2 p r' → r ≡ r'
 determined ce d m1 m2 p r r' w v = go (within ce d m1 m2 p) refl
   where
     go : (t : Bool) → within ce d m1 m2 p ≡ t → r ≡ r'
@@ -177,7 +184,7 @@ determined ce d m1 m2 p r r' w v = go (within ce d m1 m2 p) refl
         let x = w.accepted t in
         let y = v.accepted t in
         x.2
-        ∙ ap₂ (λ (q e : ℕ). Quantity q e)
+        ∙ ap₂ (λ (q e : ℕ). demanded_as q e)
         (same_quantity ce d m1 m2 p b.0 b.1 x.3 y.3)
         (same_remainder ce d m1 m2 p b.0 b.1 x.3 y.3)
         ∙ sym y.2

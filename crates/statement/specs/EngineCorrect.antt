@@ -2,7 +2,7 @@
 -- fresh auction, refused ones included, each call getting the auction that the last one returned (`Run`, in EveryList). Whatever the limit and the
 -- lent buffer, settling the auction that the list reaches is as `Stated` says of the ledger of the list; and so for lists that hold calls through
 -- seats (`seats`). The engine's calls are tied in through their contracts, which each of them meets.
-use Rattle.std.specs.Prelude.{ℕ, ◌≡◌, true, List}
+use Rattle.std.specs.Prelude.{ℕ, ◌≡◌, true, List, Result}
 use contract.Lifetimes.{Lfts}
 use denote.Triple.Clauses.{AtExit}
 use borrow.Fn.World.{ArgsD}
@@ -14,7 +14,9 @@ use Rattle.laws_ledger.specs.reachable.AcceptedCalls.{accepted_calls}
 use Rattle.rules_seats.specs.Seats.{Seated, hall_ledger, hall_answers, Entry, permitted, entry_answers}
 use Rattle.engine_auction.specs.Holds.{held_auction}
 use Rattle.hall.specs.Through.{held_hall}
-use Rattle.engine_settling.specs.declared.Settled.{Settled}
+use Rattle.engine_refusals.specs.declared.Refusal.{Refusal}
+use Rattle.engine_settling.specs.Settles.{Settled, settled_in}
+use Rattle.engine_settling.specs.declared.Settlement.{Settlement}
 use Rattle.engine_settling.specs.contracts.settle.{signature}
 use Rattle.engine_settling.proofs.settle.Kinds as kinds
 use Rattle.engine_settling.proofs.settle.Reads as settle
@@ -22,6 +24,7 @@ use Rattle.engine_settling.proofs.settle.Statement as settle_states
 use Rattle.engine_settling.proofs.settle.Met as settle_met
 use Rattle.statement.specs.EveryList.{Run, run_reached, EveryList, every_list}
 use Rattle.statement.specs.Untouched.{Untouched, untouched}
+use Rattle.statement.specs.SameResults.{settled_determines}
 use Rattle.statement.specs.Runs.{runs}
 use Rattle.statement.specs.HallRuns.{HallRun, SeatedRun}
 use Rattle.statement.specs.HallRunsExist.{hall_runs}
@@ -51,9 +54,9 @@ pub record EngineCorrect (M : Type 1) : Type 2 where
   pub calls : EveryList M
   pub settle_meets : settle_states.statement M
   pub statement :
-      {cs : List Call} {rs : List Answered} (κs : Lfts 1) (x : ArgsD signature κs) (r : Settled) (y : AtExit (ended_of 1 kinds.ps kinds.r) κs) →
-      Run cs rs x.0 → settle.Post κs x r y →
-      Stated (ledger cs) x.1.0 x.1.1.0.now y.1.1.0.now r
+      {cs : List Call} {rs : List Answered} (κs : Lfts 1) (x : ArgsD signature κs) (r : Result Settlement Refusal)
+      (y : AtExit (ended_of 1 kinds.ps kinds.r) κs) → Run cs rs x.0 → settle.Post κs x r y →
+      Stated (ledger cs) x.1.0 x.1.1.0.now y.1.1.0.now (settled_in r)
   -- what is stated leaves nothing free
   pub determines :
       (l : Ledger) (limit : ℕ) (old new new' : List ℕ) (r r' : Settled) → Stated l limit old new r → Stated l limit old new' r' →
@@ -69,7 +72,7 @@ pub record EngineCorrect (M : Type 1) : Type 2 where
   -- DETERMINED BY THE ACCEPTED CALLS (document 02, 8): two lists of calls with the same accepted calls in the same order, whatever was refused
   -- between them, settled with one limit and buffers of equal bytes, get the same answer and leave the same bytes in the whole buffer
   pub by_accepted_calls :
-      {cs cs' : List Call} {rs rs' : List Answered} (κs κs' : Lfts 1) (x : ArgsD signature κs) (x' : ArgsD signature κs') (r r' : Settled)
+      {cs cs' : List Call} {rs rs' : List Answered} (κs κs' : Lfts 1) (x : ArgsD signature κs) (x' : ArgsD signature κs') (r r' : Result Settlement Refusal)
       (y : AtExit (ended_of 1 kinds.ps kinds.r) κs) (y' : AtExit (ended_of 1 kinds.ps kinds.r) κs') →
       accepted_calls cs ≡ accepted_calls cs' → x.1.0 ≡ x'.1.0 → x.1.1.0.now ≡ x'.1.1.0.now →
       Run cs rs x.0 → settle.Post κs x r y → Run cs' rs' x'.0 → settle.Post κs' x' r' y' →
@@ -109,9 +112,10 @@ pub record EngineCorrect (M : Type 1) : Type 2 where
   -- what is asked of lists above can be met: a sample for each
   pub premises : Premises
 
-module _ {cs : List Call} {rs : List Answered} (κs : Lfts 1) (x : ArgsD signature κs) (r : Settled) (y : AtExit (ended_of 1 kinds.ps kinds.r) κs) where
-  as_stated : Run cs rs x.0 → settle.Post κs x r y → Stated (ledger cs) x.1.0 x.1.1.0.now y.1.1.0.now r
-  as_stated w s = stated cs x.0 x.1.0 x.1.1.0.now y.1.1.0.now r (run_reached w).0 s
+module _ {cs : List Call} {rs : List Answered} (κs : Lfts 1) (x : ArgsD signature κs) (r : Result Settlement Refusal)
+    (y : AtExit (ended_of 1 kinds.ps kinds.r) κs) where
+  as_stated : Run cs rs x.0 → settle.Post κs x r y → Stated (ledger cs) x.1.0 x.1.1.0.now y.1.1.0.now (settled_in r)
+  as_stated w s = stated cs x.0 x.1.0 x.1.1.0.now y.1.1.0.now (settled_in r) (run_reached w).0 s
 
 pub engine_correct : {M : Type 1} → EngineCorrect M
 engine_correct = record {
@@ -122,7 +126,8 @@ engine_correct = record {
   in_words = stated_words;
   words_determine = words_decide;
   by_accepted_calls = λ {cs} {cs'} κs κs' x x' r r' y y' e f g w s w' s'.
-      by_accepted cs cs' _ _ _ _ _ _ r r' e f g (as_stated κs x r y w s) (as_stated κs' x' r' y' w' s');
+      let k = by_accepted cs cs' _ _ _ _ _ _ (settled_in r) (settled_in r') e f g (as_stated κs x r y w s) (as_stated κs' x' r' y' w' s') in
+      (settled_determines r r' k.0, k.1);
   untouched = untouched;
   runs = runs;
   hall_runs = hall_runs;

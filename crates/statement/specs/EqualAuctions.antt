@@ -1,6 +1,6 @@
 -- Two lists of calls with one ledger, of the engine's calls: runs of them reach equal auctions, and settling what they reach, with one limit and
 -- buffers of equal bytes, gives equal results and buffers.
-use Rattle.std.specs.Prelude.{ℕ, suc, ◌≡◌, refl, List, [], ◌∷◌, ◌++◌, length}
+use Rattle.std.specs.Prelude.{ℕ, suc, ◌≡◌, refl, List, [], ◌∷◌, ◌++◌, length, Result}
 use Rattle.std.proofs.Common.{sym, ap, subst, subst₂, ◌∙◌}
 use Rattle.std.proofs.Math.Decide.{ℕ_discrete as dec_eq}
 use contract.Lifetimes.{Lfts}
@@ -12,18 +12,20 @@ use Rattle.rules_auction.specs.Rounds.{step, ledger, Answered, answers_from, ans
 use Rattle.laws_ledger.specs.reachable.Steps.{ledger_append, answers_append, answers_from_append}
 use Rattle.engine_auction.specs.Holds.{held_auction}
 use Rattle.engine_auction.specs.declared.Auction.{Auction}
-use Rattle.engine_settling.specs.Settles.{refused_with, Settles}
-use Rattle.engine_settling.specs.declared.Settled.{Settled}
+use Rattle.engine_refusals.specs.declared.Refusal.{Refusal}
+use Rattle.engine_settling.specs.Settles.{Settled, settled_in, refused_with, Settles}
+use Rattle.engine_settling.specs.declared.Settlement.{Settlement}
 use Rattle.engine_settling.specs.contracts.settle.{signature}
 use Rattle.engine_settling.proofs.settle.Kinds as kinds
 use Rattle.engine_settling.proofs.settle.Reads as settle
 use Rattle.statement.specs.EveryList.{Run, run_reached}
+use Rattle.statement.specs.SameResults.{settled_determines}
 
 -- the arguments x, x' of settling: the auction, the limit, the buffer; y, y': the same at the call's end
 pub record EqualAuctions (cs cs' : List Call) : Type 1 where
   pub auctions : {rs rs' : List Answered} {a a' : Auction} → Run cs rs a → Run cs' rs' a' → a ≡ a'
   pub settled :
-      {rs rs' : List Answered} (κs κs' : Lfts 1) (x : ArgsD signature κs) (x' : ArgsD signature κs') (r r' : Settled)
+      {rs rs' : List Answered} (κs κs' : Lfts 1) (x : ArgsD signature κs) (x' : ArgsD signature κs') (r r' : Result Settlement Refusal)
       (y : AtExit (ended_of 1 kinds.ps kinds.r) κs) (y' : AtExit (ended_of 1 kinds.ps kinds.r) κs') →
       Run cs rs x.0 → Run cs' rs' x'.0 →
       x.1.0 ≡ x'.1.0 → x.1.1.0.now ≡ x'.1.1.0.now → settle.Post κs x r y → settle.Post κs' x' r' y' →
@@ -58,8 +60,9 @@ pub equal_auctions : (cs cs' : List Call) → ledger cs ≡ ledger cs' → Equal
 equal_auctions cs cs' e = record {
   auctions = λ w v. same_auction cs cs' e _ _ (run_reached w).0 (run_reached v).0;
   settled = λ κs κs' x x' r r' y y' w v f g s u.
-      same_settled cs cs' e _ _ (run_reached w).0 (run_reached v).0 _ _ _ _ _ _ s
-      (subst₂ (λ (limit : ℕ) (old : List ℕ). Settles x'.0 limit old y'.1.1.0.now r') (sym f) (sym g) u);
+      let k = same_settled cs cs' e _ _ (run_reached w).0 (run_reached v).0 _ _ _ _ (settled_in r) (settled_in r') s
+      (subst₂ (λ (limit : ℕ) (old : List ℕ). Settles x'.0 limit old y'.1.1.0.now (settled_in r')) (sym f) (sym g) u) in
+      (settled_determines r r' k.0, k.1);
 }
 
 -- ---- the answers along a list in three parts

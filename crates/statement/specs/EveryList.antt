@@ -1,17 +1,18 @@
 -- Every list of calls from a fresh auction, refused ones included, each call getting the auction that the last one returned: the auction
 -- that is reached holds the ledger of the list, and each answer along the way is the ledger's. A step is what the method's own contract
 -- says of its arguments and its result.
-use Rattle.std.specs.Prelude.{◌≡◌, refl, List, [], ◌∷◌, ◌++◌, ℕ}
+use Rattle.std.specs.Prelude.{◌≡◌, refl, List, [], ◌∷◌, ◌++◌, ℕ, Result}
 use Rattle.std.proofs.Common.{sym, ap₂, ◌∙◌}
 use contract.Lifetimes.{Lfts}
 use borrow.Fn.World.{ArgsD}
 use Rattle.rules_auction.specs.Ledger.{Offer, Lodge, Cancel, Call, Open, By, Close}
 use Rattle.rules_auction.specs.Rounds.{ledger, Answered, answers_from, answers}
 use Rattle.laws_ledger.specs.reachable.Steps.{answers_snoc}
+use Rattle.engine_refusals.specs.Numbers.{after}
+use Rattle.engine_refusals.specs.declared.Refusal.{Refusal}
 use Rattle.engine_auction.specs.Holds.{held_auction}
-use Rattle.engine_auction.specs.Called.{Called, answer_in, closing_in, sets_up, registers, registers_for}
+use Rattle.engine_auction.specs.Called.{Called, answer_in, closing_in, after_closing, sets_up, registers, registers_for}
 use Rattle.engine_auction.specs.declared.Auction.{Auction}
-use Rattle.engine_auction.specs.declared.Answer.{Answer}
 use Rattle.engine_auction.specs.declared.Closing.{Closing}
 use Rattle.engine_auction.proofs.Auction.new.Reads as new
 use Rattle.engine_auction.proofs.Auction.set_up.Reads as set_up_lem
@@ -54,31 +55,31 @@ use Rattle.engine_looks.proofs.forcing.who_can_force.Met as who_can_force_met
 -- `Made c a r b`: the call c, made on the auction a, is answered r and returns b, as the method's own contract says
 pub data Made : Call → Auction → Answered → Auction → Type 0 where
   sets_up_lem :
-      {a : Auction} (ce d m1 m2 a₀ : ℕ) (r : Answer) →
+      {a : Auction} (ce d m1 m2 a₀ : ℕ) (r : Result Auction Refusal) →
       set_up_lem.Post tt (a, (ce, (d, (m1, (m2, (a₀, tt)))))) r (a, (ce, (d, (m1, (m2, (a₀, tt)))))) →
-      Made (sets_up ce d m1 m2 a₀) a (answer_in r) r.auction
+      Made (sets_up ce d m1 m2 a₀) a (answer_in r) (after a r)
   -- the arguments x: the auction, project, developer, kind, study value, start day, levels
   registers_one :
-      (κs : Lfts 1) (x : ArgsD register_signature κs) (r : Answer) → registration.Post κs x r x →
+      (κs : Lfts 1) (x : ArgsD register_signature κs) (r : Result Auction Refusal) → registration.Post κs x r x →
       Made (registers x.1.0 x.1.1.0 x.1.1.1.0 x.1.1.1.1.0 x.1.1.1.1.1.0 x.1.1.1.1.1.1.0.now) x.0 (answer_in r)
-      r.auction
+      (after x.0 r)
   -- the same with the agent behind the kind (document 02, 10)
   registers_for_lem :
-      (κs : Lfts 1) (x : ArgsD register_for_signature κs) (r : Answer) → registration_for_lem.Post κs x r x →
+      (κs : Lfts 1) (x : ArgsD register_for_signature κs) (r : Result Auction Refusal) → registration_for_lem.Post κs x r x →
       Made (registers_for x.1.0 x.1.1.0 x.1.1.1.0 x.1.1.1.1.0 x.1.1.1.1.1.0 x.1.1.1.1.1.1.0
       x.1.1.1.1.1.1.1.0.now)
-      x.0 (answer_in r) r.auction
-  opens : {a : Auction} (c : ℕ) (r : Answer) → opening.Post tt (a, (c, tt)) r (a, (c, tt)) → Made (Open c) a (answer_in r) r.auction
+      x.0 (answer_in r) (after x.0 r)
+  opens : {a : Auction} (c : ℕ) (r : Result Auction Refusal) → opening.Post tt (a, (c, tt)) r (a, (c, tt)) → Made (Open c) a (answer_in r) (after a r)
   -- the arguments x: the auction, developer, prices, levels
   offers :
-      (κs : Lfts 2) (x : ArgsD offer_signature κs) (r : Answer) → offering.Post κs x r x →
-      Made (By x.1.0 (Offer x.1.1.0.now x.1.1.1.0.now)) x.0 (answer_in r) r.auction
+      (κs : Lfts 2) (x : ArgsD offer_signature κs) (r : Result Auction Refusal) → offering.Post κs x r x →
+      Made (By x.1.0 (Offer x.1.1.0.now x.1.1.1.0.now)) x.0 (answer_in r) (after x.0 r)
   -- the same arguments
   lodges :
-      (κs : Lfts 2) (x : ArgsD lodge_signature κs) (r : Answer) → lodging.Post κs x r x →
-      Made (By x.1.0 (Lodge x.1.1.0.now x.1.1.1.0.now)) x.0 (answer_in r) r.auction
-  cancels : {a : Auction} (n : ℕ) (r : Answer) → cancelling.Post tt (a, (n, tt)) r (a, (n, tt)) → Made (By n Cancel) a (answer_in r) r.auction
-  closes : {a : Auction} (r : Closing) → closing.Post tt (a, tt) r (a, tt) → Made Close a (closing_in r) r.auction
+      (κs : Lfts 2) (x : ArgsD lodge_signature κs) (r : Result Auction Refusal) → lodging.Post κs x r x →
+      Made (By x.1.0 (Lodge x.1.1.0.now x.1.1.1.0.now)) x.0 (answer_in r) (after x.0 r)
+  cancels : {a : Auction} (n : ℕ) (r : Result Auction Refusal) → cancelling.Post tt (a, (n, tt)) r (a, (n, tt)) → Made (By n Cancel) a (answer_in r) (after a r)
+  closes : {a : Auction} (r : Result Closing Refusal) → closing.Post tt (a, tt) r (a, tt) → Made Close a (closing_in r) (after_closing a r)
 
 pub by_contract : {c : Call} {a b : Auction} {r : Answered} → Made c a r b → Called c a b r
 by_contract (sets_up_lem ce d m1 m2 a₀ r s) = s

@@ -2,7 +2,7 @@
 -- own arguments, through its own contract, which it meets: it writes the order that they ask. An accepted one lays over the buffer's start a frame
 -- that reads back to that order, and every well-formed line read and then written is the same bytes. So the replies to a record written order by
 -- order are those to the orders.
-use Rattle.std.specs.Prelude.{ℕ, ◌≡◌, refl, Bool, true, false, length}
+use Rattle.std.specs.Prelude.{ℕ, ◌≡◌, refl, Bool, true, false, length, Result}
 use Rattle.std.proofs.Math.Path.{sym, ap}
 use Rattle.std.proofs.Common.{◌∙◌, arith}
 use Rattle.std.proofs.Math.Bool.{cond}
@@ -23,7 +23,8 @@ use Rattle.rules_replies.specs.WrittenOrders.{raw_of, writable_order, frame_of_o
 use Rattle.rules_replies.specs.WrittenOrderLaws.{order_reads, line_writes, well_formed_asks, replies_to, record_replies}
 use Rattle.rules_replies.specs.Replies.{replies}
 use Rattle.engine_auction.specs.Called.{sets_up, registers, registers_for}
-use Rattle.frame_writing.specs.declared.Written.{Written}
+use Rattle.engine_refusals.specs.declared.Refusal.{Refusal}
+use Rattle.frame_writing.specs.Encodes.{Written, written_in}
 use Rattle.frame_writing.specs.each_call.Writes.{Writes}
 use Rattle.frame_writing.specs.contracts.each_call.write_set_up.{signature as set_up_signature}
 use Rattle.frame_writing.specs.contracts.each_call.write_registration.{signature as registration_signature}
@@ -94,52 +95,53 @@ pub record FrameWritten (o : Order) (old new : List ℕ) (r : Written) : Type 0 
 pub record WritersStated : Type 1 where
   -- CE, D, M1, M2, A
   pub set_up_written :
-      (κs : Lfts 1) (x : ArgsD set_up_signature κs) (r : Written) (y : AtExit (ended_of 1 set_up_kinds.ps set_up_kinds.r) κs) →
+      (κs : Lfts 1) (x : ArgsD set_up_signature κs) (r : Result ℕ Refusal) (y : AtExit (ended_of 1 set_up_kinds.ps set_up_kinds.r) κs) →
       set_up_reads.Post κs x r y →
       FrameWritten (Asks (sets_up x.0 x.1.0 x.1.1.0 x.1.1.1.0 x.1.1.1.1.0))
-      x.1.1.1.1.1.0.now y.1.1.1.1.1.0.now r
+      x.1.1.1.1.1.0.now y.1.1.1.1.1.0.now (written_in r)
   -- project, developer, kind, study value, start day, levels
   pub registration_written :
-      (κs : Lfts 2) (x : ArgsD registration_signature κs) (r : Written) (y : AtExit (ended_of 2 registration_kinds.ps registration_kinds.r) κs) →
+      (κs : Lfts 2) (x : ArgsD registration_signature κs) (r : Result ℕ Refusal) (y : AtExit (ended_of 2 registration_kinds.ps registration_kinds.r) κs) →
       registration_reads.Post κs x r y →
       FrameWritten (Asks (registers x.0 x.1.0 x.1.1.0 x.1.1.1.0 x.1.1.1.1.0 x.1.1.1.1.1.0.now))
-      x.1.1.1.1.1.1.0.now y.1.1.1.1.1.1.0.now r
+      x.1.1.1.1.1.1.0.now y.1.1.1.1.1.1.0.now (written_in r)
   -- the same with the agent behind the kind (document 02, 10)
   pub registration_for_written :
-      (κs : Lfts 2) (x : ArgsD registration_for_signature κs) (r : Written) (y : AtExit (ended_of 2 registration_for_kinds.ps registration_for_kinds.r) κs) →
+      (κs : Lfts 2) (x : ArgsD registration_for_signature κs) (r : Result ℕ Refusal)
+      (y : AtExit (ended_of 2 registration_for_kinds.ps registration_for_kinds.r) κs) →
       registration_for_reads.Post κs x r y →
       FrameWritten (Asks (registers_for x.0 x.1.0 x.1.1.0 x.1.1.1.0 x.1.1.1.1.0 x.1.1.1.1.1.0 x.1.1.1.1.1.1.0.now))
-      x.1.1.1.1.1.1.1.0.now y.1.1.1.1.1.1.1.0.now r
+      x.1.1.1.1.1.1.1.0.now y.1.1.1.1.1.1.1.0.now (written_in r)
   -- C
   pub opening_written :
-      (κs : Lfts 1) (x : ArgsD opening_signature κs) (r : Written) (y : AtExit (ended_of 1 opening_kinds.ps opening_kinds.r) κs) →
+      (κs : Lfts 1) (x : ArgsD opening_signature κs) (r : Result ℕ Refusal) (y : AtExit (ended_of 1 opening_kinds.ps opening_kinds.r) κs) →
       opening_reads.Post κs x r y →
-      FrameWritten (Asks (Open x.0)) x.1.0.now y.1.0.now r
+      FrameWritten (Asks (Open x.0)) x.1.0.now y.1.0.now (written_in r)
   -- developer, prices, levels
   pub offer_written :
-      (κs : Lfts 3) (x : ArgsD offer_signature κs) (r : Written) (y : AtExit (ended_of 3 offer_kinds.ps offer_kinds.r) κs) →
+      (κs : Lfts 3) (x : ArgsD offer_signature κs) (r : Result ℕ Refusal) (y : AtExit (ended_of 3 offer_kinds.ps offer_kinds.r) κs) →
       offer_reads.Post κs x r y →
-      FrameWritten (Asks (By x.0 (Offer x.1.0.now x.1.1.0.now))) x.1.1.1.0.now y.1.1.1.0.now r
+      FrameWritten (Asks (By x.0 (Offer x.1.0.now x.1.1.0.now))) x.1.1.1.0.now y.1.1.1.0.now (written_in r)
   -- the same, lodged (document 02, 5)
   pub lodging_written :
-      (κs : Lfts 3) (x : ArgsD lodging_signature κs) (r : Written) (y : AtExit (ended_of 3 lodging_kinds.ps lodging_kinds.r) κs) →
+      (κs : Lfts 3) (x : ArgsD lodging_signature κs) (r : Result ℕ Refusal) (y : AtExit (ended_of 3 lodging_kinds.ps lodging_kinds.r) κs) →
       lodging_reads.Post κs x r y →
-      FrameWritten (Asks (By x.0 (Lodge x.1.0.now x.1.1.0.now))) x.1.1.1.0.now y.1.1.1.0.now r
+      FrameWritten (Asks (By x.0 (Lodge x.1.0.now x.1.1.0.now))) x.1.1.1.0.now y.1.1.1.0.now (written_in r)
   -- developer (document 02, 7)
   pub cancellation_written :
-      (κs : Lfts 1) (x : ArgsD cancellation_signature κs) (r : Written) (y : AtExit (ended_of 1 cancellation_kinds.ps cancellation_kinds.r) κs) →
+      (κs : Lfts 1) (x : ArgsD cancellation_signature κs) (r : Result ℕ Refusal) (y : AtExit (ended_of 1 cancellation_kinds.ps cancellation_kinds.r) κs) →
       cancellation_reads.Post κs x r y →
-      FrameWritten (Asks (By x.0 Cancel)) x.1.0.now y.1.0.now r
+      FrameWritten (Asks (By x.0 Cancel)) x.1.0.now y.1.0.now (written_in r)
   -- the buffer alone
   pub closing_written :
-      (κs : Lfts 1) (x : ArgsD closing_signature κs) (r : Written) (y : AtExit (ended_of 1 closing_kinds.ps closing_kinds.r) κs) →
+      (κs : Lfts 1) (x : ArgsD closing_signature κs) (r : Result ℕ Refusal) (y : AtExit (ended_of 1 closing_kinds.ps closing_kinds.r) κs) →
       closing_reads.Post κs x r y →
-      FrameWritten (Asks Close) x.0.now y.0.now r
+      FrameWritten (Asks Close) x.0.now y.0.now (written_in r)
   -- limit
   pub settling_written :
-      (κs : Lfts 1) (x : ArgsD settling_signature κs) (r : Written) (y : AtExit (ended_of 1 settling_kinds.ps settling_kinds.r) κs) →
+      (κs : Lfts 1) (x : ArgsD settling_signature κs) (r : Result ℕ Refusal) (y : AtExit (ended_of 1 settling_kinds.ps settling_kinds.r) κs) →
       settling_reads.Post κs x r y →
-      FrameWritten (Settle x.0) x.1.0.now y.1.0.now r
+      FrameWritten (Settle x.0) x.1.0.now y.1.0.now (written_in r)
 
 pub record FramesStated (M : Type 1) : Type 2 where
   pub meets : WritersMeet M
@@ -191,15 +193,15 @@ module _ (o : Order) (old new : List ℕ) (r : Written) (w : Writes o old new r)
 
 by_their_arguments : WritersStated
 by_their_arguments = record {
-  set_up_written = λ κs x r y w. frame_written _ _ _ r w;
-  registration_written = λ κs x r y w. frame_written _ _ _ r w;
-  registration_for_written = λ κs x r y w. frame_written _ _ _ r w;
-  opening_written = λ κs x r y w. frame_written _ _ _ r w;
-  offer_written = λ κs x r y w. frame_written _ _ _ r w;
-  lodging_written = λ κs x r y w. frame_written _ _ _ r w;
-  cancellation_written = λ κs x r y w. frame_written _ _ _ r w;
-  closing_written = λ κs x r y w. frame_written _ _ _ r w;
-  settling_written = λ κs x r y w. frame_written _ _ _ r w;
+  set_up_written = λ κs x r y w. frame_written _ _ _ (written_in r) w;
+  registration_written = λ κs x r y w. frame_written _ _ _ (written_in r) w;
+  registration_for_written = λ κs x r y w. frame_written _ _ _ (written_in r) w;
+  opening_written = λ κs x r y w. frame_written _ _ _ (written_in r) w;
+  offer_written = λ κs x r y w. frame_written _ _ _ (written_in r) w;
+  lodging_written = λ κs x r y w. frame_written _ _ _ (written_in r) w;
+  cancellation_written = λ κs x r y w. frame_written _ _ _ (written_in r) w;
+  closing_written = λ κs x r y w. frame_written _ _ _ (written_in r) w;
+  settling_written = λ κs x r y w. frame_written _ _ _ (written_in r) w;
 }
 
 pub frames_stated : {M : Type 1} → FramesStated M

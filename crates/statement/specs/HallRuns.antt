@@ -1,7 +1,7 @@
 -- Calls through seats of the auction hall (document 02, 14), each getting the hall that the last one returned. A step is what the method's own
 -- contract says of its arguments and its result. Runs through seats alone, from a fresh hall; and lists that hold calls on the auction and
 -- calls through seats.
-use Rattle.std.specs.Prelude.{◌≡◌, refl, Bool, true, false, cond, List, [], ◌∷◌, ◌++◌, ℕ}
+use Rattle.std.specs.Prelude.{◌≡◌, refl, Bool, true, false, cond, List, [], ◌∷◌, ◌++◌, ℕ, Result, Ok, Err}
 use Rattle.std.proofs.Common.{sym, ap, ap₂, subst, ◌∙◌}
 use contract.Lifetimes.{Lfts}
 use borrow.Fn.World.{ArgsD}
@@ -12,16 +12,16 @@ use Rattle.rules_seats.specs.Seats.{entry_answers, through_seats}
 use Rattle.rules_seats.specs.SeatLaws.{hall_ledger_snoc, hall_answers_snoc, through_snoc, permitted_direct, permitted_made, permitted_barred}
 use Rattle.rules_seats.specs.SeatLaws.{entry_answers_snoc, hall_is}
 use Rattle.engine_auction.specs.Holds.{held_auction}
-use Rattle.engine_auction.specs.Called.{sets_up, registers, registers_for}
+use Rattle.engine_refusals.specs.Numbers.{after}
+use Rattle.engine_refusals.specs.declared.Refusal.{Refusal}
+use Rattle.engine_auction.specs.Called.{Called, AnswersCall, answer_in, sets_up, registers, registers_for}
 use Rattle.engine_auction.specs.declared.Auction.{Auction}
-use Rattle.engine_auction.specs.declared.Answer.{Answer}
 use Rattle.engine_auction.proofs.Auction.new.Reads as new
 use Rattle.seats.specs.Rights.{seat_in}
 use Rattle.seats.specs.declared.Seat.{Seat}
-use Rattle.hall.specs.Through.{held_hall, CalledThrough, hall_answer_in, hall_closing_in}
+use Rattle.hall.specs.Through.{held_hall, CalledThrough, hall_closing_in, after_hall_closing}
 use Rattle.hall.specs.ThroughLaws.{held_through}
 use Rattle.hall.specs.declared.Hall.{Hall}
-use Rattle.hall.specs.declared.HallAnswer.{HallAnswer}
 use Rattle.hall.specs.declared.HallClosing.{HallClosing}
 use Rattle.hall.proofs.Hall.new.Reads as hall_new
 use Rattle.hall.proofs.Hall.set_up.Reads as set_up_lem
@@ -42,31 +42,32 @@ use Rattle.statement.specs.EveryList.{Made, by_contract, Run, run_reached}
 -- `MadeThrough s c h r k`: the call c, made through the seat s in the hall h, is answered r and returns k, as the method's own contract says
 pub data MadeThrough : Seat → Call → Hall → Answered → Hall → Type 0 where
   sets_up_lem :
-      {h : Hall} (s : Seat) (ce d m1 m2 a : ℕ) (r : HallAnswer) →
+      {h : Hall} (s : Seat) (ce d m1 m2 a : ℕ) (r : Result Hall Refusal) →
       set_up_lem.Post tt (h, (s, (ce, (d, (m1, (m2, (a, tt))))))) r (h, (s, (ce, (d, (m1, (m2, (a, tt))))))) →
-      MadeThrough s (sets_up ce d m1 m2 a) h (hall_answer_in r) r.hall
+      MadeThrough s (sets_up ce d m1 m2 a) h (answer_in r) (after h r)
   -- the arguments x: the hall, the seat, then those of the auction's call
   registers_one :
-      (κs : Lfts 1) (x : ArgsD register_signature κs) (r : HallAnswer) → registration.Post κs x r x →
+      (κs : Lfts 1) (x : ArgsD register_signature κs) (r : Result Hall Refusal) → registration.Post κs x r x →
       MadeThrough x.1.0 (registers x.1.1.0 x.1.1.1.0 x.1.1.1.1.0 x.1.1.1.1.1.0 x.1.1.1.1.1.1.0
-      x.1.1.1.1.1.1.1.0.now) x.0 (hall_answer_in r) r.hall
+      x.1.1.1.1.1.1.1.0.now) x.0 (answer_in r) (after x.0 r)
   registers_for_lem :
-      (κs : Lfts 1) (x : ArgsD register_for_signature κs) (r : HallAnswer) → registration_for_lem.Post κs x r x →
+      (κs : Lfts 1) (x : ArgsD register_for_signature κs) (r : Result Hall Refusal) → registration_for_lem.Post κs x r x →
       MadeThrough x.1.0 (registers_for x.1.1.0 x.1.1.1.0 x.1.1.1.1.0 x.1.1.1.1.1.0 x.1.1.1.1.1.1.0
       x.1.1.1.1.1.1.1.0 x.1.1.1.1.1.1.1.1.0.now)
-      x.0 (hall_answer_in r) r.hall
-  opens : {h : Hall} (s : Seat) (c : ℕ) (r : HallAnswer) → opening.Post tt (h, (s, (c, tt))) r (h, (s, (c, tt))) →
-      MadeThrough s (Open c) h (hall_answer_in r) r.hall
+      x.0 (answer_in r) (after x.0 r)
+  opens : {h : Hall} (s : Seat) (c : ℕ) (r : Result Hall Refusal) → opening.Post tt (h, (s, (c, tt))) r (h, (s, (c, tt))) →
+      MadeThrough s (Open c) h (answer_in r) (after h r)
   offers :
-      (κs : Lfts 2) (x : ArgsD offer_signature κs) (r : HallAnswer) → offering.Post κs x r x →
-      MadeThrough x.1.0 (By x.1.1.0 (Offer x.1.1.1.0.now x.1.1.1.1.0.now)) x.0 (hall_answer_in r) r.hall
+      (κs : Lfts 2) (x : ArgsD offer_signature κs) (r : Result Hall Refusal) → offering.Post κs x r x →
+      MadeThrough x.1.0 (By x.1.1.0 (Offer x.1.1.1.0.now x.1.1.1.1.0.now)) x.0 (answer_in r) (after x.0 r)
   lodges :
-      (κs : Lfts 2) (x : ArgsD lodge_signature κs) (r : HallAnswer) → lodging.Post κs x r x →
-      MadeThrough x.1.0 (By x.1.1.0 (Lodge x.1.1.1.0.now x.1.1.1.1.0.now)) x.0 (hall_answer_in r) r.hall
+      (κs : Lfts 2) (x : ArgsD lodge_signature κs) (r : Result Hall Refusal) → lodging.Post κs x r x →
+      MadeThrough x.1.0 (By x.1.1.0 (Lodge x.1.1.1.0.now x.1.1.1.1.0.now)) x.0 (answer_in r) (after x.0 r)
   cancels :
-      {h : Hall} (s : Seat) (n : ℕ) (r : HallAnswer) → cancelling.Post tt (h, (s, (n, tt))) r (h, (s, (n, tt))) →
-      MadeThrough s (By n Cancel) h (hall_answer_in r) r.hall
-  closes : {h : Hall} (s : Seat) (r : HallClosing) → closing.Post tt (h, (s, tt)) r (h, (s, tt)) → MadeThrough s Close h (hall_closing_in r) r.hall
+      {h : Hall} (s : Seat) (n : ℕ) (r : Result Hall Refusal) → cancelling.Post tt (h, (s, (n, tt))) r (h, (s, (n, tt))) →
+      MadeThrough s (By n Cancel) h (answer_in r) (after h r)
+  closes : {h : Hall} (s : Seat) (r : Result HallClosing Refusal) → closing.Post tt (h, (s, tt)) r (h, (s, tt)) →
+      MadeThrough s Close h (hall_closing_in r) (after_hall_closing h r)
 
 pub by_hall_contract : {s : Seat} {c : Call} {h k : Hall} {r : Answered} → MadeThrough s c h r k → CalledThrough (seat_in s) c h k r
 by_hall_contract (sets_up_lem s ce d m1 m2 a r w) = w
@@ -78,19 +79,30 @@ by_hall_contract (lodges κs x r w) = w
 by_hall_contract (cancels s n r w) = w
 by_hall_contract (closes s r w) = w
 
-abbrev answer_in_lem : HallAnswer → Answer
-answer_in_lem r = record { number = r.number; auction = r.hall.auction }
+-- what the auction in the hall answers, where a call on the hall answers so
+in_auction :
+    (c : Call) (h : Hall) (r : Result Hall Refusal) →
+    ((q : Result Auction Refusal) → AnswersCall c h.auction q → Made c h.auction (answer_in q) (after h.auction q)) →
+    Called c h.auction (after h r).auction (answer_in r) → Made c h.auction (answer_in r) (after h r).auction
+in_auction c h (Ok k) f w = f (Ok k.auction) w
+in_auction c h (Err e) f w = f (Err e) w
+
+closing_in_auction :
+    (h : Hall) (r : Result HallClosing Refusal) → Called Close h.auction (after_hall_closing h r).auction (hall_closing_in r) →
+    Made Close h.auction (hall_closing_in r) (after_hall_closing h r).auction
+closing_in_auction h (Ok x) w = plain.closes (Ok (record { excess = x.excess; remainder = x.remainder; auction = x.hall.auction })) w
+closing_in_auction h (Err e) w = plain.closes (Err e) w
 
 -- with the right it is the auction's own call, made on the auction in the hall
 pub made_in : {s : Seat} {c : Call} {h k : Hall} {r : Answered} → MadeThrough s c h r k → may_make (seat_in s) c ≡ true → Made c h.auction r k.auction
-made_in (sets_up_lem s ce d m1 m2 a r w) e = plain.sets_up_lem ce d m1 m2 a (answer_in_lem r) (w.made e)
-made_in (registers_one κs x r w) e = plain.registers_one κs (x.0.auction, x.1.1) (answer_in_lem r) (w.made e)
-made_in (registers_for_lem κs x r w) e = plain.registers_for_lem κs (x.0.auction, x.1.1) (answer_in_lem r) (w.made e)
-made_in (opens s c r w) e = plain.opens c (answer_in_lem r) (w.made e)
-made_in (offers κs x r w) e = plain.offers κs (x.0.auction, x.1.1) (answer_in_lem r) (w.made e)
-made_in (lodges κs x r w) e = plain.lodges κs (x.0.auction, x.1.1) (answer_in_lem r) (w.made e)
-made_in (cancels s n r w) e = plain.cancels n (answer_in_lem r) (w.made e)
-made_in (closes s r w) e = plain.closes (record { number = r.number; excess = r.excess; remainder = r.remainder; auction = r.hall.auction }) (w.made e)
+made_in (sets_up_lem {h = h} s ce d m1 m2 a r w) e = in_auction _ h r (λ q p. plain.sets_up_lem ce d m1 m2 a q p) (w.made e)
+made_in (registers_one κs x r w) e = in_auction _ x.0 r (λ q p. plain.registers_one κs (x.0.auction, x.1.1) q p) (w.made e)
+made_in (registers_for_lem κs x r w) e = in_auction _ x.0 r (λ q p. plain.registers_for_lem κs (x.0.auction, x.1.1) q p) (w.made e)
+made_in (opens {h = h} s c r w) e = in_auction _ h r (λ q p. plain.opens c q p) (w.made e)
+made_in (offers κs x r w) e = in_auction _ x.0 r (λ q p. plain.offers κs (x.0.auction, x.1.1) q p) (w.made e)
+made_in (lodges κs x r w) e = in_auction _ x.0 r (λ q p. plain.lodges κs (x.0.auction, x.1.1) q p) (w.made e)
+made_in (cancels {h = h} s n r w) e = in_auction _ h r (λ q p. plain.cancels n q p) (w.made e)
+made_in (closes {h = h} s r w) e = closing_in_auction h r (w.made e)
 
 -- ---- runs through seats
 

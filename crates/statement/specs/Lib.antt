@@ -1,3 +1,5 @@
+pub mod RefusalNumbers
+pub mod SameResults
 pub mod EveryList
 pub mod Previewed
 pub mod SupplyCurves

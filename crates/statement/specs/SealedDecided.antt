@@ -5,7 +5,7 @@ use Rattle.std.proofs.Common.{sym, ap, ◌∙◌}
 use Rattle.rules_numbers.specs.Tails.{laid}
 use Rattle.rules_sealed.specs.Sealed.{Book, taking_order, awards, left_over}
 use Rattle.rules_sealed.specs.WordsDecide.{AsAsked, as_asked, the_awards}
-use Rattle.engine_sealed.specs.declared.sealed_auction.Lent.{Lent}
+use Rattle.engine_sealed.specs.sealed_auction.Cleared.{Lent}
 use Rattle.statement.specs.SealedStated.{SealedAnswered}
 
 -- `old` and `new` are the lent buffer before and after

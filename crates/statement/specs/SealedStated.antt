@@ -1,7 +1,7 @@
 -- THE SEALED AUCTION (document 02, 13), a second auction without a state: whatever the arguments, it is refused exactly when the papers say and
 -- leaves the buffer then; otherwise awards, what is left and buffer are the definition's, which is as the request's words say. It is tied in
 -- through its own contract, which it meets.
-use Rattle.std.specs.Prelude.{ℕ, ◌≡◌, Bool, List, length}
+use Rattle.std.specs.Prelude.{ℕ, ◌≡◌, Bool, List, length, Result}
 use Rattle.std.proofs.Math.Path.{sym, ap}
 use Rattle.std.proofs.Common.{◌∙◌}
 use Rattle.std.proofs.Math.Bool.{cond}
@@ -16,8 +16,8 @@ use Rattle.rules_sealed.specs.Sealed.{Book, book_of, awards, left_over, lent_ref
 use Rattle.rules_sealed.specs.InWords.{InWords, AnyListOrder}
 use Rattle.rules_sealed.specs.SealedLaws.{in_words, any_list_order}
 use Rattle.engine_sealed.specs.sealed_checks.AcceptedBook.{lent_accepted}
-use Rattle.engine_sealed.specs.sealed_auction.Cleared.{Lends}
-use Rattle.engine_sealed.specs.declared.sealed_auction.Lent.{Lent}
+use Rattle.engine_refusals.specs.declared.Refusal.{Refusal}
+use Rattle.engine_sealed.specs.sealed_auction.Cleared.{Lent, lent_in, Lends}
 use Rattle.engine_sealed.specs.contracts.sealed_auction.sealed_auction.{signature}
 use Rattle.engine_sealed.proofs.sealed_auction.sealed_auction.Kinds as kinds
 use Rattle.engine_sealed.proofs.sealed_auction.sealed_auction.Reads as sealing
@@ -34,9 +34,9 @@ pub record SealedAnswered (ceiling demand : ℕ) (b : Book) (old new : List ℕ)
 pub record SealedStated (M : Type 1) : Type 2 where
   pub meets : sealing_states.statement M
   pub answered :
-      (κs : Lfts 5) (x : ArgsD signature κs) (r : Lent) (y : AtExit (ended_of 5 kinds.ps kinds.r) κs) → sealing.Post κs x r y →
+      (κs : Lfts 5) (x : ArgsD signature κs) (r : Result ℕ Refusal) (y : AtExit (ended_of 5 kinds.ps kinds.r) κs) → sealing.Post κs x r y →
       SealedAnswered x.0 x.1.0 (book_of x.1.1.0.now x.1.1.1.0.now x.1.1.1.1.0.now x.1.1.1.1.1.0.now)
-      x.1.1.1.1.1.1.0.now y.1.1.1.1.1.1.0.now r
+      x.1.1.1.1.1.1.0.now y.1.1.1.1.1.1.0.now (lent_in r)
   pub any_order : AnyListOrder
 
 module _ (ceiling demand : ℕ) (b : Book) (old new : List ℕ) (r : Lent) (w : Lends ceiling demand b old new r) where
@@ -62,6 +62,6 @@ module _ (ceiling demand : ℕ) (b : Book) (old new : List ℕ) (r : Lent) (w : 
 pub sealed_stated : {M : Type 1} → SealedStated M
 sealed_stated = record {
   meets = sealing_met.met;
-  answered = λ κs x r y w. as_stated _ _ _ _ _ r w;
+  answered = λ κs x r y w. as_stated _ _ _ _ _ (lent_in r) w;
   any_order = any_list_order;
 }

@@ -2,7 +2,7 @@
 -- readings are by the definitions; a developer learns from its view alone, at every moment; and settling or looking through a seat keeps what is
 -- stated of them, for lists that hold calls on the auction and calls through seats. The calls are tied in through their own contracts, which each of
 -- them meets.
-use Rattle.std.specs.Prelude.{ℕ, ◌≡◌, true, false, List}
+use Rattle.std.specs.Prelude.{ℕ, ◌≡◌, true, false, List, Result}
 use contract.Lifetimes.{Lfts}
 use denote.Triple.Clauses.{AtExit}
 use borrow.Fn.World.{ArgsD}
@@ -13,8 +13,9 @@ use Rattle.rules_seats.specs.Seats.{may_make, may_settle, Seated, hall_ledger, h
 use Rattle.rules_seats.specs.Views.{view, own_answers, ByViewAlone, StillBetween, OthersUnseen, ClockAlone}
 use Rattle.rules_seats.specs.ViewLaws.{by_view_alone, still_between, others_unseen, clock_alone}
 use Rattle.engine_auction.specs.declared.Auction.{Auction}
-use Rattle.engine_settling.specs.Settles.{refused_with}
-use Rattle.engine_settling.specs.declared.Settled.{Settled}
+use Rattle.engine_refusals.specs.declared.Refusal.{Refusal}
+use Rattle.engine_settling.specs.Settles.{settled_in, refused_with}
+use Rattle.engine_settling.specs.declared.Settlement.{Settlement}
 use Rattle.statement.specs.settling.Stated.{Stated}
 use Rattle.statement.specs.settling.StatedLaws.{stated}
 use Rattle.seats.specs.Rights.{seat_in}
@@ -109,12 +110,13 @@ pub record SeatsStated (M : Type 1) : Type 2 where
   pub list_of_run : {ms : List Seated} {rs : List Answered} {h : Hall} → HallRun ms rs h → SeatedRun (through_seats ms) rs h.auction
   -- the arguments x: the hall, the seat, the limit, the buffer; y: the same at the call's end
   pub settles :
-      {es : List Entry} {rs : List Answered} (κs : Lfts 1) (x : ArgsD signature κs) (r : Settled) (y : AtExit (ended_of 1 kinds.ps kinds.r) κs) →
+      {es : List Entry} {rs : List Answered} (κs : Lfts 1) (x : ArgsD signature κs) (r : Result Settlement Refusal)
+      (y : AtExit (ended_of 1 kinds.ps kinds.r) κs) →
       SeatedRun es rs x.0.auction → may_settle (seat_in x.1.0) ≡ true → settle.Post κs x r y →
-      Stated (ledger (permitted es)) x.1.1.0 x.1.1.1.0.now y.1.1.1.0.now r
+      Stated (ledger (permitted es)) x.1.1.0 x.1.1.1.0.now y.1.1.1.0.now (settled_in r)
   pub settling_barred :
-      (κs : Lfts 1) (x : ArgsD signature κs) (r : Settled) (y : AtExit (ended_of 1 kinds.ps kinds.r) κs) →
-      may_settle (seat_in x.1.0) ≡ false → settle.Post κs x r y → (r ≡ refused_with 20) × (y.1.1.1.0.now ≡ x.1.1.1.0.now)
+      (κs : Lfts 1) (x : ArgsD signature κs) (r : Result Settlement Refusal) (y : AtExit (ended_of 1 kinds.ps kinds.r) κs) →
+      may_settle (seat_in x.1.0) ≡ false → settle.Post κs x r y → (settled_in r ≡ refused_with 20) × (y.1.1.1.0.now ≡ x.1.1.1.0.now)
   -- LOOKING THROUGH A SEAT: a preview, a point of the supply curve and who can force the price, likewise
   pub looks : LooksThrough
 
@@ -152,7 +154,8 @@ seats_stated = record {
   list = permitted_run;
   list_answered = entries_answered;
   list_of_run = seated;
-  settles = λ {es} κs x r y w e s. stated (permitted es) x.0.auction x.1.1.0 x.1.1.1.0.now y.1.1.1.0.now r (run_reached (permitted_run w)).0 (s.made e);
+  settles = λ {es} κs x r y w e s.
+      stated (permitted es) x.0.auction x.1.1.0 x.1.1.1.0.now y.1.1.1.0.now (settled_in r) (run_reached (permitted_run w)).0 (s.made e);
   settling_barred = λ κs x r y e s. s.barred e;
   looks = looks_through;
 }

@@ -2,7 +2,7 @@
 -- other place and leaves the auction as it was, a refused settling leaves the lent buffer as it was, and an accepted one leaves the buffer's
 -- length and the bytes behind its records. Settling takes the auction by value and returns none. So too through the seats of a hall
 -- (document 02, 14), by whichever number a call is refused.
-use Rattle.std.specs.Prelude.{ℕ, ◌*◌, ◌≡◌, refl, Bool, true, false, List, length, drop}
+use Rattle.std.specs.Prelude.{ℕ, ◌*◌, ◌≡◌, refl, Bool, true, false, List, length, drop, Result}
 use Rattle.std.proofs.Common.{sym, ap, ◌∙◌}
 use contract.Lifetimes.{Lfts}
 use denote.Triple.Clauses.{AtExit}
@@ -12,8 +12,9 @@ use Rattle.rules_auction.specs.Ledger.{Call}
 use Rattle.rules_auction.specs.Rounds.{Answered, bare_answer}
 use Rattle.engine_auction.specs.declared.Auction.{Auction}
 use Rattle.engine_auction.specs.CalledLaws.{refused_stays, refused_by_number}
-use Rattle.engine_settling.specs.Settles.{refused_with}
-use Rattle.engine_settling.specs.declared.Settled.{Settled}
+use Rattle.engine_refusals.specs.declared.Refusal.{Refusal}
+use Rattle.engine_settling.specs.Settles.{Settled, settled_in, refused_with}
+use Rattle.engine_settling.specs.declared.Settlement.{Settlement}
 use Rattle.engine_settling.specs.contracts.settle.{signature}
 use Rattle.engine_settling.proofs.settle.Kinds as kinds
 use Rattle.engine_settling.proofs.settle.Reads as settle
@@ -34,18 +35,19 @@ use Rattle.statement.specs.HallRuns.{MadeThrough, by_hall_contract}
 pub record Untouched : Type 1 where
   pub calls : {c : Call} {a b : Auction} {r : Answered} → Made c a r b → (r.number ≡ 0 → ⊥) → (b ≡ a) × (r ≡ bare_answer r.number)
   pub refused_settling :
-      (κs : Lfts 1) (x : ArgsD signature κs) (r : Settled) (y : AtExit (ended_of 1 kinds.ps kinds.r) κs) → settle.Post κs x r y →
-      (r.number ≡ 0 → ⊥) → (r ≡ refused_with r.number) × (y.1.1.0.now ≡ x.1.1.0.now)
+      (κs : Lfts 1) (x : ArgsD signature κs) (r : Result Settlement Refusal) (y : AtExit (ended_of 1 kinds.ps kinds.r) κs) → settle.Post κs x r y →
+      let s = settled_in r in (s.number ≡ 0 → ⊥) → (s ≡ refused_with s.number) × (y.1.1.0.now ≡ x.1.1.0.now)
   pub behind_records :
-      (κs : Lfts 1) (x : ArgsD signature κs) (r : Settled) (y : AtExit (ended_of 1 kinds.ps kinds.r) κs) → settle.Post κs x r y →
-      (length y.1.1.0.now ≡ length x.1.1.0.now) × (drop (6 * r.records) y.1.1.0.now ≡ drop (6 * r.records) x.1.1.0.now)
+      (κs : Lfts 1) (x : ArgsD signature κs) (r : Result Settlement Refusal) (y : AtExit (ended_of 1 kinds.ps kinds.r) κs) → settle.Post κs x r y →
+      let n = (settled_in r).records in (length y.1.1.0.now ≡ length x.1.1.0.now) × (drop (6 * n) y.1.1.0.now ≡ drop (6 * n) x.1.1.0.now)
   pub hall_calls : {s : Seat} {c : Call} {h k : Hall} {r : Answered} → MadeThrough s c h r k → (r.number ≡ 0 → ⊥) → (k ≡ h) × (r ≡ bare_answer r.number)
   pub refused_hall_settling :
-      (κs : Lfts 1) (x : ArgsD hall_signature κs) (r : Settled) (y : AtExit (ended_of 1 hall_kinds.ps hall_kinds.r) κs) → hall_settle.Post κs x r y →
-      (r.number ≡ 0 → ⊥) → (r ≡ refused_with r.number) × (y.1.1.1.0.now ≡ x.1.1.1.0.now)
+      (κs : Lfts 1) (x : ArgsD hall_signature κs) (r : Result Settlement Refusal) (y : AtExit (ended_of 1 hall_kinds.ps hall_kinds.r) κs) →
+      hall_settle.Post κs x r y →
+      let s = settled_in r in (s.number ≡ 0 → ⊥) → (s ≡ refused_with s.number) × (y.1.1.1.0.now ≡ x.1.1.1.0.now)
 
 module _ (s : seats.Seat) (c : Call) (h k : Hall) (r : Answered) (w : CalledThrough s c h k r) (z : r.number ≡ 0 → ⊥) where
-  hall_stays : (k ≡ h) × (r ≡ bare_answer r.number)
+  pub hall_stays : (k ≡ h) × (r ≡ bare_answer r.number)
   hall_stays = go (may_make s c) refl
     where
       go : (b : Bool) → may_make s c ≡ b → (k ≡ h) × (r ≡ bare_answer r.number)
@@ -69,5 +71,5 @@ untouched = record {
   refused_settling = λ κs x r y s. s.same;
   behind_records = λ κs x r y s. s.behind;
   hall_calls = λ m z. hall_stays _ _ _ _ _ (by_hall_contract m) z;
-  refused_hall_settling = λ κs x r y s z. hall_buffer_stays _ _ _ _ _ r s z;
+  refused_hall_settling = λ κs x r y s z. hall_buffer_stays _ _ _ _ _ (settled_in r) s z;
 }

@@ -3,16 +3,17 @@
 // buffer, which is written out when it may have no room for more.
 #![tactic(auto)]
 
-ghost use Rattle.std.specs.Prelude.{◌≡◌, ◌+◌, ◌≤◌, min, length, IfOk};
+ghost use Rattle.std.specs.Prelude.{◌≡◌, ◌+◌, ◌≤◌, length, IfOk};
 ghost use Rattle.std.specs.Io.{ReadsAtMost};
 
 use engine_auction::Auction;
 use engine_looks::readings;
+use engine_looks::readings::Preview;
+use engine_refusals::Refusal;
 use frame_bytes::lines;
 use frame_reading::frames;
 use record_replies::Ran;
 use std::io;
-use trace_text::{NO_PREVIEW, PreviewShown};
 
 // The most bytes of a record (document 01, Frames).
 const LONGEST_RECORD: usize = 65_536;
@@ -25,22 +26,6 @@ const LONGEST_REPLY: usize = 463;
 
 // The bytes of a reply that adds nothing, as every refused one.
 const BARE_REPLY: usize = 5;
-
-// One byte more than a record may have, so that a longer one is seen.
-fn input() -> [u8; 65537]
-    ensures { 65537 ≡ length result }
-{
-    [0; 65537]
-}
-
-fn least(x: usize, y: usize) -> usize
-    ensures { result ≡ min x y }
-{
-    if x < y {
-        return x;
-    }
-    y
-}
 
 // Where there is room for more: behind what is collected, or at the start once that is written out.
 fn with_room(rt: &impl Print, text: &[u8], end: usize) -> io::Result<usize>
@@ -55,29 +40,19 @@ fn with_room(rt: &impl Print, text: &[u8], end: usize) -> io::Result<usize>
 }
 
 // What a closing would answer; only before one is it looked at.
-fn look(auction: Auction, kind: usize) -> PreviewShown {
+fn look(auction: Auction, kind: usize) -> Option<Result<Preview, Refusal>> {
     if kind != 5 {
-        return NO_PREVIEW;
+        return None;
     }
-    let preview = readings::preview_closing(auction);
-    PreviewShown {
-        number: preview.number,
-        excess: reply_values::bits_of(preview.excess),
-        remainder: preview.remainder,
-        closed: preview.closed,
-    }
+    Some(readings::preview_closing(auction))
 }
 
 // How many points of the supply curve stand below a reply: all of them, below an accepted closing.
 fn points_shown(auction: Auction, kind: usize, accepted: bool) -> usize {
-    if kind != 5 {
+    if kind != 5 || !accepted {
         return 0;
     }
-    if !accepted {
-        return 0;
-    }
-    let first = readings::supply_point(auction, 0);
-    first.entries
+    readings::supply_point(auction, 0).entries
 }
 
 // Puts the first points of the supply curve (document 02, 9), one a line, and gives the place behind them.
@@ -117,24 +92,22 @@ fn put_lines(rt: &impl Print, bytes: &[u8], text: &mut [u8]) -> io::Result<usize
     let mut at: usize = 0;
     while at < bytes.len() {
         let line = lines::next_line(bytes, at);
-        let next = least(at + line.len() + 1, bytes.len());
+        let next = (at + line.len() + 1).min(bytes.len());
         let kind = frames::decode(line).kind;
         let preview = look(auction, kind);
         let start = with_room(rt, text, end)?;
         let reply = trace_text::put_before(text, start, kind, preview);
         let ran = put_reply(text, reply, auction, &bytes[at..next]);
-        let n = least(ran.written, LONGEST_REPLY);
+        let n = ran.written.min(LONGEST_REPLY);
         let accepted = BARE_REPLY < n;
-        let settled = ran.settled;
-        let awards = ran.awards;
         let below = trace_text::put_below(
             text,
             reply + n,
             kind,
             accepted,
             preview,
-            settled,
-            awards,
+            ran.settled,
+            ran.awards,
         );
         auction = ran.auction;
         end = put_curve(
@@ -150,12 +123,13 @@ fn put_lines(rt: &impl Print, bytes: &[u8], text: &mut [u8]) -> io::Result<usize
 }
 
 fn main(rt: HostRuntime) -> io::Result<()> {
-    let mut record = input();
+    // One byte more than a record may have, so that a longer one is seen.
+    let mut record = [0; LONGEST_RECORD + 1];
     let n = program_input::read_full(&mut rt.stdin(), &mut record)?;
     if LONGEST_RECORD < n {
         return rt.write_all(b"FF0B\n");
     }
-    let mut text = program_input::large_buffer();
+    let mut text = [0; 65_536];
     let end = put_lines(&rt, &record[..n], &mut text)?;
     rt.write_all(&text[..end])
 }

@@ -9,7 +9,7 @@ fn byte_at(awards: [u8; 192], i: usize) -> u64
     requires { i < 192 }
     ensures { (result ≡ get_or awards i 0) × (result < 256) }
 {
-    awards[i] as u64
+    u64::from(awards[i])
 }
 
 fn quantity_at(awards: [u8; 192], i: usize) -> u64
@@ -39,10 +39,8 @@ pub fn put_awards(out: &mut [u8], at: usize, awards: [u8; 192], n: usize) -> usi
     ensures { Puts (award_lines awards n) (69 * n) out.old out.new at result }
 {
     let mut next = at;
-    let mut i: usize = 0;
-    while i < n {
+    for i in 0..n {
         next = put_award(out, next, awards, 6 * i);
-        i += 1;
     }
     next
 }

@@ -10,12 +10,9 @@ pub fn put_name(out: &mut [u8], at: usize, name: &[u8]) -> usize
     requires { at + length name.now ≤ length out.old }
     ensures { Puts name.now (length name.now) out.old out.new at result }
 {
-    let mut i: usize = 0;
-    while i < name.len() {
-        out[at + i] = name[i];
-        i += 1;
-    }
-    at + i
+    let end = at + name.len();
+    out[at..end].copy_from_slice(name);
+    end
 }
 
 // The digits of a number, high first.

@@ -3,51 +3,59 @@
 #![tactic(auto)]
 
 ghost use Rattle.std.specs.Prelude.{◌+◌, ◌≤◌, length};
-ghost use Rattle.trace_text.specs.Words.{closed_lines, preview_line, point_line, lines_before, lines_below};
+ghost use Rattle.engine_looks.specs.readings.Readings.{preview_in};
+ghost use Rattle.trace_text.specs.Words.{closing_lines, closed_lines, previewed_line, point_line, lines_before, lines_below};
 ghost use Rattle.trace_text.specs.decimal_text.Puts.{Puts};
 
-use engine_settling::Settled;
+use engine_looks::readings::Preview;
+use engine_refusals::{Refusal, answer_number};
+use engine_settling::Settlement;
 
 pub mod award_text;
 pub mod decimal_text;
 pub mod settling_text;
 
 // What an accepted closing says.
-fn put_closed(out: &mut [u8], at: usize, excess: u64, remainder: u32) -> usize
+fn put_closing(out: &mut [u8], at: usize, closing: Preview) -> usize
     requires { at + 100 ≤ length out.old }
-    ensures { Puts (closed_lines excess remainder) 100 out.old out.new at result }
+    ensures { Puts (closing_lines closing) 100 out.old out.new at result }
 {
+    let excess = reply_values::bits_of(closing.excess);
     let next = decimal_text::put_signed_item(out, at, b"excess ", excess);
-    decimal_text::put_item(out, next, b"remainder ", remainder as u64)
+    decimal_text::put_item(out, next, b"remainder ", closing.remainder as u64)
 }
 
-// What the preview of a closing says, its excess in two's complement.
-#[derive(Clone, Copy)]
-pub struct PreviewShown {
-    pub number: u8,
-    pub excess: u64,
-    pub remainder: u32,
-    pub closed: bool,
-}
-
-// Where none is looked at.
-pub const NO_PREVIEW: PreviewShown = PreviewShown {
-    number: 0,
-    excess: 0,
-    remainder: 0,
-    closed: false,
-};
-
-// The line before a closing's reply (document 02, 6).
-fn put_preview(out: &mut [u8], at: usize, p: PreviewShown) -> usize
+// The same by its preview, which answers as the closing does.
+fn put_closed(out: &mut [u8], at: usize, preview: Option<Result<Preview, Refusal>>) -> usize
     requires { at + 100 ≤ length out.old }
-    ensures { Puts (preview_line p) 100 out.old out.new at result }
+    ensures { Puts (closed_lines preview) 100 out.old out.new at result }
 {
+    match preview {
+        Some(answer) => match answer {
+            Ok(closing) => put_closing(out, at, closing),
+            Err(_) => at,
+        },
+        None => at,
+    }
+}
+
+// The line before a closing's reply (document 02, 6): of a refused one the number, and zeros.
+fn put_preview(out: &mut [u8], at: usize, answer: Result<Preview, Refusal>) -> usize
+    requires { at + 100 ≤ length out.old }
+    ensures { Puts (previewed_line (preview_in answer)) 100 out.old out.new at result }
+{
+    let number = answer_number(&answer);
+    let shown = answer.unwrap_or(Preview {
+        excess: 0,
+        remainder: 0,
+        closed: false,
+    });
     let named = decimal_text::put_name(out, at, b"preview ");
-    let number = decimal_text::put_number(out, named, p.number as u64, 32);
-    let excess = decimal_text::put_signed(out, number, p.excess, 32);
-    let remainder = decimal_text::put_number(out, excess, p.remainder as u64, 32);
-    decimal_text::put_number(out, remainder, reply_values::mark(p.closed), 10)
+    let numbered = decimal_text::put_number(out, named, number as u64, 32);
+    let bits = reply_values::bits_of(shown.excess);
+    let excess = decimal_text::put_signed(out, numbered, bits, 32);
+    let remainder = decimal_text::put_number(out, excess, shown.remainder as u64, 32);
+    decimal_text::put_number(out, remainder, reply_values::mark(shown.closed), 10)
 }
 
 // A point of the supply curve (document 02, 9).
@@ -61,35 +69,43 @@ pub fn put_point(out: &mut [u8], at: usize, price: u32, before: u64, after: u64)
     decimal_text::put_number(out, supplied, after, 10)
 }
 
-// What stands before a reply of this kind.
-pub fn put_before(out: &mut [u8], at: usize, kind: usize, p: PreviewShown) -> usize
+// What stands before a reply of this kind, by the preview of a closing.
+pub fn put_before(
+    out: &mut [u8],
+    at: usize,
+    kind: usize,
+    preview: Option<Result<Preview, Refusal>>,
+) -> usize
     requires { at + 100 ≤ length out.old }
-    ensures { Puts (lines_before kind p) 100 out.old out.new at result }
+    ensures { Puts (lines_before kind preview) 100 out.old out.new at result }
 {
     if kind != 5 {
         return at;
     }
-    put_preview(out, at, p)
+    match preview {
+        Some(answer) => put_preview(out, at, answer),
+        None => at,
+    }
 }
 
-// What stands below a reply of this kind, by the preview of a closing, which answers as the closing does, and what a settling answered.
+// What stands below a reply of this kind, by the preview of a closing and the settlement behind the line.
 pub fn put_below(
     out: &mut [u8],
     at: usize,
     kind: usize,
     accepted: bool,
-    p: PreviewShown,
-    settled: Settled,
+    preview: Option<Result<Preview, Refusal>>,
+    settled: Option<Settlement>,
     awards: [u8; 192],
 ) -> usize
     requires { at + 3000 ≤ length out.old }
-    ensures { Puts (lines_below kind accepted p settled awards) 3000 out.old out.new at result }
+    ensures { Puts (lines_below kind accepted preview settled awards) 3000 out.old out.new at result }
 {
     if !accepted {
         return at;
     }
     if kind == 5 {
-        return put_closed(out, at, p.excess, p.remainder);
+        return put_closed(out, at, preview);
     }
     if kind == 6 {
         return settling_text::put_settled(out, at, settled, awards);

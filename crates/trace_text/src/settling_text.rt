@@ -1,13 +1,13 @@
 // What an accepted settling says in words and decimal numbers, an item a line.
-ghost use Rattle.std.specs.Prelude.{◌≡◌, ◌+◌, ◌≤◌, min, length};
+ghost use Rattle.std.specs.Prelude.{◌+◌, ◌≤◌, length};
 ghost use Rattle.trace_text.specs.decimal_text.Puts.{Puts};
-ghost use Rattle.trace_text.specs.settling_text.SettledLines.{items, items_behind, items_paid, settled_lines};
+ghost use Rattle.trace_text.specs.settling_text.SettledLines.{items, items_behind, items_paid, settlement_lines, settled_lines};
 
 use crate::{award_text, decimal_text};
-use engine_settling::Settled;
+use engine_settling::Settlement;
 
 // What an accepted settling says before its awards.
-fn put_items(out: &mut [u8], at: usize, s: Settled) -> usize
+fn put_items(out: &mut [u8], at: usize, s: Settlement) -> usize
     requires { at + 400 ≤ length out.old }
     ensures { Puts (items s) 400 out.old out.new at result }
 {
@@ -19,7 +19,7 @@ fn put_items(out: &mut [u8], at: usize, s: Settled) -> usize
 }
 
 // What it says behind them.
-fn put_items_behind(out: &mut [u8], at: usize, s: Settled) -> usize
+fn put_items_behind(out: &mut [u8], at: usize, s: Settlement) -> usize
     requires { at + 200 ≤ length out.old }
     ensures { Puts (items_behind s) 200 out.old out.new at result }
 {
@@ -30,7 +30,7 @@ fn put_items_behind(out: &mut [u8], at: usize, s: Settled) -> usize
 }
 
 // What it says last (document 02, 10).
-fn put_paid(out: &mut [u8], at: usize, s: Settled) -> usize
+fn put_paid(out: &mut [u8], at: usize, s: Settlement) -> usize
     requires { at + 100 ≤ length out.old }
     ensures { Puts (items_paid s) 100 out.old out.new at result }
 {
@@ -39,22 +39,29 @@ fn put_paid(out: &mut [u8], at: usize, s: Settled) -> usize
     decimal_text::put_item(out, insufficient, b"paid ", s.paid as u64)
 }
 
-// How many award records a reply has: 192 bytes hold 32.
-fn count(s: Settled) -> usize
-    ensures { (result ≡ min s.records 32) × (result ≤ 32) }
-{
-    if s.records < 32 {
-        return s.records;
-    }
-    32
-}
-
-pub fn put_settled(out: &mut [u8], at: usize, s: Settled, awards: [u8; 192]) -> usize
+fn put_settlement(out: &mut [u8], at: usize, s: Settlement, awards: [u8; 192]) -> usize
     requires { at + 3000 ≤ length out.old }
-    ensures { Puts (settled_lines s awards) 3000 out.old out.new at result }
+    ensures { Puts (settlement_lines s awards) 3000 out.old out.new at result }
 {
     let next = put_items(out, at, s);
-    let behind = award_text::put_awards(out, next, awards, count(s));
+    // 192 bytes hold 32 award records.
+    let behind = award_text::put_awards(out, next, awards, s.records.min(32));
     let last = put_items_behind(out, behind, s);
     put_paid(out, last, s)
+}
+
+// Nothing where there is no settlement.
+pub fn put_settled(
+    out: &mut [u8],
+    at: usize,
+    settled: Option<Settlement>,
+    awards: [u8; 192],
+) -> usize
+    requires { at + 3000 ≤ length out.old }
+    ensures { Puts (settled_lines settled awards) 3000 out.old out.new at result }
+{
+    match settled {
+        Some(settlement) => put_settlement(out, at, settlement, awards),
+        None => at,
+    }
 }

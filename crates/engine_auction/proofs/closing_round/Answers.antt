@@ -4,25 +4,16 @@ use mir.Syntax.{w64}
 use mir.Val.{SFits}
 use Rattle.std.proofs.Common.{rules}
 use borrow.Author.Tests.{not-true}
-use Rattle.engine_auction.specs.declared.Auction.{Auction}
-use Rattle.engine_auction.specs.Decided.{with_play}
 use Rattle.engine_auction.proofs.ClosingRound.{curve_left, curve_extended, close_taken}
 use Rattle.engine_auction.proofs.closing_round.Goals as goal
-use Rattle.engine_auction.proofs.closing_round.Goals.{Start}
-
--- an auction that has the parts
-abbrev play : Start → Auction → Auction
-play c a =
-    let s = c.args in
-    with_play a s.settings s.opening s.closing s.projects s.kinds s.quantities s.declared s.histories s.curve
 
 pub returns-then-not-after : goal.returns-then-not-after
 returns-then-not-after c = record {
-  closes = λ a e.
+  closes = λ e.
       let figured = c.figures_at-figures in
       let fits : SFits w64 figured.result.excess = search rules in
       let offers = c.with_offers_applied-after in
-      let p = play (goal.at.returns-then-not-after c).Start a in
+      let p = c.args.auction.now in
       close_taken p offers.result _ figured.result _ (record {
         round = e;
         applied = offers.ensures;
@@ -34,11 +25,11 @@ returns-then-not-after c = record {
 
 pub returns : goal.returns
 returns c = record {
-  closes = λ a e.
+  closes = λ e.
       let figured = c.figures_at-figures in
       let fits : SFits w64 figured.result.excess = search rules in
       let offers = c.with_offers_applied-after in
-      let p = play (goal.at.returns c).Start a in
+      let p = c.args.auction.now in
       close_taken p offers.result _ figured.result _ (record {
         round = e;
         applied = offers.ensures;

@@ -1,20 +1,14 @@
 -- Opening: refused by its number; else the clock of an open round.
-use Rattle.engine_auction.specs.Decided.{with_round}
+use mathlib.Core.Path.{refl}
+use Rattle.std.proofs.lemmas.Result.{err_from_is_err_and}
+use Rattle.engine_refusals.specs.NumberLaws.{number_not_0}
 use Rattle.engine_auction.proofs.Opening.{open_refused, open_taken}
 use Rattle.engine_auction.proofs.opening_at.Goals as goal
 
-pub returns-then-number-ne0 : goal.returns-then-number-ne0
-returns-then-number-ne0 c = record {
-  turns = λ a.
-      let s = c.args in
-      open_refused s.c (with_round a s.phase s.settings s.opening s.closing s.projects s.quantities) _
-      c.opening_refusal-number.ensures c.if-number-ne0.true;
-}
+pub returns-in_err-check_opening : goal.returns-in_err-check_opening
+returns-in_err-check_opening c =
+    let p = err_from_is_err_and c.from_residual.result c.from_residual.ensures.1 in
+    rw (p.1, p.2) (open_refused c.args.c c.args.auction.now _ c.in_err-check_opening.ensures (number_not_0 _))
 
 pub returns : goal.returns
-returns c = record {
-  turns = λ a.
-      let s = c.args in
-      open_taken s.c (with_round a s.phase s.settings s.opening s.closing s.projects s.quantities)
-      _ _ c.opening_refusal-number.ensures c.if-number-ne0.false c.opening_price.ensures;
-}
+returns c = open_taken c.args.c c.args.auction.now 0 _ c.in_ok-check_opening.ensures refl c.opening_price.ensures

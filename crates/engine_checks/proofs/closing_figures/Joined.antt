@@ -12,11 +12,12 @@ use Rattle.engine_held.specs.supply.ByProject.{supply_of}
 use Rattle.engine_checks.specs.clock.Held.{held_phase}
 use Rattle.engine_checks.specs.clock.Reading.{demanded_at}
 use Rattle.engine_checks.specs.clock.Demands.{demand_is, remainder_is}
+use Rattle.engine_checks.specs.declared.clock.Phase.{Phase}
 use Rattle.engine_checks.specs.declared.clock.Settings.{Settings}
 use Rattle.engine_checks.specs.closing_figures.Figured.{left_in, Figured, supply_left}
 
 pub figures_are :
-    (s : Settings) (c : ℕ) (ks qs : List ℕ) {q d r n : ℕ} {e : ℤ} → length ks ≡ 32 → length qs ≡ 32 →
+    (s : Settings) (c : ℕ) (ks qs : List ℕ) {q d r : ℕ} {n : Phase} {e : ℤ} → length ks ≡ 32 → length qs ≡ 32 →
     q ≡ supply_of ks qs → d ≡ (demanded_at s c).value → e ≡ pos q -ℤ pos d → r ≡ (demanded_at s c).remainder →
     n ≡ held_phase (cond (clears q d c (s.ce / 2)) Closed Between) →
     Figured s c ks qs (record { excess = e; remainder = r; phase = n })

@@ -7,11 +7,12 @@ use lib.Dec.{eqb}
 use lib.ListN.{length, get_or}
 use Rattle.rules_numbers.specs.Cases.{and_true}
 use Rattle.rules_auction.specs.Ledger.{Declaration, Agency, agent_for, Register}
-use Rattle.rules_auction.specs.Refusals.{is_number, numbers_ok, is_kind, levels_ok, declaration_ok, check, refusal}
+use Rattle.rules_auction.specs.Refusals.{is_ready, is_number, numbers_ok, is_kind, levels_ok, declaration_ok, check, refusal}
 use Rattle.engine_held.specs.supply.ByProject.{place_of, joins}
-use Rattle.engine_checks.specs.clock.Reading.{no_settings, developers_in}
-use Rattle.engine_checks.specs.clock.ReadingLaws.{is_ready_lem, joins_in}
-use Rattle.engine_checks.specs.registrations.Numbers.{books_in}
+use Rattle.engine_checks.specs.declared.clock.Phase.{Phase}
+use Rattle.engine_checks.specs.clock.Reading.{phase_in, developers_in}
+use Rattle.engine_checks.specs.clock.ReadingLaws.{joins_in}
+use Rattle.engine_checks.specs.registrations.Numbers.{in_phase, books_in}
 
 bad_number : (good agent free : Bool) (x : ℕ) → good && agent ≡ false → 3 ≡ check (good && free) 3 (check agent 3 x)
 bad_number true true free x e = absurd (true≢false e)
@@ -19,22 +20,22 @@ bad_number true false true x e = refl
 bad_number true false false x e = refl
 bad_number false agent free x e = refl
 
-module _ (p : ℕ) (ks kinds : List ℕ) (k kind : ℕ) (ls : List ℕ) (study day : ℕ) where
+module _ (p : Phase) (ks kinds : List ℕ) (k kind : ℕ) (ls : List ℕ) (study day : ℕ) where
   abbrev declaration : Declaration
   declaration = record { project = k; kind = kind; study = study; day = day; levels = ls }
 
   pub declaration_in : length ks ≡ 32 → length kinds ≡ 32 → is_kind kind && levels_ok ls && joins ks kinds k kind ≡ declaration_ok (books_in p ks kinds) declaration
   unfolding declaration_ok
-  declaration_in e f = ap (λ (b : Bool). is_kind kind && levels_ok ls && b) (joins_in p no_settings 0 0 ks kinds [] e f k kind)
+  declaration_in e f = ap (λ (b : Bool). is_kind kind && levels_ok ls && b) (joins_in (in_phase p) ks kinds [] e f k kind)
 
-  module _ (n : ℕ) (w : Agency) (ready : p ≡ 1) where
+  module _ (n : ℕ) (w : Agency) (ready : is_ready (phase_in p) ≡ true) where
     -- the rule's number
     abbrev ruled : ℕ
     ruled = refusal (books_in p ks kinds) (Register n w declaration)
 
     pub not_numbered : is_number k && is_number n && is_number (agent_for n w) ≡ false → 3 ≡ ruled
     unfolding refusal numbers_ok
-    not_numbered e = simp (is_ready_lem p ready) (bad_number (is_number k && is_number n) (is_number (agent_for n w)) _ _ e)
+    not_numbered e = simp (ready) (bad_number (is_number k && is_number n) (is_number (agent_for n w)) _ _ e)
 
     pub once_numbered :
         is_number k && is_number n && is_number (agent_for n w) ≡ true → (i : ℕ) → i ≡ place_of n →
@@ -43,4 +44,4 @@ module _ (p : ℕ) (ks kinds : List ℕ) (k kind : ℕ) (ls : List ℕ) (study d
     once_numbered e i h =
         let t = and_true (is_number k && is_number n) (is_number (agent_for n w)) e in
         let u = and_true (is_number k) (is_number n) t.0 in
-        simp (h, is_ready_lem p ready, t.1, u.0, u.1)
+        simp (h, ready, t.1, u.0, u.1)

@@ -19,26 +19,16 @@ use Rattle.engine_moves.specs.closing_entries.Courses.{held_course}
 use Rattle.engine_moves.specs.closing_entries.Places.{Filling, filling_next, filling_all}
 use Rattle.engine_curve.specs.highs_and_lows.Lows.{Highests, Lows}
 
-pub record HighestTurn (declared : List Levels) (out : List ℕ) (i : ℕ) : Type 0 where
-  pub within : i ≤ 32
-  pub part : (l : Ledger) → Sound l → declared ≡ of_each (λ x. held_levels x.declared.levels) l → Filling (λ n. highest (l.developers n)) 0 out i
-
-pub highest_first : (declared : List Levels) (out : List ℕ) → length out ≡ 32 → HighestTurn declared out 0
-highest_first declared out e = record { within = omega arith; part = λ l s h. record { long = e; done = λ j w. absurd (omega arith) } }
-
-pub highest_next : (declared : List Levels) (out : List ℕ) (i : ℕ) (d : Levels) (v : ℕ) → HighestTurn declared out i → i < 32 →
-    v ≡ last_or 0 (levels_in (get_or declared i d)) → HighestTurn declared (set out i v) (i + 1)
-highest_next declared out i d v t w r = record {
-  within = omega arith;
-  part = λ l s h. filling_next _ 0 out i v (t.part l s h) w
-      (r ∙ ap (λ (x : Levels). last_or 0 (levels_in x)) (numbered_nth (λ n. held_levels (l.developers n).declared.levels) 32 declared i d h w)
-      ∙ ap (last_or 0) (levels_read (l.developers (suc i)).declared.levels));
-}
-
-pub highest_all : (declared : List Levels) (out : List ℕ) (i : ℕ) → HighestTurn declared out i → 32 ≤ i → Highests declared out
-highest_all declared out i t w =
-    let e : i ≡ 32 = let z = t.within in omega arith in
-    record { highest_are = λ l s h. filling_all _ 0 out (subst (λ (k : ℕ). Filling (λ n. highest (l.developers n)) 0 out k) e (t.part l s h)) }
+module _ (declared : List Levels) (out : List ℕ) (d : Levels) where
+  pub highests_read : length out ≡ 32 → ((i : ℕ) → i < 32 → get_or out i 0 ≡ last_or 0 (levels_in (get_or declared i d))) → Highests declared out
+  highests_read long read = record {
+    highest_are = λ l s h. filling_all _ 0 out (record {
+      long = long;
+      done = λ i w. read i w
+          ∙ ap (λ (x : Levels). last_or 0 (levels_in x)) (numbered_nth (λ n. held_levels (l.developers n).declared.levels) 32 declared i d h w)
+          ∙ ap (last_or 0) (levels_read (l.developers (suc i)).declared.levels);
+    });
+  }
 
 pub record LowTurn (histories : List History) (firsts : List ℕ) (p : ℕ) (out : List ℕ) (i : ℕ) : Type 0 where
   pub within : i ≤ 32

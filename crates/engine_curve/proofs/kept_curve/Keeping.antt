@@ -1,5 +1,5 @@
 -- The words of a kept curve: a point's word gives its price and supply back; the last point taken away, one point more, a point read.
-use Prim.Native.Nat.{ℕ, zero, suc, ◌+◌, ◌-◌, ◌*◌, ◌/◌, ◌%◌, ◌≤◌, ◌<◌}
+use Prim.Native.Nat.{ℕ, zero, suc, min, ◌+◌, ◌-◌, ◌*◌, ◌/◌, ◌%◌, ◌≤◌, ◌<◌}
 use mathlib.Core.Path.{◌≡◌, refl, sym, ap, ap₂, subst, ◌∙◌}
 use mathlib.Core.Bool.{Bool, true, false, cond}
 use mathlib.Core.List.Memᴰ
@@ -182,7 +182,7 @@ module _ (c : SupplyCurve) (s i : ℕ) where
   past_all h = record { point_is = λ xs e l f j. (past_end (omega (arith, ap (λ (d : SupplyCurve). d.count) e))).point_is xs e l f j }
 
   pub point_read : (b : ℕ) → i < c.count → b ≡ supply_before c.words s i → let w = get_or c.words i 0 in
-      PointAt c s i (record { price = w / unit % 4294967296; before = b; after = w % unit })
+      PointAt c s i (record { price = w / unit; before = b; after = w % unit })
   unfolding held_curve
   point_read b h g = record {
     point_is = λ xs e l f j.
@@ -190,8 +190,7 @@ module _ (c : SupplyCurve) (s i : ℕ) where
         let x = get_or xs i no_point in
         let fits : Fits x = f x (nth_in xs i k) in
         let w : get_or c.words i 0 ≡ held_point x = word_at c xs i e k in
-        let p : get_or c.words i 0 / unit % 4294967296 ≡ x.price =
-        ap (λ (v : ℕ). v / unit % 4294967296) w ∙ ap (λ (v : ℕ). v % 4294967296) (price_back x fits) ∙ mod-eq_of_lt (let z = fits.price_high in omega arith) in
+        let p : get_or c.words i 0 / unit ≡ x.price = ap (λ (v : ℕ). v / unit) w ∙ price_back x fits in
         let a : get_or c.words i 0 % unit ≡ x.after = ap (λ (v : ℕ). v % unit) w ∙ after_back x fits in
         let q : b ≡ x.before = g ∙ ap (λ (d : SupplyCurve). supply_before d.words s i) e ∙ sym (joined_before s xs i j f k) in
         λ t. record { price = p t; before = q t; after = a t };
@@ -218,18 +217,13 @@ module _ (words : List ℕ) (count s p : ℕ) where
   pub looking_first : Looking s 0
   looking_first = record { within = omega arith; rest = λ xs e l f. refl }
 
-  pub looking_past : (left i : ℕ) → Looking left i → ((xs : List Point) → lent_curve words count ≡ held_curve xs → length xs ≤ 256 → length xs ≤ i) →
-      SuppliedAt words count s p left
-  unfolding supplied_at
-  looking_past left i t h =
-      record { supply_is = λ xs e l f. ap (λ (ys : List Point). supplied_at left ys p) (sym (drop_of_length-le xs (h xs e l))) ∙ t.rest xs e l f }
-
-  pub looking_end : (left i : ℕ) → Looking left i → count ≤ i → SuppliedAt words count s p left
-  unfolding held_curve
-  looking_end left i t h = looking_past left i t (λ xs e l. omega (arith, ap (λ (d : SupplyCurve). d.count) e))
-
-  pub looking_all : (left i : ℕ) → Looking left i → 256 ≤ i → SuppliedAt words count s p left
-  looking_all left i t h = looking_past left i t (λ xs e l. omega arith)
+  pub looking_end : (left i : ℕ) → Looking left i → min count 256 ≤ i → SuppliedAt words count s p left
+  unfolding held_curve supplied_at
+  looking_end left i t h = record {
+    supply_is = λ xs e l f.
+        let few : length xs ≤ i = omega (arith, ap (λ (d : SupplyCurve). d.count) e) in
+        ap (λ (ys : List Point). supplied_at left ys p) (sym (drop_of_length-le xs few)) ∙ t.rest xs e l f;
+  }
 
   module _ (left i : ℕ) (t : Looking left i) (inside : i < count) where
     -- the look-up at place i: the price of its word is that of the point

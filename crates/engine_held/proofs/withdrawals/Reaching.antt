@@ -107,14 +107,15 @@ module _ (h : History) (c i : ℕ) (l : ReachedSoFar h c i) where
 
 -- the lodged steps reached stand in front of the others: in place already
 pub reach_lodged :
-    (h : History) (c k : ℕ) → ReachedCount h c k →
-    Reached h c (record { prices = h.prices; levels = h.levels; count = h.count + k; offered = h.offered; lodged = h.lodged - k })
-reach_lodged h c k r = record {
-  reached_withdrawn = λ ws s ls f o e d g w.
-      let n = r.reached_number ws s ls f o e d g w in
-      let front = reached_front f o c o ls (le_refl o) g in
+    (h : History) (c k n m : ℕ) → ReachedCount h c k → (h.count + k ≤ 8 → n ≡ h.count + k) → m ≡ h.lodged - k →
+    Reached h c (record { prices = h.prices; levels = h.levels; count = n; offered = h.offered; lodged = m })
+reach_lodged h c k n m r f g = record {
+  reached_withdrawn = λ ws s ls b o e d v w.
+      let i = r.reached_number ws s ls b o e d v w in
+      let front = reached_front b o c o ls (le_refl o) v in
       let l = length-append (reached c o ls) (unreached c o ls) in
-      let m : length (reached c o ls ++ unreached c o ls) ≡ length ls = ap length front in
+      let all : length (reached c o ls ++ unreached c o ls) ≡ length ls = ap length front in
+      let sum : n ≡ h.count + k = f (omega (arith, count_of e)) in
       same _ (held_history (ws ++ reached c o ls) s (unreached c o ls))
       (ap (λ (x : History). x.prices) e ∙ ap (λ (x : List Step). padded 8 (prices_of x)) (moved ws s ls (reached c o ls) (unreached c o ls) front d))
       (ap (λ (x : History). x.levels) e ∙ ap (λ (x : List Step). padded 8 (levels_of x)) (moved ws s ls (reached c o ls) (unreached c o ls) front d))
@@ -129,13 +130,3 @@ reach_lodged h c k r = record {
     moved ws (made ss) ls [] us e d = ap (λ (x : List Step). ws ++ (ss ++ x)) (sym e) ∙ ap (λ (x : List Step). x ++ (ss ++ us)) (sym (append-nil ws))
     moved ws (made ss) ls (t ∷ rs) us e d =
         ⊎_elim (λ z. absurd (let y : ◌≡◌ {A = ℕ} 0 1 = cc in omega arith)) (λ z. absurd (omega (arith, ap length (e ∙ z)))) d
-
--- no more are reached than there are, and there is room for all
-pub reached_fits : (h r : History) (c k : ℕ) → ReachedCount h c k → (8 < h.count + k) ⊎ (h.lodged < k) → Reached h c r
-reached_fits h r c k n b = record {
-  reached_withdrawn = λ ws s ls f o e d g w.
-      let m = n.reached_number ws s ls f o e d g w in
-      let l = length-append (reached c o ls) (unreached c o ls) in
-      let q : length (reached c o ls ++ unreached c o ls) ≡ length ls = ap length (reached_front f o c o ls (le_refl o) g) in
-      absurd (⊎_elim (λ z. omega (arith, count_of e)) (λ z. omega (arith, lodged_of e)) b);
-}

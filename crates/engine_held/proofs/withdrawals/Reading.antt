@@ -1,5 +1,5 @@
 -- The last level, and the level at a price: the loop keeps the answer for what is left.
-use Prim.Native.Nat.{ℕ, zero, suc, ◌+◌, ◌-◌, ◌≤◌, ◌<◌}
+use Prim.Native.Nat.{ℕ, zero, suc, ◌+◌, ◌≤◌, ◌<◌}
 use mathlib.Core.Path.{◌≡◌, refl, sym, ap, ◌∙◌}
 use mathlib.Core.Bool.{cond}
 use mathlib.Core.List.{List, [], ◌∷◌, ◌++◌}
@@ -31,19 +31,16 @@ unfolding last_level
 last_none q [] h = refl
 last_none q (w ∷ ws) h = absurd (omega arith)
 
-pub no_last : (h : History) (q : ℕ) → h.count < 1 → LastLevel h q q
+pub no_last : (h : History) (q : ℕ) → h.count ≡ 0 → LastLevel h q q
 no_last h q z = record { last_level_lem = λ ws ls e w. last_none q ws (omega (arith, count_of e)) }
 
-pub too_long_lem : (h : History) (q : ℕ) → 8 < h.count → LastLevel h q q
-too_long_lem h q z = record { last_level_lem = λ ws ls e w. absurd (omega (arith, count_of e)) }
-
-pub last_level_lem : (h : History) (q : ℕ) → 1 ≤ h.count → LastLevel h q (get_or h.levels (h.count - 1) 0)
-last_level_lem h q z = record {
+pub last_level_lem : (h : History) (q n : ℕ) → 1 ≤ h.count → (h.count ≤ 8 → n + 1 ≡ h.count) → LastLevel h q (get_or h.levels n 0)
+last_level_lem h q n z f = record {
   last_level_lem = λ ws ls e w.
-      let n : h.count ≡ length ws = count_of e in
-      ap (λ (x : History). get_or x.levels (x.count - 1) 0) e
-      ∙ padded_at (λ s. s.level) refl 8 ws ls (length ws - 1) (omega arith)
-      ∙ last_at q ws (length ws - 1) (omega arith);
+      let m : length ws ≡ n + 1 = sym (count_of e) ∙ sym (f (omega (arith, count_of e))) in
+      ap (λ (x : History). get_or x.levels n 0) e
+      ∙ padded_at (λ s. s.level) refl 8 ws ls n (omega arith)
+      ∙ last_at q ws n (m ∙ add-one n);
 }
 
 -- ---- the level at a price

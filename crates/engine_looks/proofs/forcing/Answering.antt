@@ -20,7 +20,6 @@ use Rattle.engine_looks.specs.rivals.Plain.{Held, high_in, withdraws_by, withdra
 use Rattle.engine_auction.specs.declared.Auction.{Auction}
 use Rattle.engine_auction.specs.Holds.{held_auction, Holding}
 use Rattle.engine_auction.proofs.DeveloperHeld.{quantity_at_lem}
-use Rattle.engine_looks.specs.declared.forcing.Forced.{Forced}
 use Rattle.engine_looks.specs.forcing.Forces.{refused_forcing, ForcesPrice}
 use Rattle.engine_looks.specs.forcing.Playing.{keeping, supplies_of, game_of, Fitting}
 use Rattle.engine_looks.proofs.forcing.Games.{game_held, game, value_played, move_played}
@@ -28,52 +27,47 @@ use Rattle.engine_looks.proofs.forcing.Games.{game_held, game, value_played, mov
 module _ (a : Auction) (m n : ℕ) (ps : List ℕ) where
   -- ---- the number
 
-  -- the ledger that is asked, as the auction holds it
-  abbrev asked : Auction → Ledger
-  asked x = asked_in x.phase x.settings x.closing x.projects x.kinds
+  number_held : Holding a (λ l. forcing_refusal (asked_in a) m n ps ≡ forcing_refusal l m n ps)
+  number_held l s h = ap (λ (x : Auction). forcing_refusal (asked_in x) m n ps) h ∙ asked_back l m n s ps
 
-  number_held : Holding a (λ l. forcing_refusal (asked a) m n ps ≡ forcing_refusal l m n ps)
-  unfolding held_auction
-  number_held l s h = ap (λ (x : Auction). forcing_refusal (asked x) m n ps) h ∙ asked_back l m n s ps
-
-  pub forcing_refused : (k : ℕ) (r : Forced) → r ≡ refused_forcing k → k ≡ forcing_refusal (asked a) m n ps → (k ≡ 0 → ⊥) → ForcesPrice a m n ps r
-  forcing_refused k r e f z = subst (ForcesPrice a m n ps) (sym e) (record {
+  pub forcing_refused : (k : ℕ) → k ≡ forcing_refusal (asked_in a) m n ps → (k ≡ 0 → ⊥) → ForcesPrice a m n ps (refused_forcing k)
+  forcing_refused k f z = record {
     same = λ _. refl;
     number = λ cs h. f ∙ number_held (ledger cs) (sound cs) h;
     answer = λ cs h w. absurd (z w);
-  })
+  }
 
   -- ---- the answer
 
-  module _ (k : ℕ) (e : k ≡ forcing_refusal (asked a) m n ps) (z : k ≡ 0) where
-    question : Question (asked a) m n ps
-    question = question_facts (asked a) m n ps (sym e ∙ z)
+  module _ (e : 0 ≡ forcing_refusal (asked_in a) m n ps) where
+    question : Question (asked_in a) m n ps
+    question = question_facts (asked_in a) m n ps (sym e)
 
     pub pair : Pair m n
     pair = question.pair
 
     at_most_ten : length ps ≤ 10
-    at_most_ten = (list_facts (asked a) ps question.list).1
+    at_most_ten = (list_facts (asked_in a) ps question.list).1
 
-    pub fitting : a.closing < 2 ^ 32 → Fitting ps
-    fitting w = record { at_most_ten = at_most_ten; each = λ p i. let b = (list_facts (asked a) ps question.list).2 p i in omega arith }
+    pub fitting : a.clock.closing < 2 ^ 32 → Fitting ps
+    fitting w = record { at_most_ten = at_most_ten; each = λ p i. let b = (list_facts (asked_in a) ps question.list).2 p i in omega arith }
 
     -- the game as it is played
     abbrev played : Auction → Game
-    played x = game_of x.settings x.closing (supplies_of x.projects x.quantities (m - 1) (n - 1)) ps
+    played x = game_of x.clock.settings x.clock.closing (supplies_of x.projects x.quantities (m - 1) (n - 1)) ps
 
     module _ (s : Supplies) (g : Game) (es : s ≡ supplies_of a.projects a.quantities (m - 1) (n - 1))
-        (eg : g ≡ game_of a.settings a.closing s ps) where
+        (eg : g ≡ game_of a.clock.settings a.clock.closing s ps) where
       game_is : g ≡ played a
-      game_is = eg ∙ ap (λ (t : Supplies). game_of a.settings a.closing t ps) es
+      game_is = eg ∙ ap (λ (t : Supplies). game_of a.clock.settings a.clock.closing t ps) es
 
       pub played_held : Held g
-      played_held = subst Held (sym game_is) (game_held a.settings _ _ ps at_most_ten)
+      played_held = subst Held (sym game_is) (game_held a.clock.settings _ _ ps at_most_ten)
 
       module _ (x y : Rival) (ex : x ≡ keeping (get_or a.quantities (m - 1) 0)) (ey : y ≡ keeping (get_or a.quantities (n - 1) 0)) where
         module _ (l : Ledger) (sound_l : Sound l) (h : a ≡ held_auction l) where
           ours_asked : Question l m n ps
-          ours_asked = question_facts l m n ps (sym (number_held l sound_l h) ∙ sym e ∙ z)
+          ours_asked = question_facts l m n ps (sym (number_held l sound_l h) ∙ sym e)
 
           -- the ledger's game
           abbrev ours : Game
@@ -100,7 +94,7 @@ module _ (a : Auction) (m n : ℕ) (ps : List ℕ) where
             ForcesPrice a m n ps (record { number = 0; outcome = v; withdraws = w })
         forcing_answered v w ev ew = record {
           same = λ f. absurd (f refl);
-          number = λ cs h. sym z ∙ e ∙ number_held (ledger cs) (sound cs) h;
+          number = λ cs h. e ∙ number_held (ledger cs) (sound cs) h;
           answer = λ cs h _ i. record {
             number = 0;
             outcome = (ev ∙ value_is (ledger cs) (sound cs) h) i;

@@ -1,4 +1,4 @@
--- The listed prices and Dem at each, stored one by one: the first i are in the game.
+-- The listed prices and Dem at each, entered one by one: the first i are in the game.
 use Prim.Native.Nat.{ℕ, ◌+◌, ◌≤◌, ◌<◌, ◌^◌}
 use mathlib.Core.Path.{◌≡◌, sym, ap, ◌∙◌}
 use mathlib.Core.List.{List, [], ◌∷◌, ◌++◌, map, map-append}
@@ -22,22 +22,31 @@ module _ (t : Settings) (standing : ℕ) (s : Supplies) (ps : List ℕ) where
   abbrev demand : ℕ → ℕ
   demand p = (demanded_at t p).value
 
+  -- the game that counts all prices, with these alone entered
+  abbrev entered : List ℕ → Game
+  entered front = record {
+    count = length ps;
+    prices = padded 10 front;
+    demands = padded 10 (map demand front);
+    standing = standing;
+    supplies = s;
+  }
+
   -- the loop before place i
   pub record Listing (game : Game) (i : ℕ) : Type 0 where
-    pub within : i ≤ length ps
-    pub part : game ≡ game_of t standing s (take i ps)
+    pub part : game ≡ entered (take i ps)
 
-  pub listing_first : {game : Game} → game ≡ game_of t standing s [] → Listing game 0
-  listing_first e = record { within = omega arith; part = e }
+  pub listing_first : {game : Game} → game ≡ entered [] → Listing game 0
+  listing_first e = record { part = e }
 
   module _ {game : Game} {i : ℕ} (f : Fitting ps) (l : Listing game i) where
     pub listing_all : length ps ≤ i → game ≡ game_of t standing s ps
-    listing_all h = l.part ∙ ap (game_of t standing s) (take_all i ps h)
+    listing_all h = l.part ∙ ap entered (take_all i ps h)
 
     -- the game with the price p, and Dem there, at place i
     abbrev with_price : ℕ → ℕ → Game
     with_price p d = record {
-      count = i + 1;
+      count = game.count;
       prices = set game.prices i p;
       demands = set game.demands i d;
       standing = game.standing;
@@ -49,7 +58,7 @@ module _ (t : Settings) (standing : ℕ) (s : Supplies) (ps : List ℕ) where
         let p = get_or ps i 0 in
         let front = take i ps in
         let room : i < 10 = let k = f.at_most_ten in omega arith in
-        let long : length front ≡ i = length-take-le i ps l.within in
+        let long : length front ≡ i = length-take-le i ps (omega arith) in
         let next : take (i + 1) ps ≡ front ++ (p ∷ []) = rw add-one (take-suc ps i 0 h) in
         let stored : set game.prices i p ≡ padded 10 (take (i + 1) ps) =
         ap (λ (g : Game). set g.prices i p) l.part ∙ padded_more 10 front i p long room ∙ ap (padded 10) (sym next) in
@@ -58,8 +67,6 @@ module _ (t : Settings) (standing : ℕ) (s : Supplies) (ps : List ℕ) where
         ∙ padded_more 10 (map demand front) i d (length-map front demand ∙ long) room
         ∙ ap (λ (n : ℕ). padded 10 (map demand front ++ (n ∷ []))) e
         ∙ ap (padded 10) (sym (map-append demand front (p ∷ [])) ∙ ap (map demand) (sym next)) in
-        let count : i + 1 ≡ length (take (i + 1) ps) = sym (length-take-le (i + 1) ps (omega arith)) in
         record {
-          within = omega arith;
-          part = λ j. record { count = count j; prices = stored j; demands = demanded j; standing = (l.part j).standing; supplies = (l.part j).supplies };
+          part = λ j. record { count = (l.part j).count; prices = stored j; demands = demanded j; standing = (l.part j).standing; supplies = (l.part j).supplies };
         }

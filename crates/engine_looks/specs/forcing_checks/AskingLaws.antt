@@ -2,28 +2,19 @@
 use Prim.Native.Nat.{ℕ, ◌≤◌}
 use Rattle.std.specs.Prelude.{◌≡◌, Bool, ◌&&◌, List, eqb}
 use Rattle.std.proofs.Math.Path.{refl}
-use Rattle.std.proofs.Common.{◌∙◌, arith}
+use Rattle.std.proofs.Common.{arith}
 use Rattle.std.proofs.Math.Bool.{true, false, not}
-use borrow.Author.Tests.{eq-eqb, ne_eqb, eqb-false, not-true}
+use borrow.Author.Tests.{eqb-false, not-true}
 use Rattle.rules_numbers.specs.Cases.{and_true}
 use Rattle.rules_auction.specs.Ledger.{Ledger}
-use Rattle.rules_auction.specs.Clearing.{of_each}
 use Rattle.rules_auction.specs.Refusals.{is_between, is_of_kind, check}
 use Rattle.rules_auction.specs.CheckLaws.{of_kind_facts}
 use Rattle.laws_ledger.specs.Sound.{Sound}
 use Rattle.rules_forcing.specs.Forcing.{pair_ok, list_ok, forcing_refusal}
 use Rattle.engine_held.specs.supply.Reading.{read_back}
-use Rattle.engine_checks.specs.clock.Held.{held_phase, held_settings}
-use Rattle.engine_checks.specs.clock.Reading.{phase_in}
-use Rattle.engine_checks.specs.clock.ReadingLaws.{phase_read, between_in}
+use Rattle.engine_checks.specs.clock.ReadingLaws.{phase_read}
+use Rattle.engine_auction.specs.Holds.{held_auction}
 use Rattle.engine_looks.specs.forcing_checks.Asking.{asked_in}
-
--- between rounds, by the number of the phase
-pub when_between : (p : ℕ) → p ≡ 3 → is_between (phase_in p) ≡ true
-when_between p e = between_in p ∙ eq-eqb p 3 e
-
-pub not_between : (p : ℕ) → (p ≡ 3 → ⊥) → is_between (phase_in p) ≡ false
-not_between p n = between_in p ∙ ne_eqb p 3 n
 
 pub record Pair (m n : ℕ) : Type 0 where
   pub first_low : 1 ≤ m
@@ -60,10 +51,8 @@ module _ (l : Ledger) (m n : ℕ) where
 
   pub asked_back :
       Sound l → (ps : List ℕ) →
-      forcing_refusal (asked_in (held_phase l.phase) (held_settings l.settings) l.closing (of_each (λ x. x.declared.project) l)
-      (of_each (λ x. x.declared.kind) l)) m n ps
-      ≡ forcing_refusal l m n ps
-  unfolding forcing_refusal pair_ok list_ok
+      forcing_refusal (asked_in (held_auction l)) m n ps ≡ forcing_refusal l m n ps
+  unfolding forcing_refusal pair_ok list_ok held_auction
   asked_back s ps = λ i.
       let project : ℕ → ℕ = λ k. read_back l s (λ x. x.declared.project) refl k i in
       let kind : ℕ → ℕ = λ k. read_back l s (λ x. x.declared.kind) refl k i in

@@ -12,12 +12,12 @@ use Rattle.laws_ledger.specs.Sound.{Sound}
 use Rattle.laws_ledger.specs.reachable.Bounds.{history_few}
 use Rattle.laws_ledger.specs.reachable.Checks.{cancel_passed}
 use Rattle.engine_held.specs.levels.Held.{no_levels}
-use Rattle.engine_held.specs.declared.levels.Levels.{Levels}
 use Rattle.engine_held.specs.history.Held.{held_history, Cancelled}
 use Rattle.engine_held.specs.declared.history.History.{History}
 use Rattle.engine_moves.specs.closing_entries.Courses.{held_course}
-use Rattle.engine_checks.specs.declared.clock.Settings.{Settings}
-use Rattle.engine_checks.specs.clock.Reading.{no_settings, clock_in}
+use Rattle.engine_checks.specs.declared.clock.Clock.{Clock}
+use Rattle.engine_moves.specs.declared.moves.Entry.{Entry}
+use Rattle.engine_checks.specs.clock.Reading.{clock_in}
 use Rattle.engine_moves.specs.moves.Reading.{entry_in, MoveNumber}
 use Rattle.engine_moves.specs.moves.Entries.{seat, Held, Moves}
 use Rattle.engine_moves.specs.moves.EntryLaws.{kind_number}
@@ -27,9 +27,9 @@ use Rattle.engine_moves.proofs.moves.Deciding.{own, move_read, refused_to, taken
 pub none_lodged : (l : Ledger) (n : ℕ) → Sound l → is_of_kind 2 n (l.developers n).declared.kind ≡ true → (l.developers n).lodged ≡ []
 none_lodged l n s e = ⊎_elim (λ z. ap (λ (x : Developer). x.lodged) z) (λ q. q.lodged.kind (of_kind_facts 2 n _ e).2) (s.each n)
 
-module _ (p : ℕ) (s : Settings) (o c k : ℕ) (d : Levels) (q : ℕ) (h : History) (n : ℕ) (v : Bool) (numbered : v ≡ is_number n) where
-  module _ (l : Ledger) (w : Held p s o c k d q h l (l.developers (seat n))) where
-    number_is : (j : ℕ) → MoveNumber v (clock_in p no_settings 0 0) (entry_in k no_levels 0 h.offered) Cancel j → j ≡ refusal l (By n Cancel)
+module _ (t : Clock) (held : Entry) (n : ℕ) (v : Bool) (numbered : v ≡ is_number n) where
+  module _ (l : Ledger) (w : Held t held l (l.developers (seat n))) where
+    number_is : (j : ℕ) → MoveNumber v (clock_in t) (entry_in held) Cancel j → j ≡ refusal l (By n Cancel)
     unfolding move_refusal
     number_is j e = e.as_ruled n numbered ∙ move_read l n w Cancel
 
@@ -41,19 +41,19 @@ module _ (p : ℕ) (s : Settings) (o c k : ℕ) (d : Levels) (q : ℕ) (h : Hist
       good : is_number n ≡ true
       good = kind_number 2 n _ of_kind_lem
 
-      history_next : (r : History) → Cancelled h r → r ≡ held_course (moved (l.developers n) Cancel)
+      history_next : (r : History) → Cancelled held.history r → r ≡ held_course (moved (l.developers n) Cancel)
       unfolding moved
       history_next r y =
           let x = l.developers n in
           let t : x.lodged ≡ [] = none_lodged l n sound of_kind_lem in
-          y.withdrawals_alone x.withdrawals x.offer ((own l n w good).history ∙ ap (held_history x.withdrawals x.offer) t) (history_few l sound n)
+          y.withdrawals_alone x.withdrawals x.offer (ap (λ (y : Entry). y.history) (own l n w good).entry ∙ ap (held_history x.withdrawals x.offer) t) (history_few l sound n)
           ∙ ap (held_history x.withdrawals none) (sym t)
 
-  module _ (j : ℕ) (e : MoveNumber v (clock_in p no_settings 0 0) (entry_in k no_levels 0 h.offered) Cancel j) where
-    pub cancel_refused : (j ≡ 0 → ⊥) → Moves n Cancel (Held p s o c k d q h) j h
-    cancel_refused z = record { moves_as_ruled = λ l sound w. refused_to l n Cancel j h (number_is l w j e) z w.history }
+  module _ (j : ℕ) (e : MoveNumber v (clock_in t) (entry_in held) Cancel j) where
+    pub cancel_refused : (j ≡ 0 → ⊥) → Moves n Cancel (Held t held) j held.history
+    cancel_refused z = record { moves_as_ruled = λ l sound w. refused_to l n Cancel j held.history (number_is l w j e) z (ap (λ (y : Entry). y.history) w.entry) }
 
-    pub cancel_taken : j ≡ 0 → (r : History) → Cancelled h r → Moves n Cancel (Held p s o c k d q h) 0 r
+    pub cancel_taken : j ≡ 0 → (r : History) → Cancelled held.history r → Moves n Cancel (Held t held) 0 r
     cancel_taken z r y = record {
       moves_as_ruled = λ l sound w.
           let is = sym z ∙ number_is l w j e in

@@ -7,17 +7,17 @@ use Rattle.rules_auction.specs.Ledger.{Standing, none, made, Move, Offer, Lodge,
 use Rattle.rules_auction.specs.Refusals.{is_number, is_none, is_of_kind, move_refusal, refusal}
 use Rattle.rules_auction.specs.Rounds.{moved, accepted}
 use Rattle.laws_ledger.specs.reachable.Steps.{step_refused, step_accepted}
-use Rattle.engine_held.specs.levels.Held.{held_levels, levels_read}
-use Rattle.engine_held.specs.declared.levels.Levels.{Levels}
+use Rattle.engine_held.specs.levels.Held.{levels_read}
 use Rattle.engine_held.specs.history.Held.{held_offer}
 use Rattle.engine_held.specs.declared.history.History.{History}
 use Rattle.engine_moves.specs.closing_entries.Courses.{held_course}
-use Rattle.engine_checks.specs.clock.Held.{held_phase, held_settings}
+use Rattle.engine_checks.specs.clock.Held.{held_clock}
 use Rattle.engine_checks.specs.clock.Reading.{clock_in}
 use Rattle.engine_checks.specs.clock.ReadingLaws.{phase_read}
-use Rattle.engine_checks.specs.declared.clock.Settings.{Settings}
+use Rattle.engine_checks.specs.declared.clock.Clock.{Clock}
+use Rattle.engine_moves.specs.declared.moves.Entry.{Entry}
 use Rattle.engine_moves.specs.moves.Reading.{standing_in, entry_in}
-use Rattle.engine_moves.specs.moves.Entries.{seat, Held, MovedTo}
+use Rattle.engine_moves.specs.moves.Entries.{seat, held_entry, Held, MovedTo}
 use Rattle.engine_moves.specs.moves.EntryLaws.{seat_is}
 
 none_read : (o : Standing) → is_none (standing_in (held_offer o)) ≡ is_none o
@@ -27,7 +27,7 @@ none_read (made ss) = refl
 -- the entry as it is read counts as the entry that is held
 entry_read :
     (l : Ledger) (n : ℕ) (x : Developer) (m : Move) →
-    move_refusal l n (entry_in x.declared.kind (held_levels x.declared.levels) x.quantity (held_course x).offered) m ≡ move_refusal l n x m
+    move_refusal l n (entry_in (held_entry x)) m ≡ move_refusal l n x m
 unfolding move_refusal
 entry_read l n x (Offer ps qs) = rw (none_read x.offer, levels_read x.declared.levels)
 entry_read l n x (Lodge ps qs) = rw (levels_read x.declared.levels)
@@ -54,21 +54,19 @@ seat_read l n m = go (is_number n) refl
     go true e = ap (λ (j : ℕ). move_refusal l n (l.developers j) m) (seat_is n e)
     go false e = no_entry l n _ _ m e
 
-module _ {p : ℕ} {s : Settings} {o c k : ℕ} {d : Levels} {q : ℕ} {h : History} (l : Ledger) (n : ℕ) (w : Held p s o c k d q h l (l.developers (seat n))) where
+module _ {t : Clock} {held : Entry} (l : Ledger) (n : ℕ) (w : Held t held l (l.developers (seat n))) where
   -- of a developer's number, the entry is its own
-  pub own : is_number n ≡ true → Held p s o c k d q h l (l.developers n)
-  own b = subst (λ (m : ℕ). Held p s o c k d q h l (l.developers m)) (seat_is n b) w
+  pub own : is_number n ≡ true → Held t held l (l.developers n)
+  own b = subst (λ (m : ℕ). Held t held l (l.developers m)) (seat_is n b) w
 
-  pub move_read : (m : Move) → move_refusal (clock_in p s o c) n (entry_in k d q h.offered) m ≡ refusal l (By n m)
+  pub move_read : (m : Move) → move_refusal (clock_in t) n (entry_in held) m ≡ refusal l (By n m)
   unfolding refusal
   move_read m =
       let x = l.developers (seat n) in
-      let y = entry_in x.declared.kind (held_levels x.declared.levels) x.quantity (held_course x).offered in
-      let held : move_refusal (clock_in p s o c) n (entry_in k d q h.offered) m
-      ≡ move_refusal (clock_in (held_phase l.phase) (held_settings l.settings) l.opening l.closing) n y m =
-      (λ i. move_refusal (clock_in (w.phase i) (w.settings i) (w.opening i) (w.closing i)) n
-      (entry_in (w.kind i) (w.declared i) (w.quantity i) (w.history i).offered) m) in
-      held
+      let y = entry_in (held_entry x) in
+      let as_held : move_refusal (clock_in t) n (entry_in held) m ≡ move_refusal (clock_in (held_clock l)) n y m =
+      (λ i. move_refusal (clock_in (w.clock i)) n (entry_in (w.entry i)) m) in
+      as_held
       ∙ ap (λ (f : Phase). move_refusal (record {
         phase = f;
         settings = l.settings;

@@ -13,21 +13,21 @@ use Rattle.rules_auction.specs.Rounds.{steps, moved}
 use Rattle.laws_ledger.specs.Sound.{started, SoundOffer, Registered, Sound}
 use Rattle.laws_ledger.specs.reachable.Checks.{LodgePassed, lodge_passed}
 use Rattle.laws_ledger.specs.reachable.Held.{is_ready_lem}
-use Rattle.engine_held.specs.declared.levels.Levels.{Levels}
 use Rattle.engine_held.specs.history.Held.{held_history, Lodged}
 use Rattle.engine_held.specs.declared.history.History.{History}
 use Rattle.engine_moves.specs.closing_entries.Courses.{held_course}
-use Rattle.engine_checks.specs.declared.clock.Settings.{Settings}
+use Rattle.engine_checks.specs.declared.clock.Clock.{Clock}
+use Rattle.engine_moves.specs.declared.moves.Entry.{Entry}
 use Rattle.engine_checks.specs.clock.Reading.{clock_in}
 use Rattle.engine_moves.specs.moves.Reading.{entry_in, MoveNumber}
 use Rattle.engine_moves.specs.moves.Entries.{seat, Held, Moves}
 use Rattle.engine_moves.specs.moves.EntryLaws.{kind_number}
 use Rattle.engine_moves.proofs.moves.Deciding.{move_read, refused_to, taken_to}
 
-module _ (p : ℕ) (s : Settings) (o c k : ℕ) (d : Levels) (q : ℕ) (h : History) (n : ℕ) (v : Bool) (numbered : v ≡ is_number n)
+module _ (t : Clock) (held : Entry) (n : ℕ) (v : Bool) (numbered : v ≡ is_number n)
     (ps qs : List ℕ) where
-  module _ (l : Ledger) (w : Held p s o c k d q h l (l.developers (seat n))) where
-    number_is : (j : ℕ) → MoveNumber v (clock_in p s 0 0) (entry_in k d 0 0) (Lodge ps qs) j → j ≡ refusal l (By n (Lodge ps qs))
+  module _ (l : Ledger) (w : Held t held l (l.developers (seat n))) where
+    number_is : (j : ℕ) → MoveNumber v (clock_in t) (entry_in held) (Lodge ps qs) j → j ≡ refusal l (By n (Lodge ps qs))
     unfolding move_refusal
     number_is j e = e.as_ruled n numbered ∙ move_read l n w (Lodge ps qs)
 
@@ -61,11 +61,11 @@ module _ (p : ℕ) (s : Settings) (o c k : ℕ) (d : Levels) (q : ℕ) (h : Hist
           no_offer none v = refl
           no_offer (made ss) v = absurd (clash v.round (ap in_round here))
 
-  module _ (j : ℕ) (e : MoveNumber v (clock_in p s 0 0) (entry_in k d 0 0) (Lodge ps qs) j) where
-    pub lodge_refused : (j ≡ 0 → ⊥) → Moves n (Lodge ps qs) (Held p s o c k d q h) j h
-    lodge_refused z = record { moves_as_ruled = λ l sound w. refused_to l n (Lodge ps qs) j h (number_is l w j e) z w.history }
+  module _ (j : ℕ) (e : MoveNumber v (clock_in t) (entry_in held) (Lodge ps qs) j) where
+    pub lodge_refused : (j ≡ 0 → ⊥) → Moves n (Lodge ps qs) (Held t held) j held.history
+    lodge_refused z = record { moves_as_ruled = λ l sound w. refused_to l n (Lodge ps qs) j held.history (number_is l w j e) z (ap (λ (y : Entry). y.history) w.entry) }
 
-    pub lodge_taken : j ≡ 0 → (r : History) → Lodged ps qs r → Moves n (Lodge ps qs) (Held p s o c k d q h) 0 r
+    pub lodge_taken : j ≡ 0 → (r : History) → Lodged ps qs r → Moves n (Lodge ps qs) (Held t held) 0 r
     lodge_taken z r y = record {
       moves_as_ruled = λ l sound w.
           let is = sym z ∙ number_is l w j e in

@@ -16,22 +16,22 @@ use Rattle.laws_ledger.specs.reachable.Bounds.{offer_fits}
 use Rattle.laws_ledger.specs.reachable.Checks.{OfferPassed, offer_passed}
 use Rattle.laws_ledger.specs.reachable.Steps.{step_accepted}
 use Rattle.laws_ledger.specs.reachable.Reachable.{sound_step}
-use Rattle.engine_held.specs.declared.levels.Levels.{Levels}
 use Rattle.engine_held.specs.history.Held.{held_history, Offered}
 use Rattle.engine_held.specs.history.HeldLaws.{is_none_by_number, offered_none, steps_length}
 use Rattle.engine_held.specs.declared.history.History.{History}
 use Rattle.engine_moves.specs.closing_entries.Courses.{held_course}
-use Rattle.engine_checks.specs.declared.clock.Settings.{Settings}
-use Rattle.engine_checks.specs.clock.Reading.{no_settings, clock_in}
+use Rattle.engine_checks.specs.declared.clock.Clock.{Clock}
+use Rattle.engine_moves.specs.declared.moves.Entry.{Entry}
+use Rattle.engine_checks.specs.clock.Reading.{clock_in}
 use Rattle.engine_moves.specs.moves.Reading.{entry_in, MoveNumber}
 use Rattle.engine_moves.specs.moves.Entries.{seat, Held, Moves}
 use Rattle.engine_moves.specs.moves.EntryLaws.{kind_number}
 use Rattle.engine_moves.proofs.moves.Deciding.{own, move_read, refused_to, taken_to}
 use Rattle.engine_moves.proofs.moves.Cancelling.{none_lodged}
 
-module _ (p : ℕ) (s : Settings) (o c k : ℕ) (d : Levels) (q : ℕ) (h : History) (n : ℕ) (v : Bool) (numbered : v ≡ is_number n) (ps qs : List ℕ) where
-  module _ (l : Ledger) (w : Held p s o c k d q h l (l.developers (seat n))) where
-    number_is : (j : ℕ) → MoveNumber v (clock_in p no_settings o c) (entry_in k d q h.offered) (Offer ps qs) j → j ≡ refusal l (By n (Offer ps qs))
+module _ (t : Clock) (held : Entry) (n : ℕ) (v : Bool) (numbered : v ≡ is_number n) (ps qs : List ℕ) where
+  module _ (l : Ledger) (w : Held t held l (l.developers (seat n))) where
+    number_is : (j : ℕ) → MoveNumber v (clock_in t) (entry_in held) (Offer ps qs) j → j ≡ refusal l (By n (Offer ps qs))
     unfolding move_refusal
     number_is j e = e.as_ruled n numbered ∙ move_read l n w (Offer ps qs)
 
@@ -67,23 +67,23 @@ module _ (p : ℕ) (s : Settings) (o c k : ℕ) (d : Levels) (q : ℕ) (h : Hist
           fits : Registered (accepted l (By n (Offer ps qs))) n → length (l.developers n).withdrawals + length (steps ps qs) ≤ 8
           fits y = subst (λ (x : Developer). length x.withdrawals + length (steps ps qs) ≤ 8) here (offer_fits y (ap (λ (x : Developer). x.offer) here))
 
-      history_next : (r : History) → Offered h ps qs r → r ≡ held_course (moved (l.developers n) (Offer ps qs))
+      history_next : (r : History) → Offered held.history ps qs r → r ≡ held_course (moved (l.developers n) (Offer ps qs))
       unfolding moved
       history_next r y =
           let x = (l.developers n).offer in
           let ws = (l.developers n).withdrawals in
           let t = none_lodged l n sound checked.developer in
           y.offer_stands ws
-          ((own l n w good).history ∙ ap₂ (held_history ws) (offered_none x (eqb-true _ 0 (sym (is_none_by_number x) ∙ checked.first))) t)
+          (ap (λ (y : Entry). y.history) (own l n w good).entry ∙ ap₂ (held_history ws) (offered_none x (eqb-true _ 0 (sym (is_none_by_number x) ∙ checked.first))) t)
           as_long
           room
           ∙ ap (held_history ws (made (steps ps qs))) (sym t)
 
-  module _ (j : ℕ) (e : MoveNumber v (clock_in p no_settings o c) (entry_in k d q h.offered) (Offer ps qs) j) where
-    pub offer_refused : (j ≡ 0 → ⊥) → Moves n (Offer ps qs) (Held p s o c k d q h) j h
-    offer_refused z = record { moves_as_ruled = λ l sound w. refused_to l n (Offer ps qs) j h (number_is l w j e) z w.history }
+  module _ (j : ℕ) (e : MoveNumber v (clock_in t) (entry_in held) (Offer ps qs) j) where
+    pub offer_refused : (j ≡ 0 → ⊥) → Moves n (Offer ps qs) (Held t held) j held.history
+    offer_refused z = record { moves_as_ruled = λ l sound w. refused_to l n (Offer ps qs) j held.history (number_is l w j e) z (ap (λ (y : Entry). y.history) w.entry) }
 
-    pub offer_taken : j ≡ 0 → (r : History) → Offered h ps qs r → Moves n (Offer ps qs) (Held p s o c k d q h) 0 r
+    pub offer_taken : j ≡ 0 → (r : History) → Offered held.history ps qs r → Moves n (Offer ps qs) (Held t held) 0 r
     offer_taken z r y = record {
       moves_as_ruled = λ l sound w.
           let is = sym z ∙ number_is l w j e in

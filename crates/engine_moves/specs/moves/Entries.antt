@@ -6,11 +6,11 @@ use Rattle.rules_auction.specs.Rounds.{step}
 use Rattle.laws_ledger.specs.Sound.{Sound}
 use Rattle.engine_held.specs.supply.ByProject.{place_of}
 use Rattle.engine_held.specs.levels.Held.{held_levels}
-use Rattle.engine_held.specs.declared.levels.Levels.{Levels}
 use Rattle.engine_held.specs.declared.history.History.{History}
 use Rattle.engine_moves.specs.closing_entries.Courses.{held_course}
-use Rattle.engine_checks.specs.clock.Held.{held_phase, held_settings}
-use Rattle.engine_checks.specs.declared.clock.Settings.{Settings}
+use Rattle.engine_checks.specs.clock.Held.{held_clock}
+use Rattle.engine_checks.specs.declared.clock.Clock.{Clock}
+use Rattle.engine_moves.specs.declared.moves.Entry.{Entry}
 
 -- what an array of histories has behind its end
 abbrev pub no_history : History
@@ -20,16 +20,14 @@ no_history = record { prices = []; levels = []; count = 0; offered = 0; lodged =
 abbrev pub seat : ℕ → ℕ
 seat n = suc (place_of n)
 
+-- what is held of a developer
+abbrev pub held_entry : Developer → Entry
+held_entry x = record { kind = x.declared.kind; declared = held_levels x.declared.levels; quantity = x.quantity; history = held_course x }
+
 -- what is held of the ledger's clock, and of the entry x
-pub record Held (p : ℕ) (s : Settings) (o c k : ℕ) (d : Levels) (q : ℕ) (h : History) (l : Ledger) (x : Developer) : Type 0 where
-  pub phase : p ≡ held_phase l.phase
-  pub settings : s ≡ held_settings l.settings
-  pub opening : o ≡ l.opening
-  pub closing : c ≡ l.closing
-  pub kind : k ≡ x.declared.kind
-  pub declared : d ≡ held_levels x.declared.levels
-  pub quantity : q ≡ x.quantity
-  pub history : h ≡ held_course x
+pub record Held (t : Clock) (e : Entry) (l : Ledger) (x : Developer) : Type 0 where
+  pub clock : t ≡ held_clock l
+  pub entry : e ≡ held_entry x
 
 -- k is the number of n's move, and h the history behind it at n's place
 pub record MovedTo (l : Ledger) (n : ℕ) (m : Move) (k : ℕ) (h : History) : Type 0 where

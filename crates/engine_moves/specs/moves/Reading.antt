@@ -3,20 +3,20 @@ use Rattle.std.specs.Prelude.{ℕ, zero, suc, ◌≡◌, Bool, []}
 use Rattle.rules_auction.specs.Ledger.{Standing, none, made, Move, Developer, Ledger}
 use Rattle.rules_auction.specs.Refusals.{is_number, move_refusal}
 use Rattle.engine_held.specs.levels.Held.{levels_in}
-use Rattle.engine_held.specs.declared.levels.Levels.{Levels}
+use Rattle.engine_moves.specs.declared.moves.Entry.{Entry}
 
 -- whether an offer stands, by its number; which steps it has is not read
 abbrev pub standing_in : ℕ → Standing
 standing_in zero = none
 standing_in (suc k) = made []
 
-abbrev pub entry_in : ℕ → Levels → ℕ → ℕ → Developer
-entry_in kind declared quantity offered = record {
-  declared = record { project = 0; kind = kind; study = 0; day = 0; levels = levels_in declared };
+abbrev pub entry_in : Entry → Developer
+entry_in e = record {
+  declared = record { project = 0; kind = e.kind; study = 0; day = 0; levels = levels_in e.declared };
   agent = 0;
-  quantity = quantity;
+  quantity = e.quantity;
   withdrawals = [];
-  offer = standing_in offered;
+  offer = standing_in e.history.offered;
   lodged = [];
 }
 

@@ -29,14 +29,14 @@ module _
     (a : Auction) (r : Cleared) (first next : ℕ)
     (highests : Highests a.declared r.highest)
     (supplied : first ≡ supply_of a.projects r.highest)
-    (priced : ClosingPrice a.settings a.closing (ByCurve a.curve.words a.curve.count first) r.price)
+    (priced : ClosingPrice a.clock.settings a.clock.closing (ByCurve a.curve.words a.curve.count first) r.price)
     (lows_at : Lows a.histories r.highest r.price r.lows)
     (above : next ≡ next_price r.price)
     (highs_at : Lows a.histories r.highest next r.highs)
-    (second_at : SecondPrice a.settings a.closing a.projects a.kinds a.histories r.highest r.price
+    (second_at : SecondPrice a.clock.settings a.clock.closing a.projects a.kinds a.histories r.highest r.price
     (record { price = r.second; short = r.short }))
-    (demand_at : r.demand ≡ (demanded_at a.settings r.price).value)
-    (remainder_at : r.remainder ≡ (demanded_at a.settings r.price).remainder)
+    (demand_at : r.demand ≡ (demanded_at a.clock.settings r.price).value)
+    (remainder_at : r.remainder ≡ (demanded_at a.clock.settings r.price).remainder)
   where
     abbrev p : ℕ
     p = r.price
@@ -49,13 +49,13 @@ module _
       unfolding held_auction
       firsts = highests.highest_are l s (ap (λ (x : Auction). x.declared) h)
 
-      settings_held : HoldsSettings a.settings l
+      settings_held : HoldsSettings a.clock.settings l
       unfolding held_auction
-      settings_held = record { sound = s; began = began; settings_are = ap (λ (x : Auction). x.settings) h }
+      settings_held = record { sound = s; began = began; settings_are = ap (λ (x : Auction). x.clock.settings) h }
 
       price_is : p ≡ closing_price l
       unfolding held_auction
-      price_is = priced.lowest l l settings_held (ap (λ (x : Auction). x.closing) h) (whole l) (record {
+      price_is = priced.lowest l l settings_held (ap (λ (x : Auction). x.clock.closing) h) (whole l) (record {
         all = refl;
         curve_is = ap (λ (x : Auction). x.curve) h;
         first_is = supplied ∙ ap₂ supply_of (ap (λ (x : Auction). x.projects) h) firsts ∙ supply_of_lem highest l;
@@ -77,7 +77,7 @@ module _
       seconds : (r.second ≡ second_price l) × (r.short ≡ short l)
       unfolding held_auction
       seconds =
-          second_at.price_and_mark l settings_held (ap (λ (x : Auction). x.closing) h) (ap (λ (x : Auction). x.projects) h)
+          second_at.price_and_mark l settings_held (ap (λ (x : Auction). x.clock.closing) h) (ap (λ (x : Auction). x.projects) h)
           (ap (λ (x : Auction). x.kinds) h)
           (ap (λ (x : Auction). x.histories) h) firsts price_is
 
@@ -88,8 +88,8 @@ module _
           (λ i. record {
             highest = firsts i;
             price = p;
-            demand = (demand_at ∙ ap (λ (x : Auction). (demanded_at x.settings p).value) h ∙ demand_is _ _ _ _ _ b in_range_lem) i;
-            remainder = (remainder_at ∙ ap (λ (x : Auction). (demanded_at x.settings p).remainder) h ∙ remainder_is _ _ _ _ _ b in_range_lem) i;
+            demand = (demand_at ∙ ap (λ (x : Auction). (demanded_at x.clock.settings p).value) h ∙ demand_is _ _ _ _ _ b in_range_lem) i;
+            remainder = (remainder_at ∙ ap (λ (x : Auction). (demanded_at x.clock.settings p).remainder) h ∙ remainder_is _ _ _ _ _ b in_range_lem) i;
             lows = lows_at.lows_are l s (ap (λ (x : Auction). x.histories) h) firsts i;
             highs = highs_are i;
             second = seconds.0 i;

@@ -1,11 +1,11 @@
 -- Supply at p by the curve and by the histories, covered at p, and the prices among which the lowest covered one lies.
-use Prim.Native.Nat.{ℕ, suc, ◌-◌, ◌≤◌, ◌<◌}
+use Prim.Native.Nat.{ℕ, suc, ◌+◌, ◌≤◌, ◌<◌}
 use mathlib.Core.Path.{◌≡◌, sym, ap, ap₂, ◌∙◌, subst, subst₂}
 use mathlib.Core.Bool.{Bool, true, false}
 use mathlib.Core.List.{List}
 use native.Mathlib.Omega.{arith}
 use lib.Dec.{leb}
-use Rattle.rules_numbers.specs.Least.{Bracket as Brackets, bracket_start, bracket_down, bracket_up, bracket_end}
+use Rattle.rules_numbers.specs.Least.{Bracket, bracket_start, bracket_down, bracket_up, bracket_end}
 use Rattle.rules_auction.specs.Ledger.{Ledger}
 use Rattle.rules_auction.specs.Clearing.{high as high_at, low as low_at, supply, covered, of_each}
 use Rattle.laws_ledger.specs.Parts.{Part}
@@ -23,8 +23,7 @@ use Rattle.engine_checks.specs.declared.clock.Settings.{Settings}
 use Rattle.engine_held.specs.declared.history.History.{History}
 use Rattle.engine_curve.specs.highs_and_lows.Lows.{Lows, next_price}
 use Rattle.engine_curve.specs.highs_and_lows.PriceLaws.{next_price_lem}
-use Rattle.engine_price.specs.declared.price.Bracket.{Bracket}
-use Rattle.engine_price.specs.price.Prices.{HoldsSettings, ByCurve, ByHistories, CoveredAt, ClosingPrice, passed_by, halved_at}
+use Rattle.engine_price.specs.price.Prices.{HoldsSettings, ByCurve, ByHistories, CoveredAt, LowestCovered}
 
 -- ---- supply at p
 
@@ -67,38 +66,43 @@ module _ (settings : Settings) (p s : ℕ) where
 
 -- ---- halving
 
--- of the prices that the clock passed, the bracket holds m's lowest covered one, or A
-abbrev Holds : Ledger → Ledger → Bracket → Type 0
-Holds l m b = Brackets (covered m) l.closing l.settings.a b.lo b.hi
+-- of the prices that the clock passed, m's lowest covered one, or A, is from lo to hi
+abbrev Holds : Ledger → Ledger → ℕ → ℕ → Type 0
+Holds l m lo hi = Bracket (covered m) l.closing l.settings.a lo hi
 
-module _ (settings : Settings) (closing : ℕ) (By : Ledger → Ledger → Type 0) where
-  pub record Halving (b : Bracket) : Type 0 where
-    pub holds : (l m : Ledger) → HoldsSettings settings l → closing ≡ l.closing → Part l m → By l m → Holds l m b
+module _ (settings : Settings) (closing : ℕ) (Says : ℕ → Bool → Type 0) where
+  -- what is said of the prices that the clock passed is whether m covers them
+  abbrev Telling : Ledger → Ledger → Type 0
+  Telling l m = (p : ℕ) (t : Bool) → l.closing ≤ p → p ≤ l.settings.a → Says p t → t ≡ covered m p
 
-  pub halving_first : Halving (passed_by settings closing)
+  pub record Halving (lo hi : ℕ) : Type 0 where
+    pub holds : (l m : Ledger) → HoldsSettings settings l → closing ≡ l.closing → Part l m → Telling l m → Holds l m lo hi
+
+  pub halving_first : Halving closing settings.a
   halving_first = record {
-    holds = λ l m q e t v. subst₂ (λ (x : ℕ) (y : Settings). Holds l m (passed_by y x)) (sym e) (sym q.settings_are)
+    holds = λ l m q e t v. subst₂ (λ (x : ℕ) (y : Settings). Holds l m x y.a) (sym e) (sym q.settings_are)
         (bracket_start (covered m) l.closing l.settings.a (let p = q.sound.prices q.began in omega arith));
   }
 
-  pub halving_next : (b : Bracket) (mid : ℕ) (t : Bool) → Halving b → b.lo ≤ mid → mid < b.hi → CoveredAt settings By mid t → Halving (halved_at b mid t)
-  halving_next b mid t w low high c = record {
-    holds = λ l m q e u v.
-        let k = w.holds l m q e u v in
-        go l m q u k t (c.tells l m q u v (let f = k.from in omega arith) (let f = k.to in omega arith));
-  }
-    where
-      go : (l m : Ledger) → HoldsSettings settings l → Part l m → Holds l m b → (t : Bool) → t ≡ covered m mid → Holds l m (halved_at b mid t)
-      go l m q u k true f = bracket_down (covered m) l.closing l.settings.a b.lo b.hi mid k low high (sym f)
-      go l m q u k false f =
-          let rises = covered_rises l q.sound q.began m u in
-          bracket_up (covered m) l.closing l.settings.a b.lo b.hi mid rises k low high (sym f)
+  module _ (lo hi : ℕ) (w : Halving lo hi) where
+    module _ (mid : ℕ) (low : lo ≤ mid) (high : mid < hi) where
+      pub halving_down : Says mid true → Halving lo mid
+      halving_down c = record {
+        holds = λ l m q e u v.
+            let k = w.holds l m q e u v in
+            let t = v mid true (let f = k.from in omega arith) (let f = k.to in omega arith) c in
+            bracket_down (covered m) l.closing l.settings.a lo hi mid k low high (sym t);
+      }
 
-  pub halving_end : (b : Bracket) → Halving b → b.hi ≤ b.lo → ClosingPrice settings closing By b.lo
-  halving_end b w h = record {
-    lowest = λ l m q e t v. part_closing_price l m t b.lo (bracket_end (covered m) l.closing l.settings.a b.lo b.hi (w.holds l m q e t v) h);
-  }
+      pub halving_up : Says mid false → Halving (mid + 1) hi
+      halving_up c = record {
+        holds = λ l m q e u v.
+            let k = w.holds l m q e u v in
+            let t = v mid false (let f = k.from in omega arith) (let f = k.to in omega arith) c in
+            bracket_up (covered m) l.closing l.settings.a lo hi mid (covered_rises l q.sound q.began m u) k low high (sym t);
+      }
 
-pub halving_less : (b r : Bracket) (mid : ℕ) (t : Bool) → r ≡ halved_at b mid t → b.lo ≤ mid → mid < b.hi → r.hi - r.lo < b.hi - b.lo
-halving_less b r mid true e low high = rw e (omega arith)
-halving_less b r mid false e low high = rw e (omega arith)
+    pub halving_end : hi ≤ lo → LowestCovered settings closing Says lo
+    halving_end h = record {
+      lowest = λ l m q e t v. part_closing_price l m t lo (bracket_end (covered m) l.closing l.settings.a lo hi (w.holds l m q e t v) h);
+    }

@@ -1,13 +1,15 @@
 -- The projects that remain, place by place, and the price and the mark that follow from them.
 use Prim.Native.Nat.{ℕ, zero, suc, ◌+◌, ◌≤◌, ◌<◌}
 use mathlib.Core.Path.{◌≡◌, refl, sym, ap, ap₂, ◌∙◌, subst}
-use mathlib.Core.Logic.{⊎_elim}
 use mathlib.Core.Bool.{Bool, true, false, cond, not, ◌&&◌}
 use mathlib.Core.List.{List, [], ◌∷◌}
 use native.Mathlib.Omega.{arith}
 use lib.Dec.{eqb, eqb-suc-zero}
 use lib.ListN.{length, get_or, set, replicate}
-use Rattle.rules_numbers.specs.Cases.{never_true, le_or_lt, clash}
+use Rattle.std.specs.Bool.{MatchBool}
+use Rattle.std.specs.List.{AllWithin, zip}
+use Rattle.std.proofs.lemmas.Slice.Zip.{length-zip, get_or-zip}
+use Rattle.rules_numbers.specs.Cases.{never_true, clash}
 use Rattle.rules_numbers.specs.Lists.{is_empty}
 use Rattle.rules_numbers.specs.ListLaws.{any_true, numbered_nth}
 use Rattle.rules_auction.specs.Ledger.{Step, Developer, Ledger, nobody}
@@ -29,9 +31,10 @@ use Rattle.engine_price.specs.second_price.Taken.{plant_in, NoneTaken, Remain, S
 abbrev any_step : Step
 any_step = record { price = 0; level = 0 }
 
-pub none_made : (n : ℕ) → is_empty (replicate n any_step) ≡ eqb n 0
-none_made zero = refl
-none_made (suc n) = sym (eqb-suc-zero n)
+pub taken_where : (kind n : ℕ) → eqb kind 1 && not (eqb n 0) ≡ lodged_applied (plant_in kind n)
+unfolding lodged_applied
+taken_where kind zero = refl
+taken_where kind (suc n) = rw (eqb-suc-zero n)
 
 taken_read : (x : Developer) → lodged_applied (plant_in x.declared.kind (length x.withdrawals)) ≡ lodged_applied x
 unfolding lodged_applied
@@ -58,43 +61,36 @@ left_is l s n =
 -- ---- nobody is taken out
 
 module _ (kinds : List ℕ) (histories : List History) where
-  -- no developer before place i is taken out
-  pub record NoneTurn (i : ℕ) : Type 0 where
-    pub within : i ≤ 32
-    pub part :
-        (l : Ledger) → kinds ≡ of_each (λ x. x.declared.kind) l → histories ≡ of_each held_course l →
-        (j : ℕ) → j < i → lodged_applied (l.developers (suc j)) ≡ false
+  -- what is read of the developers: none is taken out
+  abbrev NoneRead : Type 0
+  NoneRead = AllWithin (λ (x : ℕ × History). lodged_applied (plant_in x.0 x.1.count) ≡ false) (zip kinds histories) 0 (length (zip kinds histories))
 
-  pub none_first : NoneTurn 0
-  none_first = record { within = omega arith; part = λ l k h j w. absurd (omega arith) }
-
-  pub none_next : (i : ℕ) (d : History) → NoneTurn i → i < 32 → lodged_applied (plant_in (get_or kinds i 0) (get_or histories i d).count) ≡ false → NoneTurn (i + 1)
-  none_next i d t w e = record {
-    within = omega arith;
-    part = λ l k h j g.
+  module _ (none : NoneRead) (l : Ledger) (k : kinds ≡ of_each (λ x. x.declared.kind) l) (h : histories ≡ of_each held_course l) where
+    none_at : (i : ℕ) → i < 32 → lodged_applied (l.developers (suc i)) ≡ false
+    none_at i w =
+        let d = held_course (l.developers 0) in
+        let kl : length kinds ≡ 32 = ap length k ∙ numbered_length _ in
+        let hl : length histories ≡ 32 = ap length h ∙ numbered_length _ in
         let ki : get_or kinds i 0 ≡ (l.developers (suc i)).declared.kind = numbered_nth _ 32 kinds i 0 k w in
         let hi : get_or histories i d ≡ held_course (l.developers (suc i)) = numbered_nth _ 32 histories i d h w in
-        let here : lodged_applied (l.developers (suc i)) ≡ false =
-        sym (taken_read (l.developers (suc i))) ∙ sym (ap₂ (λ (a : ℕ) (x : History). lodged_applied (plant_in a x.count)) ki hi) ∙ e in
-        ⊎_elim (λ b. t.part l k h j b) (λ b. subst (λ (n : ℕ). lodged_applied (l.developers (suc n)) ≡ false) (omega arith) here) (le_or_lt (suc j) i);
-  }
+        sym (taken_read (l.developers (suc i)))
+        ∙ sym (ap₂ (λ (a : ℕ) (x : History). lodged_applied (plant_in a x.count)) ki hi)
+        ∙ sym (ap (λ (x : ℕ × History). lodged_applied (plant_in x.0 x.1.count)) (get_or-zip kinds histories i (0, d) (omega arith) (omega arith)))
+        ∙ none i (0, d) (omega arith) (omega (arith, length-zip kinds histories))
 
-  pub none_all : (i : ℕ) → NoneTurn i → 32 ≤ i → NoneTaken kinds histories true
+    before : (m : ℕ) → 1 ≤ m → m ≤ 32 → lodged_applied (l.developers m) ≡ false
+    before zero low high = absurd (omega arith)
+    before (suc i) low high = none_at i (omega arith)
+
+  pub none_read : (r : Bool) (X : Type 0) → MatchBool r NoneRead X → NoneTaken kinds histories r
   unfolding taken_out
-  none_all i t w = record {
+  none_read false X m = record { nobody_taken_out = λ e. absurd (clash e refl) }
+  none_read true X m = record {
     nobody_taken_out = λ _ l k h n. never_true _ (λ a.
         let r = (any_true (λ m. lodged_applied (l.developers m)) (developers_of l n)).0 a in
         let b = (in_developers_of l n r.0).0 r.1 in
-        clash r.2 (before l k h r.0 b.0 (omega (arith, b.1))));
+        clash r.2 (before m l k h r.0 b.0 (omega (arith, b.1))));
   }
-    where
-      before : (l : Ledger) → kinds ≡ of_each (λ x. x.declared.kind) l → histories ≡ of_each held_course l → (m : ℕ) → 1 ≤ m → m ≤ i →
-          lodged_applied (l.developers m) ≡ false
-      before l k h zero low high = absurd (omega arith)
-      before l k h (suc j) low high = t.part l k h j (omega arith)
-
-  pub some_taken : NoneTaken kinds histories false
-  some_taken = record { nobody_taken_out = λ e. absurd (clash e refl) }
 
 -- ---- the projects that remain
 

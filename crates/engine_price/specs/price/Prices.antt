@@ -1,5 +1,5 @@
 -- What the functions to the closing price ensure, of a sound ledger and of each part of it.
-use Rattle.std.specs.Prelude.{ℕ, ◌+◌, ◌≤◌, ◌≡◌, Bool, true, cond, List}
+use Rattle.std.specs.Prelude.{ℕ, ◌≤◌, ◌≡◌, Bool, true, List}
 use Rattle.rules_auction.specs.Ledger.{Ledger}
 use Rattle.rules_auction.specs.Clearing.{highest, supply, covered, closing_price, of_each}
 use Rattle.laws_ledger.specs.Sound.{Sound, started}
@@ -9,7 +9,6 @@ use Rattle.engine_curve.specs.kept_curve.Held.{held_curve, lent_curve}
 use Rattle.engine_checks.specs.declared.clock.Settings.{Settings}
 use Rattle.engine_held.specs.declared.history.History.{History}
 use Rattle.engine_auction.specs.Holds.{held_settings, held_course}
-use Rattle.engine_price.specs.declared.price.Bracket.{Bracket}
 
 -- the settings are those of the sound ledger l, in which a round was opened
 pub record HoldsSettings (settings : Settings) (l : Ledger) : Type 0 where
@@ -38,10 +37,8 @@ pub record CoveredAt (settings : Settings) (By : Ledger → Ledger → Type 0) (
 pub record ClosingPrice (settings : Settings) (closing : ℕ) (By : Ledger → Ledger → Type 0) (r : ℕ) : Type 0 where
   pub lowest : (l m : Ledger) → HoldsSettings settings l → closing ≡ l.closing → Part l m → By l m → r ≡ closing_price m
 
--- the prices that the clock passed
-abbrev pub passed_by : Settings → ℕ → Bracket
-passed_by settings closing = record { lo = closing; hi = settings.a }
-
--- halved at mid: below it if mid is covered, else above it
-abbrev pub halved_at : Bracket → ℕ → Bool → Bracket
-halved_at b mid t = record { lo = cond t b.lo (mid + 1); hi = cond t mid b.hi }
+-- the closing price of m, whose covered prices a test tells, as far as the clock passed them; `Says p t`: the test may say t of p
+pub record LowestCovered (settings : Settings) (closing : ℕ) (Says : ℕ → Bool → Type 0) (r : ℕ) : Type 0 where
+  pub lowest :
+      (l m : Ledger) → HoldsSettings settings l → closing ≡ l.closing → Part l m →
+      ((p : ℕ) (t : Bool) → l.closing ≤ p → p ≤ l.settings.a → Says p t → t ≡ covered m p) → r ≡ closing_price m

@@ -17,8 +17,7 @@ use Rattle.rules_sealed.specs.Served.{served}
 use Rattle.rules_sealed.specs.ServedLaws.{taking_order_within, awards_long, served_awards}
 use Rattle.engine_sealed.specs.sealed_order.TakingOrder.{InTakingOrder}
 use Rattle.engine_sealed.specs.sealed_awards.Shares.{Shares}
-use Rattle.engine_sealed.specs.declared.sealed_auction.Sealed.{Sealed}
-use Rattle.engine_sealed.specs.sealed_auction.Cleared.{sealed_as, Lends}
+use Rattle.engine_sealed.specs.sealed_auction.Cleared.{Sealed, sealed_as, Lends}
 
 module _ (ceiling demand : ℕ) (b : Book) where
   abbrev number : ℕ

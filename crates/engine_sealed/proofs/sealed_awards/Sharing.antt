@@ -8,7 +8,6 @@ use native.Mathlib.Omega.{arith}
 use lib.Dec.{ltb}
 use lib.ListN.{length, drop, get_or, set, replicate, drop_of_length-le}
 use lib.Seq.{drop-cons}
-use borrow.Author.Tests.{lt-ltb, le-ltb}
 use Rattle.rules_sealed.specs.Sealed.{Offer, book_of, offer_at, most_offers, awarded, left_behind}
 use Rattle.rules_sealed.specs.Served.{served}
 use Rattle.engine_sealed.specs.sealed_awards.Shares.{Shares, Awards}
@@ -16,14 +15,6 @@ use Rattle.engine_sealed.specs.sealed_awards.Shares.{Shares, Awards}
 -- ---- one award
 
 module _ (left q m a : ℕ) where
-  pub award_nothing : a ≡ min q left → a < m → Awards left q m 0
-  unfolding awarded
-  award_nothing e h p g = rw (lt-ltb (min q left) m (omega arith))
-
-  pub award_given : a ≡ min q left → m ≤ a → Awards left q m a
-  unfolding awarded
-  award_given e h p g = rw (le-ltb (min q left) m (omega arith)) e
-
   pub award_le : Awards left q m a → a ≤ left
   unfolding awarded
   award_le e = omega (arith, e 0 0, go (ltb (min q left) m))
@@ -36,13 +27,12 @@ module _ (left q m a : ℕ) where
 
 -- before the turn of place i of ks
 pub record Sharing (qs ms : List ℕ) (demand : ℕ) (ks out : List ℕ) (left i : ℕ) : Type 0 where
-  pub inside : i ≤ length ks
   pub awarded : (ps gs : List ℕ) → let f = offer_at (book_of ps qs ms gs) in served f left (drop i ks) out ≡ served f demand ks (replicate most_offers 0)
   pub rest : (ps gs : List ℕ) → let f = offer_at (book_of ps qs ms gs) in left_behind f left (drop i ks) ≡ left_behind f demand ks
 
 module _ (qs ms : List ℕ) (demand : ℕ) (ks : List ℕ) where
   pub sharing_first : Sharing qs ms demand ks (replicate most_offers 0) demand 0
-  sharing_first = record { inside = omega arith; awarded = λ ps gs. refl; rest = λ ps gs. refl }
+  sharing_first = record { awarded = λ ps gs. refl; rest = λ ps gs. refl }
 
   module _ (out : List ℕ) (left i : ℕ) (s : Sharing qs ms demand ks out left i) where
     -- with l for the places that are left
@@ -63,7 +53,6 @@ module _ (qs ms : List ℕ) (demand : ℕ) (ks : List ℕ) where
     sharing_next k a h e w =
         let d : drop i ks ≡ k ∷ drop (i + 1) ks = rw (add-one, ← e) (drop-cons ks i 0 h) in
         record {
-          inside = omega arith;
           awarded = λ ps gs. rw (w (get_or ps k 0) (get_or gs k 0)) (awards_all d ps gs);
           rest = λ ps gs. rw (w (get_or ps k 0) (get_or gs k 0)) (rest_all d ps gs);
         }

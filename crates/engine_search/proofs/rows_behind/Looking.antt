@@ -2,7 +2,7 @@
 use Prim.Native.Nat.{ℕ, ◌+◌, ◌-◌, ◌*◌, ◌≤◌, ◌<◌}
 use mathlib.Core.Path.{◌≡◌, sym, ap, subst, ◌∙◌}
 use mathlib.Core.Logic.{⊎_elim}
-use mathlib.Core.List.{List, [], ◌∷◌, map}
+use mathlib.Core.List.{List, ◌∷◌, map}
 use native.Mathlib.Omega.{arith}
 use native.Mathlib.Nat.{mul_comm}
 use lib.ListN.{length, drop, get_or, set, length-set}
@@ -15,7 +15,8 @@ use Rattle.rules_choices.specs.Between.{lowest_total_cons, highest_total_cons}
 use Rattle.rules_choices.specs.Numbered.{count, count_row}
 use Rattle.engine_table.specs.table.Places.{ValidTable, start_of, row_in}
 use Rattle.engine_table.specs.table.PlaceLaws.{row_ends, row_length, row_low, row_high}
-use Rattle.engine_search.specs.rows_behind.Behind.{Orders, rows_behind, row_at, RowsFrom, Looks}
+use Rattle.engine_search.specs.rows_behind.Behind.{Orders, rows_behind, row_at, no_row, RowsFrom}
+use Rattle.engine_search.specs.declared.rows_behind.Row.{Row}
 use Rattle.engine_search.specs.rows_behind.InOrder.{number_at, from_cons, from_none, from_few, from_fits}
 
 -- one more is stored at place k
@@ -38,7 +39,7 @@ count_here {levels} {ends} {order} t o i h =
     ∙ sym (ap count (from_cons t o i h) ∙ count_row (row_in levels ends k) (rows_behind levels ends order i))
 
 -- the loop below place i: what the rows from i on have
-pub record Looking (levels ends order strides : List ℕ) (rows : List (List ℕ)) (n low high i : ℕ) : Type 0 where
+pub record Looking (levels ends order strides : List ℕ) (rows : List Row) (n low high i : ℕ) : Type 0 where
   pub placed : i ≤ 32
   pub long : length rows ≡ 32
   pub rows_are : RowsFrom levels ends order strides rows i
@@ -46,17 +47,13 @@ pub record Looking (levels ends order strides : List ℕ) (rows : List (List ℕ
   pub low_is : low ≡ lowest_total (map (row_in levels ends) (drop i order))
   pub high_is : high ≡ highest_total (map (row_in levels ends) (drop i order))
 
-pub looking_down : {levels ends order strides : List ℕ} {rows : List (List ℕ)} {n low high i : ℕ} → Looking levels ends order strides rows n low high i →
+pub looking_down : {levels ends order strides : List ℕ} {rows : List Row} {n low high i : ℕ} → Looking levels ends order strides rows n low high i →
     0 < i →
     Looking levels ends order strides rows n low high (i - 1 + 1)
 looking_down {i = i} l h = let e : i - 1 + 1 ≡ i = omega arith in rw e l
 
-pub looking_end : {levels ends order strides : List ℕ} {rows : List (List ℕ)} {n low high i : ℕ} → Looking levels ends order strides rows n low high i → i ≤ 0 →
-    Looks levels ends order strides rows
-looking_end {i = i} l h = let e : i ≡ 0 = omega arith in record { long = l.long; rows_are = rw e at l.rows_are }
-
 module _ {levels ends order strides : List ℕ} (t : ValidTable levels ends) (o : Orders levels ends order) where
-  pub looking_first : (rows : List (List ℕ)) → length rows ≡ 32 → Looking levels ends order strides rows 1 0 0 32
+  pub looking_first : (rows : List Row) → length rows ≡ 32 → Looking levels ends order strides rows 1 0 0 32
   unfolding choices lowest_total highest_total total
   looking_first rows l = record {
     placed = omega arith;
@@ -67,7 +64,7 @@ module _ {levels ends order strides : List ℕ} (t : ValidTable levels ends) (o 
     high_is = ap highest_total (sym (from_none t o));
   }
 
-  module _ {rows : List (List ℕ)} {n low high : ℕ} (i : ℕ) (l : Looking levels ends order strides rows n low high (i + 1)) where
+  module _ {rows : List Row} {n low high : ℕ} (i : ℕ) (l : Looking levels ends order strides rows n low high (i + 1)) where
     abbrev k : ℕ
     k = get_or order i 0
 
@@ -109,12 +106,12 @@ module _ {levels ends order strides : List ℕ} (t : ValidTable levels ends) (o 
         (omega (arith, n_here, from_few t o i (omega (arith, row))), omega (arith, low_here, f.0), omega (arith, high_here, f.1))
 
     pub looking_again :
-        let row = start ∷ end ∷ get_or strides k 0 ∷ n ∷ low ∷ high ∷ [] in
+        let row : Row = record { start = start; end = end; stride = get_or strides k 0; ways = n; lows = low; highs = high } in
         Looking levels ends order strides (set rows i row) (n * (end - start)) (low + get_or levels start 0) (high + get_or levels (end - 1) 0) i
     looking_again = record {
       placed = omega (arith, row);
       long = simp length-set l.long;
-      rows_are = stored (row_at levels ends order strides) [] rows i _ l.long row (rw (l.n_is, l.low_is, l.high_is)) l.rows_are;
+      rows_are = stored (row_at levels ends order strides) no_row rows i _ l.long row (rw (l.n_is, l.low_is, l.high_is)) l.rows_are;
       n_is = n_here;
       low_is = low_here;
       high_is = high_here;

@@ -12,7 +12,7 @@ use Rattle.engine_table.specs.table.Places.{start_of, row_in}
 use Rattle.engine_table.specs.table.PlaceLaws.{row_ends}
 use Rattle.engine_search.specs.rows_behind.Behind.{Orders, rows_behind, EachBehind}
 use Rattle.engine_search.specs.rows_behind.InOrder.{from_none, from_few}
-use Rattle.engine_search.specs.rows_behind.ByNumber.{FewChoices, Numbers, number_is, by_number}
+use Rattle.engine_search.specs.rows_behind.ByNumber.{FewChoices, number_is, by_number}
 use Rattle.engine_search.proofs.rows_behind.Looking.{stored, count_here}
 
 -- the loop below row i: n is the number of choices of the rows from i on
@@ -36,9 +36,6 @@ numbering_first strides l = record {
 
 pub numbering_down : {ends strides : List ℕ} {n i : ℕ} → Numbering ends strides n i → 0 < i → Numbering ends strides n (i - 1 + 1)
 numbering_down {i = i} s h = let e : i - 1 + 1 ≡ i = omega arith in rw e s
-
-pub numbering_end : {ends strides : List ℕ} {n i : ℕ} → Numbering ends strides n i → i ≤ 0 → Numbers ends strides
-numbering_end {i = i} s h = let e : i ≡ 0 = omega arith in rw e at s.behind
 
 module _ {ends strides : List ℕ} {n : ℕ} (i : ℕ) (s : Numbering ends strides n (i + 1)) where
   pub row : i < 32

@@ -17,14 +17,15 @@ use Rattle.rules_choices.specs.EachChoice.{Strided, row_of, each_level, each_cho
 use Rattle.engine_table.specs.table.Places.{ValidRow, start_of, row_in}
 use Rattle.engine_table.specs.table.PlaceLaws.{part_cons, row_ends, row_valid}
 use Rattle.engine_search.specs.declared.tally.Tally.{Tally}
-use Rattle.engine_search.specs.rows_behind.Behind.{rows_behind, row_at, row_number}
+use Rattle.engine_search.specs.declared.rows_behind.Row.{Row}
+use Rattle.engine_search.specs.rows_behind.Behind.{rows_behind, row_at, search_row}
 use Rattle.engine_search.specs.tally.Tally.{more}
 use Rattle.engine_search.specs.searching.Going.{offered, left, Goes}
 use Rattle.engine_search.proofs.searching.Rows.{strided_in, left_in, left_is}
 use Rattle.engine_search.specs.rows_behind.InOrder.{number_at, order_cons, from_cons, from_none, from_levels, from_fits}
 use Rattle.engine_search.proofs.searching.Tallying.{count_cons, each_choice_none, each_choice_all, each_choice_covers, each_choice_fewer}
 
-module _ {levels ends order strides : List ℕ} {rows : List (List ℕ)} {i at base ix : ℕ} {f : Tally}
+module _ {levels ends order strides : List ℕ} {rows : List Row} {i at base ix : ℕ} {f : Tally}
     (r : Goes levels ends order strides rows i at base ix f) where
   -- the row at place i, its level at `at`, and the rows behind
   abbrev k : ℕ
@@ -64,26 +65,26 @@ module _ {levels ends order strides : List ℕ} {rows : List (List ℕ)} {i at b
   counts = rw here (count_cons level (part levels (at + 1) end) behind)
 
   -- what the row of the search says
-  row_is : get_or rows i [] ≡ row_at levels ends order strides i
+  row_is : search_row rows i ≡ row_at levels ends order strides i
   row_is = r.looks.rows_are i zero-le r.place
 
-  end_is : row_number rows i 1 ≡ end
-  end_is = ap (λ (row : List ℕ). get_or row 1 0) row_is
+  end_is : (search_row rows i).end ≡ end
+  end_is = ap (λ (row : Row). row.end) row_is
 
-  stride_is : row_number rows i 2 ≡ get_or strides k 0
-  stride_is = ap (λ (row : List ℕ). get_or row 2 0) row_is
+  stride_is : (search_row rows i).stride ≡ get_or strides k 0
+  stride_is = ap (λ (row : Row). row.stride) row_is
 
-  pub stride_fits : row_number rows i 2 ≤ 65536
+  pub stride_fits : (search_row rows i).stride ≤ 65536
   stride_fits = omega (arith, stride_is, r.small k number)
 
-  count_is : row_number rows i 3 ≡ count behind
-  count_is = ap (λ (row : List ℕ). get_or row 3 0) row_is
+  count_is : (search_row rows i).ways ≡ count behind
+  count_is = ap (λ (row : Row). row.ways) row_is
 
-  low_is : row_number rows i 4 ≡ lowest_total behind
-  low_is = ap (λ (row : List ℕ). get_or row 4 0) row_is
+  low_is : (search_row rows i).lows ≡ lowest_total behind
+  low_is = ap (λ (row : Row). row.lows) row_is
 
-  high_is : row_number rows i 5 ≡ highest_total behind
-  high_is = ap (λ (row : List ℕ). get_or row 5 0) row_is
+  high_is : (search_row rows i).highs ≡ highest_total behind
+  high_is = ap (λ (row : Row). row.highs) row_is
 
   left_here : left levels rows i at ≡ left_in levels ends order strides i at
   left_here = left_is r.orders r.looks i at r.place
@@ -92,14 +93,14 @@ module _ {levels ends order strides : List ℕ} {rows : List (List ℕ)} {i at b
   levels_behind = rw rest_rows (from_levels r.table r.orders (i + 1))
 
   -- the sums fit
-  pub sums_fit : (base + level ≤ 32000000000) × (base + level + row_number rows i 4 ≤ 32000000000) × (base + level + row_number rows i 5 ≤ 32000000000)
+  pub sums_fit : (base + level ≤ 32000000000) × (base + level + (search_row rows i).lows ≤ 32000000000) × (base + level + (search_row rows i).highs ≤ 32000000000)
   sums_fit = let b = from_fits r.table r.orders (i + 1) (omega (arith, r.place)) in (
     omega (arith, r.base_fits, small_level, r.place),
     omega (arith, r.base_fits, small_level, low_is, r.place, b.0),
     omega (arith, r.base_fits, small_level, high_is, r.place, b.1),
   )
 
-  pub room_here : (f.covering + row_number rows i 3 ≤ 65536) × (f.kept ≤ f.covering)
+  pub room_here : (f.covering + (search_row rows i).ways ≤ 65536) × (f.kept ≤ f.covering)
   room_here = (omega (arith, r.room, counts, count_is), r.fewer)
 
   none_left : i + 1 ≡ 32 → lowest_total behind ≡ highest_total behind
@@ -113,15 +114,15 @@ module _ {levels ends order strides : List ℕ} {rows : List (List ℕ)} {i at b
     abbrev pub With : Tally → Type 0
     With g = g ≡ each_choice (offered d) rest (base + level) ix f
 
-    pub none_covers : base + level + row_number rows i 5 < d → With f
+    pub none_covers : base + level + (search_row rows i).highs < d → With f
     none_covers h = sym (each_choice_none d rest (base + level) ix f (λ row m. (levels_behind row m).1) (rw rest_rows (omega (arith, high_is))))
 
-    pub all_cover : d ≤ base + level + row_number rows i 4 → With (more (row_number rows i 3) (base + level + row_number rows i 4) ix f)
+    pub all_cover : d ≤ base + level + (search_row rows i).lows → With (more ((search_row rows i).ways) (base + level + (search_row rows i).lows) ix f)
     all_cover h =
         rw (count_is, low_is) (sym (rw rest_rows at (each_choice_all d rest (base + level) ix f levels_behind (rw rest_rows (omega (arith, low_is))))))
 
     -- where neither holds there is a row behind, which is gone into from its first level on
-    module _ (between : (base + level + row_number rows i 4 < d) × (d ≤ base + level + row_number rows i 5)) where
+    module _ (between : (base + level + (search_row rows i).lows < d) × (d ≤ base + level + (search_row rows i).highs)) where
       pub next_place : i + 1 < 32
       next_place = ⊎_elim (λ q. q) (λ q. absurd (omega (arith, between, low_is, high_is, none_left (omega (arith, r.place))))) (le_or_lt (suc (i + 1)) 32)
 
@@ -131,13 +132,13 @@ module _ {levels ends order strides : List ℕ} {rows : List (List ℕ)} {i at b
       next_number : next < 32
       next_number = number_at r.table r.orders (i + 1) next_place
 
-      next_start : row_number rows (i + 1) 0 ≡ start_of ends next
-      next_start = ap (λ (row : List ℕ). get_or row 0 0) (r.looks.rows_are (i + 1) zero-le next_place)
+      next_start : (search_row rows (i + 1)).start ≡ start_of ends next
+      next_start = ap (λ (row : Row). row.start) (r.looks.rows_are (i + 1) zero-le next_place)
 
       rest_left : rest ≡ left_in levels ends order strides (i + 1) (start_of ends next)
       rest_left = ap (map (strided_in levels ends strides)) (order_cons r.table r.orders (i + 1) next_place)
 
-      pub rest_ready : Goes levels ends order strides rows (i + 1) (row_number rows (i + 1) 0) (base + level) ix f
+      pub rest_ready : Goes levels ends order strides rows (i + 1) (search_row rows (i + 1)).start (base + level) ix f
       rest_ready = rw next_start record {
         table = r.table;
         orders = r.orders;
@@ -152,7 +153,7 @@ module _ {levels ends order strides : List ℕ} {rows : List (List ℕ)} {i at b
         fewer = r.fewer;
       }
 
-      pub rest_with : (g : Tally) → g ≡ each_choice (offered d) (left levels rows (i + 1) (row_number rows (i + 1) 0)) (base + level) ix f → With g
+      pub rest_with : (g : Tally) → g ≡ each_choice (offered d) (left levels rows (i + 1) (search_row rows (i + 1)).start) (base + level) ix f → With g
       rest_with g e = rw rest_left (rw (next_start, left_is r.orders r.looks (i + 1) (start_of ends next) next_place) at e)
 
     module _ (g : Tally) (w : With g) where
@@ -161,7 +162,7 @@ module _ {levels ends order strides : List ℕ} {rows : List (List ℕ)} {i at b
       unfolding each_choice each_level
       row_done_in e = let z : end - (at + 1) ≡ 0 = omega arith in w ∙ rw (here, z)
 
-      pub row_done : at + 1 ≡ row_number rows i 1 → g ≡ each_choice (offered d) (left levels rows i at) base ix f
+      pub row_done : at + 1 ≡ (search_row rows i).end → g ≡ each_choice (offered d) (left levels rows i at) base ix f
       row_done e = rw left_here (row_done_in (e ∙ end_is))
 
       go_on_in : (e : Tally) → e ≡ each_choice (offered d) (left_in levels ends order strides i (at + 1)) base (ix + get_or strides k 0) g →
@@ -169,12 +170,12 @@ module _ {levels ends order strides : List ℕ} {rows : List (List ℕ)} {i at b
       unfolding each_choice each_level
       go_on_in e q = q ∙ rw (w, here)
 
-      pub go_on : (e : Tally) → e ≡ each_choice (offered d) (left levels rows i (at + 1)) base (ix + row_number rows i 2) g →
+      pub go_on : (e : Tally) → e ≡ each_choice (offered d) (left levels rows i (at + 1)) base (ix + (search_row rows i).stride) g →
           e ≡ each_choice (offered d) (left levels rows i at) base ix f
       go_on e q = rw left_here (go_on_in e (rw (left_is r.orders r.looks i (at + 1) r.place, stride_is) at q))
 
-      module _ (n : at + 1 ≡ row_number rows i 1 → ⊥) where
-        pub next_ready : Goes levels ends order strides rows i (at + 1) base (ix + row_number rows i 2) g
+      module _ (n : at + 1 ≡ (search_row rows i).end → ⊥) where
+        pub next_ready : Goes levels ends order strides rows i (at + 1) base (ix + (search_row rows i).stride) g
         next_ready = rw stride_is record {
           table = r.table;
           orders = r.orders;

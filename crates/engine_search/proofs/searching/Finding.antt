@@ -31,6 +31,7 @@ use Rattle.engine_search.specs.rows_behind.Behind.{Orders, Looks}
 use Rattle.engine_search.specs.tally.Tally.{more}
 use Rattle.engine_search.specs.tally.TallyLaws.{keeping, more_case, more_above}
 use Rattle.engine_search.specs.searching.Going.{offered, left, Passed, Ready}
+use Rattle.engine_search.specs.declared.rows_behind.Row.{Row}
 use Rattle.engine_search.specs.declared.searching.Place.{Place}
 use Rattle.engine_search.proofs.searching.Rows.{strided_in, left_is}
 use Rattle.engine_search.specs.searching.Searches.{Searchable, Searches}
@@ -219,7 +220,7 @@ module _ {levels ends strides : List ℕ} (q : Searchable levels ends strides) (
       abbrev begins : Place
       begins = record { row = i; at = start_of ends first; base = base; index = 0 }
 
-      module _ {looked : List (List ℕ)} (l : Looks levels ends order strides looked) where
+      module _ {looked : List Row} (l : Looks levels ends order strides looked) where
         pub find_ready : Ready levels looked begins none
         find_ready = record {
           ends = ends;

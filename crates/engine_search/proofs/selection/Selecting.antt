@@ -17,8 +17,7 @@ use Rattle.engine_table.specs.counting.Counted.{Tells, CountedTo}
 use Rattle.engine_search.specs.rows_behind.ByNumber.{FewChoices, Numbers}
 use Rattle.engine_search.specs.searching.Searches.{Searchable, Searches}
 use Rattle.engine_search.specs.declared.tally.Tally.{Tally}
-use Rattle.engine_search.specs.declared.selection.Selected.{Selected}
-use Rattle.engine_search.specs.selection.Selection.{selected_as, refused_selection, Selects}
+use Rattle.engine_search.specs.selection.Selection.{Selection, selected_as, refused_selection, Selects}
 
 valid_of : {t : Table} {rows : List (List ℕ)} → HoldsRows t rows → ValidFrom t.levels 0 t.ends
 valid_of l = (l.ends_rise, rw l.rows_are (λ row m. (l.rising row m, (λ v k. l.small row v m k))))
@@ -28,7 +27,7 @@ pub not_valid : {t : Table} {d limit : ℕ} (b : Bool) → Tells b (ValidFrom t.
 not_valid b tells e = record { selection_is = λ rows l some. absurd (clash (tells.1 (valid_of l)) e) }
 
 -- what holds of the rows that a table has holds of the rows that it holds
-selects : {t : Table} {d limit : ℕ} {r : Selected} →
+selects : {t : Table} {d limit : ℕ} {r : Selection} →
     ((covering d (choices (rows_in t.levels 0 t.ends)) ≡ [] → ⊥) → r ≡ selected_as limit d (rows_in t.levels 0 t.ends)) → Selects t d limit r
 selects {t} {d} {limit} {r} h = record {
   selection_is = λ rows l some.

@@ -6,9 +6,10 @@ use Rattle.rules_choices.specs.Search.{lowest_total}
 use Rattle.rules_choices.specs.Numbered.{count}
 use Rattle.rules_choices.specs.EachChoice.{Strided}
 use Rattle.engine_table.specs.table.Places.{ValidRow, ValidTable, row_in}
-use Rattle.engine_search.specs.rows_behind.Behind.{Orders, rows_behind, Looks, row_number}
+use Rattle.engine_search.specs.rows_behind.Behind.{Orders, rows_behind, Looks, search_row}
 use Rattle.engine_search.specs.tally.Tally.{more}
 use Rattle.engine_search.specs.declared.tally.Tally.{Tally}
+use Rattle.engine_search.specs.declared.rows_behind.Row.{Row}
 use Rattle.engine_search.specs.declared.searching.Place.{Place}
 
 -- one choice of total t, at the place i
@@ -16,12 +17,12 @@ abbrev pub offered : ℕ → ℕ → ℕ → Tally → Tally
 offered d t i f = cond (leb d t) (more 1 t i f) f
 
 -- a row of the search: its stride, and its levels
-abbrev pub strided : List ℕ → List ℕ → Strided
-strided levels row = (get_or row 2 0, part levels (get_or row 0 0) (get_or row 1 0))
+abbrev pub strided : List ℕ → Row → Strided
+strided levels row = (row.stride, part levels row.start row.end)
 
 -- what is left at place i, from the level at `at` on
-abbrev pub left : List ℕ → List (List ℕ) → ℕ → ℕ → List Strided
-left levels rows i at = (row_number rows i 2, part levels at (row_number rows i 1)) ∷ map (strided levels) (drop (i + 1) rows)
+abbrev pub left : List ℕ → List Row → ℕ → ℕ → List Strided
+left levels rows i at = ((search_row rows i).stride, part levels at ((search_row rows i).end)) ∷ map (strided levels) (drop (i + 1) rows)
 
 -- the rows before place i of the order have one level each, of the total base
 pub record Passed (levels ends order : List ℕ) (i base : ℕ) : Type 0 where
@@ -31,7 +32,7 @@ pub record Passed (levels ends order : List ℕ) (i base : ℕ) : Type 0 where
   pub base_fits : base ≤ i * 1000000000
 
 -- where going through what is left may begin, with the total base of the rows before and the place index: over the table and the order of its rows
-pub record Goes (levels ends order strides : List ℕ) (rows : List (List ℕ)) (i at base index : ℕ) (found : Tally) : Type 0 where
+pub record Goes (levels ends order strides : List ℕ) (rows : List Row) (i at base index : ℕ) (found : Tally) : Type 0 where
   pub table : ValidTable levels ends
   pub orders : Orders levels ends order
   pub looks : Looks levels ends order strides rows
@@ -45,7 +46,7 @@ pub record Goes (levels ends order strides : List ℕ) (rows : List (List ℕ)) 
   pub fewer : found.kept ≤ found.covering
 
 -- the same of the rows of the search alone, which are those of some table in some order
-pub record Ready (levels : List ℕ) (rows : List (List ℕ)) (place : Place) (found : Tally) : Type 0 where
+pub record Ready (levels : List ℕ) (rows : List Row) (place : Place) (found : Tally) : Type 0 where
   pub ends : List ℕ
   pub order : List ℕ
   pub strides : List ℕ

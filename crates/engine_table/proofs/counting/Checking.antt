@@ -1,19 +1,24 @@
 -- Testing that a table is valid: what is left passes exactly if the whole does.
-use Prim.Native.Nat.{ℕ, ◌+◌, ◌-◌, ◌≤◌, ◌<◌}
+use Prim.Native.Nat.{ℕ, zero, suc, ◌+◌, ◌-◌, ◌≤◌, ◌<◌}
 use mathlib.Core.Path.{◌≡◌, refl, sym, ap, ◌∙◌}
 use mathlib.Core.Bool.{Bool, true, false, false≢true}
 use mathlib.Core.Logic.{⊎_elim}
 use mathlib.Core.List.Memᴰ
 use mathlib.Core.List.{List, [], ◌∷◌}
 use native.Mathlib.Omega.{arith}
-use lib.Dec.{leb}
+use native.Mathlib.Numerals.{add-one}
+use lib.Dec.{leb, ltb}
 use lib.ListN.{length, drop, get_or, drop_of_length-le}
-use borrow.Author.Tests.{le-leb, leb-true}
+use borrow.Author.Tests.{le-leb, leb-true, lt-ltb, ltb-true}
+use Rattle.std.specs.List.{AllAdjacentBelow, IsAllAdjacentAnswer}
+use Rattle.std.proofs.Common.{get_or-take, get_or-drop}
 use Rattle.rules_numbers.specs.Lists.{part}
 use Rattle.rules_numbers.specs.ListLaws.{Each}
+use Rattle.rules_choices.specs.Pairwise.{StrictlyRising}
+use Rattle.rules_choices.specs.EachChoice.{nth_in}
 use Rattle.engine_table.specs.table.Rows.{rows_in, EndsRise}
 use Rattle.engine_table.specs.table.Places.{ValidRow, ValidFrom}
-use Rattle.engine_table.specs.table.PlaceLaws.{part_cons, rows_cons, rise_row, rise_back, rise_end}
+use Rattle.engine_table.specs.table.PlaceLaws.{part_length, rows_cons, rise_row, rise_back, rise_end}
 use Rattle.engine_table.specs.counting.Counted.{Tells}
 
 tells_not : {P : Type 0} → (P → ⊥) → Tells false P
@@ -21,53 +26,53 @@ tells_not n = ((λ e. absurd (false≢true e)), (λ p. absurd (n p)))
 
 -- ---- one row
 
-valid_two : (v w : ℕ) (vs : List ℕ) → v < w → ValidRow (w ∷ vs) → ValidRow (v ∷ w ∷ vs)
-valid_two v w vs h r = (
-  ((λ y m. ⊎_elim (λ e. omega arith) (λ k. omega (arith, r.0.0 y k)) (Memᴰ.cases_cons m)), r.0),
-  (λ y m. ⊎_elim (λ e. omega (arith, r.1 w (Memᴰ.head refl))) (λ k. r.1 y k) (Memᴰ.cases_cons m)),
-)
+-- a test of neighbours tells whether a list rises
+rising_from : (xs : List ℕ) → AllAdjacentBelow (λ x y. true ≡ ltb x y) xs (length xs) → StrictlyRising xs
+rising_from [] h = tt
+rising_from (x ∷ []) h = ((λ y m. absurd (Memᴰ.not-nil m)), tt)
+rising_from (x ∷ y ∷ xs) h =
+    let a : x < y = ltb-true x y (sym (h 0 0 (omega arith))) in
+    let r : StrictlyRising (y ∷ xs) = rising_from (y ∷ xs) (λ k d g. rw add-one (rw add-one at (h (suc k) d (omega arith)))) in
+    ((λ z m. ⊎_elim (λ e. omega arith) (λ j. omega (arith, r.0 z j)) (Memᴰ.cases_cons m)), r)
 
-valid_one : (v : ℕ) → v ≤ 1000000000 → ValidRow (v ∷ [])
-valid_one v h = (((λ y m. absurd (Memᴰ.not-nil m)), tt), (λ y m. omega (arith, Memᴰ.eq_of_singleton m)))
+rising_steps : (xs : List ℕ) → StrictlyRising xs → (k : ℕ) → k + 1 < length xs → get_or xs k 0 < get_or xs (k + 1) 0
+rising_steps [] r k h = absurd (omega arith)
+rising_steps (x ∷ []) r k h = absurd (omega arith)
+rising_steps (x ∷ y ∷ xs) r zero h = r.0 y (Memᴰ.head refl)
+rising_steps (x ∷ y ∷ xs) r (suc k) h = rw add-one (rw add-one at (rising_steps (y ∷ xs) r.1 k (omega arith)))
 
--- the loop over a row before place k
-pub record Rising (levels : List ℕ) (at end k : ℕ) : Type 0 where
-  pub within : k < end
-  pub from : ValidRow (part levels k end) → ValidRow (part levels at end)
-  pub into : ValidRow (part levels at end) → ValidRow (part levels k end)
+-- no number of a rising list is above its last
+small_from : (b : ℕ) (xs : List ℕ) (n : ℕ) → StrictlyRising xs → length xs ≡ suc n → get_or xs n 0 ≤ b → Each (λ v. v ≤ b) xs
+small_from b [] n r l h = λ v m. absurd (Memᴰ.not-nil m)
+small_from b (x ∷ []) zero r l h = λ v m. omega (arith, Memᴰ.eq_of_singleton m)
+small_from b (x ∷ []) (suc n) r l h = absurd (omega arith)
+small_from b (x ∷ y ∷ xs) zero r l h = absurd (omega arith)
+small_from b (x ∷ y ∷ xs) (suc n) r l h =
+    let g : Each (λ v. v ≤ b) (y ∷ xs) = small_from b (y ∷ xs) n r.1 (omega arith) h in
+    λ v m. ⊎_elim (λ e. omega (arith, r.0 y (Memᴰ.head refl), g y (Memᴰ.head refl))) (λ j. g v j) (Memᴰ.cases_cons m)
 
-pub rising_first : (levels : List ℕ) (at end : ℕ) → at < end → Rising levels at end at
-rising_first levels at end h = record { within = h; from = λ r. r; into = λ r. r }
+module _ (levels : List ℕ) (at end : ℕ) (l : length levels ≡ 288) (a : at < end) (e : end ≤ 288) where
+  row_long : length (part levels at end) ≡ suc (end - 1 - at)
+  row_long = omega (arith, part_length levels at end (omega arith))
 
-module _ {levels : List ℕ} {at end k : ℕ} (r : Rising levels at end k) (l : length levels ≡ 288) (e : end ≤ 288) where
-  one : part levels k end ≡ get_or levels k 0 ∷ part levels (k + 1) end
-  one = part_cons k end levels r.within (omega (arith, r.within))
+  row_last : get_or (part levels at end) (end - 1 - at) 0 ≡ get_or levels (end - 1) 0
+  row_last =
+      get_or-take (end - at) (drop at levels) (end - 1 - at) 0 (omega arith)
+      ∙ get_or-drop at levels (end - 1 - at) 0
+      ∙ ap (λ (j : ℕ). get_or levels j 0) (omega arith)
 
-  module _ (h : k + 1 < end) where
-    two : part levels k end ≡ get_or levels k 0 ∷ get_or levels (k + 1) 0 ∷ part levels (k + 1 + 1) end
-    two = one ∙ ap (λ (vs : List ℕ). get_or levels k 0 ∷ vs) (part_cons (k + 1) end levels h (omega arith))
+  module _ (b : Bool) (t : IsAllAdjacentAnswer (λ x y r. r ≡ ltb x y) (part levels at end) b) where
+    pub row_rising : b ≡ true → Tells (leb (get_or levels (end - 1) 0) 1000000000) (ValidRow (part levels at end))
+    row_rising h =
+        let r : StrictlyRising (part levels at end) = rising_from _ (rw h at t) in (
+          (λ s. (r, small_from 1000000000 _ _ r row_long (omega (arith, row_last, leb-true _ _ s)))),
+          (λ v. le-leb _ _ (omega (arith, row_last, v.1 _ (nth_in 0 _ (end - 1 - at) (omega (arith, row_long)))))),
+        )
 
-    pub rising_again : get_or levels k 0 < get_or levels (k + 1) 0 → Rising levels at end (k + 1)
-    rising_again g = record {
-      within = h;
-      from = λ x.
-          let y = rw (part_cons (k + 1) end levels h (omega arith)) at x in
-          r.from (rw two (valid_two (get_or levels k 0) (get_or levels (k + 1) 0) (part levels (k + 1 + 1) end) g y));
-      into = λ x. let y : ValidRow (get_or levels k 0 ∷ part levels (k + 1) end) = rw one at (r.into x) in (y.0.1, (λ z m. y.1 z (Memᴰ.tail m)));
-    }
-
-    pub rising_stop : get_or levels (k + 1) 0 ≤ get_or levels k 0 → Tells false (ValidRow (part levels at end))
-    rising_stop g = tells_not λ x.
-        let y : ValidRow (get_or levels k 0 ∷ get_or levels (k + 1) 0 ∷ part levels (k + 1 + 1) end) = rw two at (r.into x) in
-        omega (arith, y.0.0 (get_or levels (k + 1) 0) (Memᴰ.head refl))
-
-  pub rising_end : end ≤ k + 1 → Tells (leb (get_or levels k 0) 1000000000) (ValidRow (part levels at end))
-  rising_end h =
-      let z : end - (k + 1) ≡ 0 = omega arith in
-      let last : part levels k end ≡ get_or levels k 0 ∷ [] = one ∙ rw z in (
-        (λ t. r.from (rw last (valid_one (get_or levels k 0) (leb-true (get_or levels k 0) 1000000000 t)))),
-        (λ x. le-leb (get_or levels k 0) 1000000000 ((rw last at (r.into x)).1 (get_or levels k 0) (Memᴰ.head refl))),
-      )
+    pub row_falling : b ≡ false → Tells b (ValidRow (part levels at end))
+    row_falling h =
+        let f = rw h at t in
+        rw h (tells_not λ v. false≢true (f.2 0 ∙ lt-ltb _ _ (rising_steps _ v.0 f.0 f.1)))
 
 -- ---- all rows
 
@@ -77,9 +82,6 @@ pub record Checking (levels ends : List ℕ) (at i : ℕ) : Type 0 where
   pub start : at ≤ 288
   pub from : ValidFrom levels at (drop i ends) → ValidFrom levels 0 ends
   pub into : ValidFrom levels 0 ends → ValidFrom levels at (drop i ends)
-
-pub checking_first : (levels ends : List ℕ) → Checking levels ends 0 0
-checking_first levels ends = record { placed = omega arith; start = omega arith; from = λ x. x; into = λ x. x }
 
 module _ {levels ends : List ℕ} {at i : ℕ} (c : Checking levels ends at i) (n : length ends ≡ 32) (h : i < 32) where
   rows : ValidFrom levels at (drop i ends) →

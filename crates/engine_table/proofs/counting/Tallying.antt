@@ -3,7 +3,7 @@ use Prim.Native.Nat.{ℕ, ◌+◌, ◌-◌, ◌*◌, ◌≤◌, ◌<◌}
 use mathlib.Core.Path.{◌≡◌, sym, ap, ◌∙◌}
 use mathlib.Core.List.{List, [], ◌∷◌}
 use native.Mathlib.Omega.{arith}
-use native.Mathlib.Nat.{mul-one, one-mul, mul_assoc, mul-le-mul, mul-le-mul_left, one-le-mul}
+use native.Mathlib.Nat.{mul-one, mul_assoc, mul-le-mul, mul-le-mul_left, one-le-mul}
 use lib.ListN.{length, drop, get_or, drop_of_length-le}
 use Rattle.rules_numbers.specs.Lists.{part}
 use Rattle.rules_choices.specs.Choices.{choices}
@@ -34,9 +34,6 @@ pub record Tally (ends : List ℕ) (n at i : ℕ) : Type 0 where
   pub small : n ≤ 65536
   pub rise : EndsRise at (drop i ends) 288
   pub all : (levels : List ℕ) → length levels ≡ 288 → count (rows_in levels 0 ends) ≡ n * count (rows_in levels at (drop i ends))
-
-pub tally_first : (ends : List ℕ) → EndsRise 0 ends 288 → Tally ends 1 0 0
-tally_first ends r = record { placed = omega arith; small = omega arith; rise = r; all = λ levels l. sym (one-mul (count (rows_in levels 0 ends))) }
 
 module _ {ends : List ℕ} {n at i : ℕ} (t : Tally ends n at i) (e : length ends ≡ 32) where
   module _ (h : i < 32) where

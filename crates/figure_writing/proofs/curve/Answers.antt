@@ -3,10 +3,8 @@ use Rattle.figure_writing.proofs.Figuring.{curve_short, curve_written}
 use Rattle.figure_writing.proofs.curve.Goals as goal
 
 pub returns-then-points-count : goal.returns-then-points-count
-returns-then-points-count c = rw c.too_short.ensures (curve_short _ _ c.if-points-count.true)
+returns-then-points-count c = curve_short _ _ c.if-points-count.true
 
 pub returns : goal.returns
 returns c =
-    rw c.counted.ensures
-    (curve_written _ _ _ _ c.highest_levels-highest.ensures c.supply-first.ensures.0 _ c.put_points.ensures
-    c.if-points-count.false)
+    curve_written _ _ _ _ c.highest_levels-highest.ensures c.supply-first.ensures.0 _ c.put_points.ensures c.if-points-count.false

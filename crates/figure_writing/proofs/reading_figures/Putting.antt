@@ -1,7 +1,7 @@
 -- A developer's levels and its offer's steps written one by one, behind what stands in the lent numbers already.
 use Prim.Native.Nat.{ℕ, suc, ◌+◌, ◌*◌, ◌≤◌, ◌<◌}
-use mathlib.Core.Path.{◌≡◌, refl, sym, ap, ap₂, ◌∙◌, subst}
-use mathlib.Core.List.{List, ◌∷◌, ◌++◌, append_assoc}
+use mathlib.Core.Path.{◌≡◌, refl, sym, ap, ap₂, ◌∙◌}
+use mathlib.Core.List.{List, [], ◌∷◌, ◌++◌, append_assoc}
 use native.Mathlib.Omega.{arith}
 use native.Mathlib.Numerals.{add-one}
 use lib.ListN.{length, get_or, take, drop, set, length-set, length-append, drop_of_length-le}
@@ -30,32 +30,21 @@ module _ (at : ℕ) (t o : List ℕ) (room : at + length t ≤ length o) where
 
 -- ---- levels
 
--- the loop before place i: o is what was lent at first
-abbrev pub Leveling : ℕ → ℕ → List ℕ → List ℕ → List ℕ → ℕ → Type 0
-Leveling at count values o xs i = Behind at (take count values) o xs (drop i (take count values)) (at + i)
+-- the loop over the numbers vs before place i: o is what was lent at first
+abbrev pub Leveling : ℕ → List ℕ → List ℕ → List ℕ → ℕ → Type 0
+Leveling at vs o xs i = Behind at vs o xs (drop i vs) (at + i)
 
-module _ (at count : ℕ) (values o : List ℕ) (few : count ≤ length values) (room : at + count ≤ length o) where
-  abbrev vs : List ℕ
-  vs = take count values
+module _ (at : ℕ) (vs o : List ℕ) (room : at + length vs ≤ length o) where
+  pub leveling_first : Leveling at vs o o 0
+  leveling_first = behind_first_lem at vs o room (at + 0) (omega arith)
 
-  vs_room : at + length vs ≤ length o
-  vs_room = omega (arith, length-take-le count values few)
+  module _ (xs : List ℕ) (i : ℕ) (f : Leveling at vs o xs i) where
+    pub leveling_next : i < length vs → Leveling at vs o (set xs (at + i) (get_or vs i 0)) (i + 1)
+    leveling_next h = numbers_next (take at o ++ vs) o (fits_all at vs o room) vs xs i (at + i) f (at + i) (at + (i + 1)) refl (omega arith) h
 
-  pub leveling_first : Leveling at count values o o 0
-  leveling_first = behind_first_lem at vs o vs_room (at + 0) (omega arith)
-
-  module _ (xs : List ℕ) (i : ℕ) (f : Leveling at count values o xs i) where
-    pub leveling_long : length xs ≡ length o
-    leveling_long = behind_long at vs o vs_room xs (drop i vs) (at + i) f
-
-    pub leveling_next : i < count → Leveling at count values o (set xs (at + i) (get_or values i 0)) (i + 1)
-    leveling_next h = subst (λ (v : ℕ). Leveling at count values o (set xs (at + i) v) (i + 1)) (get_or-take count values i 0 h)
-        (numbers_next (take at o ++ vs) o (fits_all at vs o vs_room) vs xs i (at + i) f (at + i) (at + (i + 1)) refl (omega arith)
-        (omega (arith, length-take-le count values few)))
-
-    pub leveling_end : count ≤ i → xs ≡ laid_behind at vs o
+    pub leveling_end : length vs ≤ i → xs ≡ laid_behind at vs o
     unfolding laid_behind
-    leveling_end h = numbers_end (take at o ++ vs) o (fits_all at vs o vs_room) vs xs i (at + i) f (omega (arith, length-take-le count values few))
+    leveling_end h = numbers_end (take at o ++ vs) o (fits_all at vs o room) vs xs i (at + i) f h
 
 -- ---- steps
 
@@ -125,16 +114,20 @@ one_then at v t o room =
     let first = filled_one text o (fits_all at (v ∷ t) o r) o t at at (at + 1) v refl refl (behind_first_lem at (v ∷ t) o r at refl) in
     filled_rest text o (set o at v) t (at + 1) first
 
--- two numbers, of which the first is also w, then what is left
+-- two numbers, then what is left
 pub two_then :
-    (at u v w : ℕ) (t o xs : List ℕ) → at + 2 + length t ≤ length o → u ≡ w → xs ≡ laid_behind (at + 2) t (set (set o at u) (at + 1) v) →
-    xs ≡ laid_behind at (w ∷ v ∷ t) o
-two_then at u v w t o xs room e f =
+    (at u v : ℕ) (t o xs : List ℕ) → at + 2 + length t ≤ length o → xs ≡ laid_behind (at + 2) t (set (set o at u) (at + 1) v) →
+    xs ≡ laid_behind at (u ∷ v ∷ t) o
+two_then at u v t o xs room f =
     let n : at + 2 ≡ at + 1 + 1 = omega arith in
     f ∙ ap (λ (k : ℕ). laid_behind k t (set (set o at u) (at + 1) v)) n
     ∙ one_then (at + 1) v t (set o at u) (omega (arith, length-set o at u))
     ∙ one_then at u (v ∷ t) o (omega arith)
-    ∙ ap (λ (k : ℕ). laid_behind at (k ∷ v ∷ t) o) e
+
+-- nothing more
+pub none_then : (at : ℕ) (o : List ℕ) → at ≤ length o → o ≡ laid_behind at [] o
+unfolding laid_behind
+none_then at o h = (filled_all (take at o ++ []) o o [] at (filled_behind at [] o h) refl).1
 
 -- what the parts of a developer's reading leave, one behind the other
 module _ (p l s o xs ys zs : List ℕ) (at next : ℕ) where

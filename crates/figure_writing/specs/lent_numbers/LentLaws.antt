@@ -8,6 +8,12 @@ use Rattle.rules_numbers.specs.Tails.{laid, Filled, filled_all, length_laid, beh
 use Rattle.rules_seats.specs.figures.Figures.{figures_refusal, lent_after}
 use Rattle.figure_writing.specs.lent_numbers.Lent.{laid_behind, GivesFigures, counted_as, Counts}
 
+-- ---- t copied over the first n
+
+pub laid_over : (n : ℕ) (t o : List ℕ) {ys : List ℕ} → n ≡ length t → ys ≡ t → ys ++ drop n o ≡ laid t o
+unfolding laid
+laid_over n t o m e = ap₂ (λ (l : List ℕ) (k : ℕ). l ++ drop k o) e m
+
 -- ---- one number more
 
 laid_more : (t o : List ℕ) (v : ℕ) → length t < length o → set (laid t o) (length t) v ≡ laid (t ++ (v ∷ [])) o

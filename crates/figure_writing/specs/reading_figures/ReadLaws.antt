@@ -1,5 +1,5 @@
 -- The numbers of what is shown are those of what the seat reads.
-use Rattle.std.specs.Prelude.{ℕ, min, ◌+◌, ◌*◌, ◌≤◌, ◌≡◌, refl, true, ◌&&◌, leb, length, take}
+use Rattle.std.specs.Prelude.{ℕ, Some, None, min, ◌+◌, ◌*◌, ◌≤◌, ◌≡◌, refl, true, ◌&&◌, leb, length, take}
 use Rattle.std.proofs.Common.{ap, ap₂, ◌∙◌, ⊎_elim, take_at, leb-true}
 use mathlib.Core.List.{List, [], ◌∷◌, ◌++◌, flatten}
 use native.Mathlib.Omega.{arith}
@@ -15,12 +15,13 @@ use Rattle.rules_seats.specs.Seats as seats
 use Rattle.rules_seats.specs.Seats.{At}
 use Rattle.rules_seats.specs.figures.Figures.{phase_figure, published_figures, step_figures, offer_figures, reading_figures}
 use Rattle.engine_held.specs.history.Held.{pending}
-use Rattle.engine_checks.specs.clock.Held.{held_phase}
+use Rattle.engine_checks.specs.clock.Held.{held_phase, phase_number}
+use Rattle.hall.specs.declared.seat_readings.StandingOffer.{StandingOffer}
 use Rattle.hall.specs.declared.seat_readings.Reading.{Reading}
 use Rattle.hall.specs.seat_readings.Shown.{shown_offer, shown_reading}
-use Rattle.figure_writing.specs.reading_figures.Read.{published_in, level_figures, steps_in, offer_figures_in, own_figures, own_in}
+use Rattle.figure_writing.specs.reading_figures.Read.{published_in, level_figures, steps_in, offer_figures_in, steps_of, own_figures, own_in}
 
-pub phase_figure_lem : (p : Phase) → held_phase p ≡ phase_figure p
+pub phase_figure_lem : (p : Phase) → phase_number (held_phase p) ≡ phase_figure p
 phase_figure_lem Fresh = refl
 phase_figure_lem Ready = refl
 phase_figure_lem Round = refl
@@ -41,19 +42,24 @@ steps_length [] qs e = refl
 steps_length (p ∷ ps) [] e = absurd (omega arith)
 steps_length (p ∷ ps) (q ∷ qs) e = omega (arith, steps_length ps qs (omega arith))
 
-module _ (r : Reading) (levels steps : ℕ) (l : levels ≤ length r.levels.values) (p : steps ≤ length r.offer.prices)
-    (q : steps ≤ length r.offer.levels) where
+-- of an offer whose lists are long enough
+pub offer_length : (o : StandingOffer) (n : ℕ) → n ≤ length o.prices → n ≤ length o.levels → length (offer_figures_in (Some o) n) ≡ 2 + 2 * n
+unfolding offer_figures_in
+offer_length o n p q =
+    let b = length-take-le n o.prices p in
+    let c = length-take-le n o.levels q in
+    omega (arith, steps_length (take n o.prices) (take n o.levels) (omega arith))
+
+pub no_offer_length : length (offer_figures_in None 0) ≡ 2
+unfolding offer_figures_in
+no_offer_length = refl
+
+module _ (r : Reading) (levels steps : ℕ) (l : levels ≤ length r.levels.values) (o : length (offer_figures_in r.offer steps) ≡ 2 + 2 * steps) where
   pub own_length : length (own_figures r levels steps) ≡ 7 + levels + 2 * steps
-  unfolding own_figures published_in level_figures offer_figures_in
+  unfolding own_figures published_in level_figures
   own_length =
       let a = length-take-le levels r.levels.values l in
-      let b = length-take-le steps r.offer.prices p in
-      let c = length-take-le steps r.offer.levels q in
-      omega (
-        arith,
-        length-append (take levels r.levels.values) (offer_figures_in r.offer steps),
-        steps_length (take steps r.offer.prices) (take steps r.offer.levels) (omega arith),
-      )
+      omega (arith, length-append (take levels r.levels.values) (offer_figures_in r.offer steps))
 
 -- ---- of what is shown
 
@@ -77,11 +83,15 @@ offer_shown (made ss) =
     ap (λ (l : List ℕ). 1 ∷ length ss ∷ l)
     (ap₂ steps_in (held_first (length ss) (prices_of ss) (length-map ss _)) (held_first (length ss) (levels_of ss) (length-map ss _)) ∙ steps_shown ss)
 
+steps_few_of : (o : Standing) → length (pending o) ≤ 8 → steps_of (shown_offer o) ≡ length (pending o)
+steps_few_of none h = refl
+steps_few_of (made ss) h = omega arith
+
 pub own_shown : (x : seats.Reading) (n : ℕ) → length x.levels ≤ 8 → length (pending x.offer) ≤ 8 → own_in (shown_reading x) ≡ reading_figures (At n) x
 unfolding own_in own_figures level_figures reading_figures published_in offer_figures_in
 own_shown x n h k =
     let a : min (length x.levels) 8 ≡ length x.levels = omega arith in
-    let b : min (length (pending x.offer)) 8 ≡ length (pending x.offer) = omega arith in
+    let b : steps_of (shown_offer x.offer) ≡ length (pending x.offer) = steps_few_of x.offer k in
     rw (a, b) (ap₂ (λ (u v : List ℕ). u ++ v) (published_shown x)
     (ap₂ (λ (u v : List ℕ). (length x.levels ∷ u) ++ v) (held_first (length x.levels) x.levels refl) (offer_shown x.offer)))
 

@@ -1,7 +1,7 @@
 -- The numbers of a settling's answer.
 use Rattle.std.specs.Prelude.{ℕ, List, [], ◌∷◌}
 use Rattle.rules_seats.specs.figures.Figures.{one_if}
-use Rattle.engine_settling.specs.declared.Settled.{Settled}
+use Rattle.engine_settling.specs.Settles.{Settled}
 
 unfoldable pub settled_figures : Settled → List ℕ
 settled_figures s =

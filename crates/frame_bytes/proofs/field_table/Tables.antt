@@ -1,7 +1,7 @@
 -- What the code's table has of each kind is what the format's has: lists indexed by kind, compared as antt computes them. A kind behind them has nothing.
 use Prim.Native.Nat.{ℕ, zero, suc, ◌+◌, ◌≤◌, ◌<◌}
 use mathlib.Core.Path.{◌≡◌, refl, sym, ap, ◌∙◌}
-use mathlib.Core.Bool.{true}
+use mathlib.Core.Bool.{Bool, true, false, cond}
 use mathlib.Core.List.{List, [], ◌∷◌}
 use native.Mathlib.Omega.{arith}
 use native.Mathlib.Nat.{zero-add}
@@ -40,22 +40,33 @@ row_none (r ∷ rs) n k e h =
     let f : r.kind ≡ k → ⊥ = λ q. omega (arith, ltb-true r.kind n b.0) in
     rw (ne_eqb r.kind k f) (row_none rs n k b.1 h)
 
-module _ (k : ℕ) (r : Row) where
-  tabled : r.kind ≡ (table_row_in table_rows k).kind → r.widths ≡ padded 8 (table_row_in table_rows k).widths → r.each ≡ (table_row_in table_rows k).repeated →
-      Tabled k r
-  unfolding known fixed each any
-  tabled e w f = record { kind = e ∙ row_kind table_rows k; widths = w; follow = f }
+module _ (k : ℕ) where
+  -- the kind of the row tells whether the table has it
+  has_kind : (table_row_in table_rows k).kind ≡ cond (known k) k 0
+  unfolding known any
+  has_kind = row_kind table_rows k
 
-  -- each kind below 10 has its own row
-  pub tabled_here : k < 10 → r.kind ≡ k → r.widths ≡ padded 8 (table_row_in table_rows k).widths → r.each ≡ (table_row_in table_rows k).repeated → Tabled k r
-  tabled_here h e w f =
+  -- each kind below 10 but 0 has its own row
+  pub tabled_here : (k ≡ 0 → ⊥) → k < 10 → (r : Row) → r.kind ≡ k → r.widths ≡ padded 8 (table_row_in table_rows k).widths
+      → r.each ≡ (table_row_in table_rows k).repeated → (known k ≡ true) × Tabled k r
+  unfolding fixed each
+  tabled_here z h r e w f =
       let own : k ≡ (table_row_in table_rows k).kind =
       sym (of_kind_lem (λ (j : ℕ). j) 10 0 k 0 h ∙ zero-add k) ∙ table_at (λ (j : ℕ). (table_row_in table_rows j).kind) (of_kinds (λ (j : ℕ). j) 0 10) k 0 refl h in
-      tabled (e ∙ own) w f
+      (go (known k) (own ∙ has_kind), record { kind = e; widths = w; follow = f })
+    where
+      go : (b : Bool) → k ≡ cond b k 0 → b ≡ true
+      go true e = refl
+      go false e = absurd (z e)
 
-  pub tabled_none : 10 ≤ k → r.kind ≡ 0 → r.widths ≡ padded 8 [] → r.each ≡ 0 → Tabled k r
+  pub tabled_none : 10 ≤ k → known k ≡ false
   unfolding all
-  tabled_none h e w f =
-      let z : table_row_in table_rows k ≡ no_row = row_none table_rows 10 k refl h in
-      tabled (e ∙ ap (λ (q : format.Row). q.kind) (sym z)) (w ∙ ap (λ (q : format.Row). padded 8 q.widths) (sym z))
-      (f ∙ ap (λ (q : format.Row). q.repeated) (sym z))
+  tabled_none h = go (known k) (ap (λ (q : format.Row). q.kind) (sym (row_none table_rows 10 k refl h)) ∙ has_kind)
+    where
+      go : (b : Bool) → 0 ≡ cond b k 0 → b ≡ false
+      go true e = absurd (omega arith)
+      go false e = refl
+
+pub no_kind_0 : known 0 ≡ false
+unfolding known any
+no_kind_0 = refl

@@ -63,23 +63,3 @@ module _ (ws vs o out : List ℕ) (at j : ℕ) (room : total ws ≤ length o) (p
       let none = ap (λ (l : List ℕ). text_at l (drop j vs)) (drop_of_length-le ws {i = j} h) in
       let e = filled_all (text_at ws vs) o out (text_at (drop j ws) (drop j vs)) at p.filled none in
       (e.0 ∙ length_text ws vs, e.1)
-
--- ---- the widths added
-
-pub record Adding (ws : List ℕ) (sum j : ℕ) : Type 0 where
-  pub inside : j ≤ length ws
-  pub all : sum + total (drop j ws) ≡ total ws
-
-pub adding_first : (ws : List ℕ) → Adding ws 0 0
-adding_first ws = record { inside = omega arith; all = omega arith }
-
-module _ (ws : List ℕ) (sum j : ℕ) (a : Adding ws sum j) where
-  pub adding_next : j < length ws → Adding ws (sum + get_or ws j 0) (j + 1)
-  unfolding total
-  adding_next h =
-      let d : drop j ws ≡ get_or ws j 0 ∷ drop (j + 1) ws = rw add-one (drop-cons ws j 0 h) in
-      record { inside = omega arith; all = omega (arith, a.all, ap total d) }
-
-  pub adding_end : length ws ≤ j → sum ≡ total ws
-  unfolding total
-  adding_end h = omega (arith, a.all, ap total (drop_of_length-le ws {i = j} h))

@@ -1,6 +1,6 @@
--- Laws of a kind's row: its kind says whether the table has it, and its widths, up to the 0 that ends them, are those of the fixed fields.
+-- Laws of a kind's row: its widths, up to the 0 that ends them, are those of the fixed fields.
 use Prim.Native.Nat.{ℕ, ◌+◌, ◌-◌, ◌≤◌, ◌<◌}
-use Rattle.std.specs.Prelude.{◌≡◌, refl, Bool, true, false, cond, List, [], ◌∷◌, ◌++◌, length, take, drop}
+use Rattle.std.specs.Prelude.{◌≡◌, refl, true, List, [], ◌∷◌, ◌++◌, length, take, drop, Option, Some, None, is_some}
 use Rattle.std.proofs.Math.Path.{sym, ap}
 use Rattle.std.proofs.Common.{◌∙◌, subst, ⊎_elim, add-one, arith, take-append-drop, take-suc, drop-cons}
 use Rattle.std.proofs.Math.Bool.{false≢true}
@@ -11,31 +11,24 @@ use Rattle.rules_numbers.specs.ListLaws.{total_append}
 use Rattle.rules_format.specs.Fields.{known, fixed}
 use Rattle.rules_format.specs.WidthLaws.{behind}
 use Rattle.frame_bytes.specs.declared.field_table.Row.{Row}
-use Rattle.frame_bytes.specs.field_table.Shapes.{Tabled}
+use Rattle.frame_bytes.specs.field_table.Shapes.{TableHas, Tabled}
 use Rattle.frame_bytes.specs.field_table.Fitting.{fitting_kind}
 
-module _ (k : ℕ) (r : Row) (t : Tabled k r) where
-  -- a row that has a kind is of that kind
-  pub row_kind : (r.kind ≡ 0 → ⊥) → (r.kind ≡ k) × (known k ≡ true)
-  row_kind h = go (known k) refl t.kind
-    where
-      go : (b : Bool) → known k ≡ b → r.kind ≡ cond b k 0 → (r.kind ≡ k) × (known k ≡ true)
-      go true e z = (z, e)
-      go false e z = absurd (h z)
+-- the table has no kind 0
+pub known_not_0 : (k : ℕ) → known k ≡ true → k ≡ 0 → ⊥
+unfolding known any
+known_not_0 k e z = false≢true (rw z at e)
 
-  -- one of a kind of the table has that kind
-  pub row_known : known k ≡ true → r.kind ≡ k
-  row_known e = rw e at t.kind
+-- a kind of the table has a row, its own
+pub known_row : (k : ℕ) (o : Option Row) → known k ≡ true → TableHas k o → is_some o ≡ true
+known_row k None e t = absurd (false≢true (sym t ∙ e))
+known_row k (Some r) e t = refl
 
-  -- one that has none is of no kind of the table, which does not have 0
-  pub row_unknown : r.kind ≡ 0 → known k ≡ true → ⊥
-  unfolding known any
-  row_unknown z e =
-      let y : k ≡ 0 = sym (row_known e) ∙ z in
-      false≢true (rw y at e)
+pub row_there : (k : ℕ) (o : Option Row) (r : Row) → o ≡ Some r → TableHas k o → Tabled k r
+row_there k o r e t = (rw e at t).1
 
-  pub row_own : r.kind ≡ k → Tabled r.kind r
-  row_own e = subst (λ (j : ℕ). Tabled j r) (sym e) t
+pub row_own : (k : ℕ) (r : Row) → Tabled k r → Tabled r.kind r
+row_own k r t = subst (λ (j : ℕ). Tabled j r) (sym t.kind) t
 
 -- ---- its widths, one by one, as an array holds them
 

@@ -14,7 +14,7 @@ use Rattle.rules_format.specs.Fields.{listed, known, longest_line, raw_call, fix
 use Rattle.rules_format.specs.WidthLaws.{take_fields, fields_fit}
 use Rattle.rules_format.specs.FieldLaws.{WellFormed, reads, reads_none, total_layout}
 use Rattle.frame_bytes.specs.field_table.Fitting.{fitting_kind, repeats_few}
-use Rattle.frame_bytes.specs.field_table.RowLaws.{width_end, widths_left, digits_passed}
+use Rattle.frame_bytes.specs.field_table.RowLaws.{known_not_0, width_end, widths_left, digits_passed}
 use Rattle.frame_reading.specs.declared.frames.Frame.{Frame}
 use Rattle.frame_reading.specs.frames.Decoded.{call_in, Zero, call_none, call_some}
 use Rattle.frame_reading.specs.frames.FixedFields.{FixedRead}
@@ -180,10 +180,11 @@ module _ (l : List ℕ) (f : Frame) where
   refused z h = (call_none f z.0 ∙ sym (reads_none l h), λ e. z)
 
   pub accepted : (k n : ℕ) → k ≡ kind_of l → n ≡ repeats k (fields_at (fixed k) (drop 2 l)) → length l ≤ longest_line → all_hex l ≡ true → known k ≡ true
-      → length l ≡ 2 + total (fixed k) + listed * n → (f.kind ≡ 0 → ⊥) → f.kind ≡ k → take f.count f.fields ≡ fields_at (layout k n) (drop 2 l)
+      → length l ≡ 2 + total (fixed k) + listed * n → f.kind ≡ k → take f.count f.fields ≡ fields_at (layout k n) (drop 2 l)
       → Decodes
   unfolding call_of
-  accepted k n e q short hex there exact fz fk ff =
+  accepted k n e q short hex there exact fk ff =
+      let fz : f.kind ≡ 0 → ⊥ = λ z. known_not_0 k there (sym fk ∙ z) in
       let fields = ff ∙ ap (λ (ws : List ℕ). fields_at ws (drop 2 l)) (sym (asked_are l k n e q)) in
       let w = passed l k n e q short hex there exact in
       (call_some f fz ∙ ap some (ap₂ raw_call (fk ∙ e) fields) ∙ sym (reads l w), λ z. absurd (fz z))

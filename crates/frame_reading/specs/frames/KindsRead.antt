@@ -2,11 +2,12 @@
 use Rattle.std.specs.Prelude.{ℕ, ◌≤◌, ◌≡◌, Bool, List, ◌∷◌, ◌++◌, length, take, drop, get_or, replicate}
 use Rattle.std.proofs.Math.Path.{refl}
 use Rattle.std.proofs.Common.{sym, ap, ◌∙◌, arith}
-use Rattle.std.proofs.Math.Bool.{true, false, cond, false≢true}
+use Rattle.std.proofs.Math.Bool.{true, false, cond}
 use Rattle.std.proofs.Math.Option.{Option, none, some}
-use Rattle.rules_numbers.specs.Lists.{total, any}
+use Rattle.rules_numbers.specs.Lists.{total}
 use Rattle.rules_format.specs.Hex.{hex_number}
-use Rattle.rules_format.specs.Fields.{listed, known, fixed, repeats, layout, fields_at, RawCall, kind_of, asked_widths, well_formed, call_of, read}
+use Rattle.rules_format.specs.Fields.{listed, fixed, repeats, layout, fields_at, RawCall, kind_of, asked_widths, well_formed, call_of, read}
+use Rattle.frame_bytes.specs.field_table.RowLaws.{known_not_0}
 use Rattle.rules_format.specs.FieldLaws.{WellFormed, reads, reads_none, was_read}
 
 -- 0 of a malformed line: the table has no kind 0
@@ -39,12 +40,8 @@ module _ (l : List ℕ) where
   kind_malformed h = kind_unread (reads_none l h)
 
   -- and back
-  unknown : kind_of l ≡ 0 → known (kind_of l) ≡ true → ⊥
-  unfolding known any
-  unknown z e = false≢true (rw z at e)
-
   pub none_read : kind_in l ≡ 0 → read l ≡ none
-  none_read z = reads_none l (λ w. unknown (kind_formed w ∙ z) w.kind_known)
+  none_read z = reads_none l (λ w. known_not_0 _ w.kind_known (kind_formed w ∙ z))
 
   pub some_read : (kind_in l ≡ 0 → ⊥) → WellFormed l
   some_read h = go (read l) refl

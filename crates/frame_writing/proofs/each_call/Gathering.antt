@@ -1,55 +1,25 @@
--- Fields gathered in an array: a list behind the first of them, and steps, price and level one behind the other.
+-- Steps gathered in an array: price and level one behind the other.
 use Prim.Native.Nat.{ℕ, zero, suc, ◌+◌, ◌*◌, ◌≤◌, ◌<◌}
 use mathlib.Core.Path.{◌≡◌, refl, sym, ap, ap₂, ◌∙◌, subst}
 use mathlib.Core.Bool.{false, ◌&&◌}
-use mathlib.Core.List.{List, [], ◌∷◌, ◌++◌, append_assoc, append-nil}
-use native.Mathlib.Nat.{add-zero}
+use mathlib.Core.List.{List, [], ◌∷◌, ◌++◌, append_assoc}
 use native.Mathlib.Omega.{arith}
+use Rattle.std.specs.Prelude.{Err}
 use lib.Dec.{eqb}
 use lib.ListN.{length, take, get_or, set, length-set}
-use lib.Seq.{take-suc, take-suc-set, take_all}
+use lib.Seq.{take-suc-set, take_all}
 use borrow.Author.Tests.{eq-eqb, ne_eqb}
 use Rattle.rules_format.specs.Fields.{raw_call}
 use Rattle.rules_format.specs.Written.{writable}
 use Rattle.rules_replies.specs.WrittenOrders.{paired}
-use Rattle.frame_writing.specs.declared.Written.{Written}
-use Rattle.frame_writing.specs.Encodes.{Encodes}
+use Rattle.engine_refusals.specs.declared.Refusal.TheVariants.{NotWritable}
+use Rattle.frame_writing.specs.Encodes.{Written, written_in, Encodes}
 use Rattle.frame_writing.specs.EncodesLaws.{not_writable}
 use Rattle.frame_writing.specs.each_call.Writes.{WritesSteps}
 
 -- one number more at place n, m of them then
 put_next : (xs : List ℕ) (n m v : ℕ) (front : List ℕ) → n < length xs → m ≡ suc n → take n xs ≡ front → take m (set xs n v) ≡ front ++ (v ∷ [])
 put_next xs n m v front h e t = ap (λ (i : ℕ). take i (set xs n v)) e ∙ take-suc-set xs n v h ∙ ap (λ (l : List ℕ). l ++ (v ∷ [])) t
-
--- ---- a list
-
-pub record Joining (fields list joined : List ℕ) (at i : ℕ) : Type 0 where
-  pub inside : i ≤ length list
-  pub long : length joined ≡ 32
-  pub holds : take (at + i) joined ≡ take at fields ++ take i list
-
-module _ (fields list : List ℕ) (at : ℕ) where
-  pub joining_first : length fields ≡ 32 → Joining fields list fields at 0
-  joining_first e = record { inside = omega arith; long = e; holds = rw add-zero (sym (append-nil (take at fields))) }
-
-  module _ (joined : List ℕ) (i : ℕ) (j : Joining fields list joined at i) where
-    pub joining_next : i < length list → at + length list ≤ 32 → Joining fields list (set joined (at + i) (get_or list i 0)) at (i + 1)
-    joining_next h room =
-        let v : ℕ = get_or list i 0 in
-        let m : i + 1 ≡ suc i = omega arith in
-        let t : take (i + 1) list ≡ take i list ++ (v ∷ []) = ap (λ (n : ℕ). take n list) m ∙ take-suc list i 0 h in
-        record {
-          inside = omega arith;
-          long = length-set joined (at + i) v ∙ j.long;
-          holds =
-              put_next joined (at + i) (at + (i + 1)) v (take at fields ++ take i list) (omega (arith, j.long)) (omega arith) j.holds
-              ∙ append_assoc (take at fields) (take i list) (v ∷ []) ∙ ap (λ (l : List ℕ). take at fields ++ l) (sym t);
-        }
-
-    pub joining_end : length list ≤ i → take (at + length list) joined ≡ take at fields ++ list
-    joining_end h =
-        let e : at + length list ≡ at + i = omega (arith, j.inside) in
-        ap (λ (n : ℕ). take n joined) e ∙ j.holds ∙ ap (λ (l : List ℕ). take at fields ++ l) (take_all i list h)
 
 -- ---- steps
 
@@ -109,11 +79,11 @@ module _ (k : ℕ) (old new : List ℕ) (r : Written) where
   pub same_fields : (ns ms : List ℕ) → ns ≡ ms → Encodes (raw_call k ns) old new r → Encodes (raw_call k ms) old new r
   same_fields ns ms e w = subst (λ (l : List ℕ). Encodes (raw_call k l) old new r) e w
 
-  module _ (n : ℕ) (ps qs : List ℕ) where
-    pub equal_lists : length ps ≡ length qs → Encodes (raw_call k (n ∷ (length ps ∷ paired ps qs))) old new r → WritesSteps k n ps qs old new r
-    equal_lists e w = rw (eq-eqb (length ps) (length qs) e) w
+  pub equal_lists : (n : ℕ) (ps qs : List ℕ) → length ps ≡ length qs → Encodes (raw_call k (n ∷ (length ps ∷ paired ps qs))) old new r
+      → WritesSteps k n ps qs old new r
+  equal_lists n ps qs e w = rw (eq-eqb (length ps) (length qs) e) w
 
-    pub unequal_lists : (r.number ≡ 14) × (r.bytes ≡ 0) → (length ps ≡ length qs → ⊥) → new ≡ old → WritesSteps k n ps qs old new r
-    unequal_lists z h same =
-        let e : eqb (length ps) (length qs) && writable (raw_call k (n ∷ (length ps ∷ paired ps qs))) ≡ false = rw (ne_eqb (length ps) (length qs) h) in
-        not_writable _ _ _ _ _ z e same
+pub unequal_lists : (k n : ℕ) (ps qs old : List ℕ) → (length ps ≡ length qs → ⊥) → WritesSteps k n ps qs old old (written_in (Err NotWritable))
+unequal_lists k n ps qs old h =
+    let e : eqb (length ps) (length qs) && writable (raw_call k (n ∷ (length ps ∷ paired ps qs))) ≡ false = rw (ne_eqb (length ps) (length qs) h) in
+    not_writable _ _ _ e

@@ -1,19 +1,14 @@
--- Numbers against widths: a number fits where nothing is left once it was divided by 16 so often; fields fit one by one.
+-- Numbers against widths: a number fits where nothing is left once it was divided by 16 so often.
 use Prim.Native.Nat.{ℕ, ◌+◌, ◌*◌, ◌/◌, ◌^◌, ◌≤◌, ◌<◌}
-use mathlib.Core.Path.{◌≡◌, refl, sym, ap, ap₂, ◌∙◌}
-use mathlib.Core.Bool.{true, false, ◌&&◌}
+use mathlib.Core.Path.{◌≡◌, sym, ap, ◌∙◌}
 use mathlib.Core.Logic.{⊎_elim}
-use mathlib.Core.List.{List, ◌∷◌}
 use native.Mathlib.Nat.{div-div-eq-div-mul, div-one, pow-suc, pow-zero, div-eq_of_lt, div-lt_iff_lt-mul}
 use native.Mathlib.Numerals.{add-one}
 use native.Mathlib.Omega.{arith}
 use lib.Dec.{eqb, ltb}
-use lib.ListN.{length, drop, get_or, drop_of_length-le}
-use lib.Seq.{drop-cons}
 use borrow.Author.Tests.{eq-eqb, ne_eqb, lt-ltb, le-ltb}
 use Rattle.rules_numbers.specs.Cases.{le_or_lt}
 use Rattle.rules_format.specs.HexLaws.{power_pos}
-use Rattle.rules_format.specs.Written.{fit}
 
 -- ---- one number
 
@@ -40,32 +35,3 @@ module _ (value width : ℕ) where
         ne_eqb left 0 none ∙ sym (le-ltb value (16 ^ width) g))
         (λ g. eq-eqb left 0 (q ∙ div-eq_of_lt g) ∙ sym (lt-ltb value (16 ^ width) g))
         (le_or_lt (16 ^ width) value)
-
--- ---- one field after the other
-
-pub record Fits (ws ns : List ℕ) (j : ℕ) : Type 0 where
-  pub inside : j ≤ length ns
-  pub left : fit (drop j ws) (drop j ns) ≡ fit ws ns
-
-module _ (ws ns : List ℕ) where
-  pub fits_first : Fits ws ns 0
-  fits_first = record { inside = omega arith; left = refl }
-
-  module _ (j : ℕ) (f : Fits ws ns j) (same : length ws ≡ length ns) where
-    here : j < length ns → fit ws ns ≡ ltb (get_or ns j 0) (16 ^ get_or ws j 0) && fit (drop (j + 1) ws) (drop (j + 1) ns)
-    unfolding fit
-    here h =
-        let a : drop j ws ≡ get_or ws j 0 ∷ drop (j + 1) ws = rw add-one (drop-cons ws j 0 (omega arith)) in
-        let b : drop j ns ≡ get_or ns j 0 ∷ drop (j + 1) ns = rw add-one (drop-cons ns j 0 h) in
-        sym f.left ∙ ap₂ fit a b
-
-    -- a field that does not fit ends it
-    pub fits_stop : j < length ns → ltb (get_or ns j 0) (16 ^ get_or ws j 0) ≡ false → false ≡ fit ws ns
-    fits_stop h e = sym (here h ∙ rw e)
-
-    pub fits_next : j < length ns → ltb (get_or ns j 0) (16 ^ get_or ws j 0) ≡ true → Fits ws ns (j + 1)
-    fits_next h e = record { inside = omega arith; left = sym (here h ∙ rw e) }
-
-    pub fits_end : length ns ≤ j → true ≡ fit ws ns
-    unfolding fit
-    fits_end h = sym (sym f.left ∙ ap₂ fit (drop_of_length-le ws {i = j} (omega arith)) (drop_of_length-le ns {i = j} h))

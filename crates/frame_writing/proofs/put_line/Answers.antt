@@ -8,18 +8,22 @@ use lib.Seq.{length-take-le}
 use Rattle.rules_format.specs.Fields.{raw_call}
 use Rattle.rules_format.specs.Written.{written_widths}
 use Rattle.rules_format.specs.WrittenLaws.{Writable, is_writable}
-use Rattle.frame_bytes.specs.field_table.RowLaws.{row_known, row_own}
+use Rattle.frame_bytes.specs.field_table.RowLaws.{known_row, row_there, row_own}
+use Rattle.frame_bytes.specs.field_table.Shapes.{Tabled}
 use Rattle.frame_writing.specs.frame_sizes.FrameSizeLaws.{as_many, few_fields, widths_are}
 use Rattle.frame_writing.proofs.Lines.{kind_room, kind_same, fields_room, line_there}
 use Rattle.frame_writing.proofs.put_line.Goals as goal
-use Rattle.frame_writing.proofs.put_line.Goals.{After-put_hex, After-row_of, After-shape_of-shape}
+use Rattle.frame_writing.proofs.put_line.Goals.{After-put_hex, After-row_of, After-unwrap, After-shape_of-shape}
 
 can : (c : After-row_of) → Writable (raw_call c.args.kind c.args.fields.now)
 can c = is_writable _ c.requires.0
 
 -- so the table has its kind
-own : (c : After-row_of) → c.row_of.result.kind ≡ c.args.kind
-own c = row_known _ _ c.row_of.ensures (can c).kind_known
+pub unwrap-requires : goal.unwrap-requires
+unwrap-requires c = known_row _ _ (can (goal.at.unwrap-requires c).After-row_of).kind_known c.row_of.ensures
+
+row : (c : After-unwrap) → Tabled c.args.kind c.unwrap.result
+row c = row_there _ _ _ c.unwrap.ensures c.row_of.ensures
 
 -- it has few fields, and its widths are the shape's first
 few : (c : After-shape_of-shape) → length c.args.fields.now ≤ 27
@@ -30,7 +34,7 @@ widths :
     let a = c.args in
     take (length a.fields.now) c.shape_of-shape.result.widths ≡ written_widths (raw_call a.kind a.fields.now)
 widths c =
-    let s = rw (own (goal.at.After-shape_of-shape c).After-row_of) at c.shape_of-shape.ensures in
+    let s = rw (row (goal.at.After-shape_of-shape c).After-unwrap).kind at c.shape_of-shape.ensures in
     widths_are _ _ _ s _ refl (omega (arith, few c)) (as_many _ _ (can (goal.at.After-shape_of-shape c).After-row_of))
 
 same : (c : After-put_hex) → length c.put_hex.new.out ≡ length c.args.out.now
@@ -40,7 +44,7 @@ room : (c : After-put_hex) → 2 ≤ length c.put_hex.new.out
 room c = omega (arith, same c, kind_room _ _ c.args.out.now c.requires.1)
 
 pub shape_of-shape-requires : goal.shape_of-shape-requires
-shape_of-shape-requires c = row_own _ _ c.row_of.ensures (own (goal.at.shape_of-shape-requires c).After-row_of)
+shape_of-shape-requires c = row_own _ _ (row (goal.at.shape_of-shape-requires c).After-unwrap)
 
 pub put_hex-requires : goal.put_hex-requires
 put_hex-requires c = kind_room _ _ c.args.out.now c.requires.1

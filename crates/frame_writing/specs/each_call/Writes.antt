@@ -5,8 +5,7 @@ use Rattle.rules_format.specs.Written.{frame_of, writable}
 use Rattle.rules_auction.specs.Ledger.{Agency, Own, Named, Register}
 use Rattle.rules_replies.specs.Orders.{Order, Asks}
 use Rattle.rules_replies.specs.WrittenOrders.{paired, writable_order, frame_of_order}
-use Rattle.frame_writing.specs.declared.Written.{Written}
-use Rattle.frame_writing.specs.Encodes.{WritesFrame}
+use Rattle.frame_writing.specs.Encodes.{Written, WritesFrame}
 
 -- of an order: the buffer before and afterwards, and the answer
 abbrev pub Writes : Order → List ℕ → List ℕ → Written → Type 0

@@ -1,7 +1,8 @@
 -- Laws of the size of a frame, as the code finds it: how many fields and characters a writable call has.
 use Prim.Native.Nat.{ℕ, ◌+◌, ◌-◌, ◌*◌, ◌^◌, ◌≤◌, ◌<◌}
-use Rattle.std.specs.Prelude.{◌≡◌, Bool, take}
-use Rattle.std.proofs.Math.Path.{refl, ap}
+use Rattle.std.specs.Prelude.{◌≡◌, Bool, take, Some, None}
+use Rattle.std.proofs.Math.Path.{refl, sym, ap}
+use Rattle.std.proofs.lemmas.Option.{cond_some}
 use Rattle.std.proofs.Common.{◌∙◌, subst, ⊎_elim, get_or-take}
 use Rattle.std.proofs.Math.Bool.{true, false, cond}
 use mathlib.Core.List.{List}
@@ -13,7 +14,7 @@ use Rattle.rules_format.specs.HexLaws.{power_pos}
 use Rattle.rules_format.specs.Fields.{RawCall, raw_call, listed, fixed, count, repeats, layout}
 use Rattle.rules_format.specs.FieldLaws.{total_layout, length_layout, layout_at}
 use Rattle.rules_format.specs.Written.{written_widths, line_of, frame_of, fit, writable}
-use Rattle.rules_format.specs.WrittenLaws.{Writable, is_writable, writable_test, fitting, length_line, length_frame}
+use Rattle.rules_format.specs.WrittenLaws.{Writable, is_writable, writable_test, fitting, length_line}
 use Rattle.frame_bytes.specs.field_table.Fitting.{fitting_kind, repeats_few}
 use Rattle.frame_bytes.specs.declared.field_table.Shape.{Shape}
 use Rattle.frame_bytes.specs.field_table.Shapes.{Shaped}
@@ -44,32 +45,25 @@ module _ (k : ℕ) (ns : List ℕ) where
   abbrev c : RawCall
   c = raw_call k ns
 
-  pub no_size : (Writable c → ⊥) → 0 ≡ frame_size c
+  pub no_size : (Writable c → ⊥) → None ≡ frame_size c
   unfolding frame_size
   no_size h = rw (never_true (writable c) (λ e. h (is_writable c e)))
 
-  pub the_size : (n : ℕ) → n ≡ length (frame_of c) → Writable c → n ≡ frame_size c
+  pub the_size : (n : ℕ) → n ≡ length (frame_of c) → Writable c → Some n ≡ frame_size c
   unfolding frame_size
-  the_size n e w = rw (writable_test c w) e
+  the_size n e w = rw (writable_test c w) (ap Some e)
 
-  frame_pos : 1 ≤ length (frame_of c)
-  frame_pos = omega (arith, length_frame c)
-
-  pub size_none : frame_size c ≡ 0 → writable c ≡ false
+  pub size_none : frame_size c ≡ None → writable c ≡ false
   unfolding frame_size
-  size_none z = go (writable c) refl z
+  size_none = go (writable c)
     where
-      go : (b : Bool) → writable c ≡ b → cond b (length (frame_of c)) 0 ≡ 0 → writable c ≡ false
-      go true e z = absurd (omega (arith, frame_pos))
-      go false e z = e
+      go : (b : Bool) → cond b (Some (length (frame_of c))) None ≡ None → b ≡ false
+      go true z = cc
+      go false z = refl
 
-  pub size_some : 1 ≤ frame_size c → (writable c ≡ true) × (frame_size c ≡ length (frame_of c))
+  pub size_some : (n : ℕ) → frame_size c ≡ Some n → (writable c ≡ true) × (n ≡ length (frame_of c))
   unfolding frame_size
-  size_some h = go (writable c) refl h
-    where
-      go : (b : Bool) → writable c ≡ b → 1 ≤ cond b (length (frame_of c)) 0 → (writable c ≡ true) × (cond b (length (frame_of c)) 0 ≡ length (frame_of c))
-      go true e h = (e, refl)
-      go false e h = absurd (omega arith)
+  size_some n e = let p = cond_some _ _ _ e in (p.0, sym p.1)
 
 -- ---- the widths of a shape
 

@@ -6,6 +6,7 @@ use mathlib.Core.List.{[]}
 use native.Mathlib.Omega.{arith}
 use lib.IntN.{ℤ}
 use lib.ListN.{length, get_or}
+use Rattle.std.specs.Prelude.{Option, None}
 use Rattle.rules_auction.specs.Ledger.{Standing, none, made, Developer, Ledger}
 use Rattle.rules_auction.specs.Rounds.{ledger}
 use Rattle.laws_ledger.specs.Sound.{Registered, Sound}
@@ -36,9 +37,8 @@ few l s n = ⊎_elim
 -- e is the excess, z what a function gets of it as a machine word
 module _ (a : Auction) {e z : ℤ} (w : z ≡ e) {r : Reading} where
   pub none_read :
-      {ls : Levels} {o : StandingOffer} → ls ≡ held_levels [] → o ≡ shown_offer none → r ≡ reading_with a z ls o →
-      r ≡ reading_with a e (held_levels []) (shown_offer none)
-  none_read p q g = g ∙ (λ i. reading_with a (w i) (p i) (q i))
+      {ls : Levels} → ls ≡ held_levels [] → r ≡ reading_with a z ls None → r ≡ reading_with a e (held_levels []) (shown_offer none)
+  none_read p g = g ∙ (λ i. reading_with a (w i) (p i) None)
 
   -- a seat that reads the published values alone
   alone :
@@ -66,7 +66,7 @@ module _ (a : Auction) {e z : ℤ} (w : z ≡ e) {r : Reading} where
         (λ q. absurd (v q.number_low q.number_high)) (s.each n))
 
     pub developer_reads :
-        {o : StandingOffer} (d : Levels) (k : History) → 1 ≤ n → n ≤ 32 → StandsIn (get_or a.histories (n - 1) k) o →
+        {o : Option StandingOffer} (d : Levels) (k : History) → 1 ≤ n → n ≤ 32 → StandsIn (get_or a.histories (n - 1) k) o →
         r ≡ reading_with a z (get_or a.declared (n - 1) d) o → ReadsFrom a e (At n) r
     unfolding held_auction reading
     developer_reads {o} d k low high t g = record {

@@ -1,18 +1,16 @@
 -- What the calls that leave the hall as it is ensure. `h` is the hall, `r` the answer, `s` the seat.
-use Rattle.std.specs.Prelude.{ℕ, ◌≡◌, true, false, List}
-use Rattle.rules_auction.specs.Preview.{bare_preview}
+use Rattle.std.specs.Prelude.{ℕ, ◌≡◌, true, false, List, Result, Ok, Err}
+use Rattle.rules_auction.specs.Preview.{Previewed, bare_preview}
 use Rattle.rules_seats.specs.Seats.{Seat, may_settle, may_conduct}
-use Rattle.engine_looks.specs.readings.Readings.{preview_in, Previews, ReadsCurve}
-use Rattle.engine_looks.specs.declared.readings.Preview.{Preview}
+use Rattle.engine_looks.specs.readings.Readings.{Previews, ReadsCurve}
 use Rattle.engine_looks.specs.declared.readings.SupplyPoint.{SupplyPoint}
-use Rattle.engine_looks.specs.forcing.Forces.{refused_forcing, ForcesPrice}
-use Rattle.engine_looks.specs.declared.forcing.Forced.{Forced}
-use Rattle.engine_settling.specs.Settles.{refused_with, Settles}
-use Rattle.engine_settling.specs.declared.Settled.{Settled}
+use Rattle.engine_looks.specs.forcing.Forces.{Forced, refused_forcing, ForcesPrice}
+use Rattle.engine_settling.specs.Settles.{Settled, refused_with, Settles}
+use Rattle.engine_refusals.specs.Numbers.{number_of}
+use Rattle.engine_refusals.specs.declared.Refusal.{Refusal}
 use Rattle.hall.specs.seat_readings.Shown.{ReadsFrom}
 use Rattle.hall.specs.declared.seat_readings.Reading.{Reading}
 use Rattle.hall.specs.declared.Hall.{Hall}
-use Rattle.hall.specs.declared.hall_readings.SupplyPointThrough.{SupplyPointThrough}
 
 -- settling: without the right refused by 20, every other number 0, the buffer as it was; with it, as settling the auction
 pub record SettlesThrough (s : Seat) (h : Hall) (limit : ℕ) (old new : List ℕ) (r : Settled) : Type 0 where
@@ -20,12 +18,24 @@ pub record SettlesThrough (s : Seat) (h : Hall) (limit : ℕ) (old new : List �
   pub made : may_settle s ≡ true → Settles h.auction limit old new r
 
 -- the other calls: likewise
-pub record PreviewsThrough (s : Seat) (h : Hall) (r : Preview) : Type 0 where
-  pub barred : may_conduct s ≡ false → preview_in r ≡ bare_preview 20
+pub record PreviewsThrough (s : Seat) (h : Hall) (r : Previewed) : Type 0 where
+  pub barred : may_conduct s ≡ false → r ≡ bare_preview 20
   pub made : may_conduct s ≡ true → Previews h.auction r
+
+-- the number and the point of an answer
+pub record SupplyPointThrough : Type 0 where
+  pub number : ℕ
+  pub entries : ℕ
+  pub price : ℕ
+  pub before : ℕ
+  pub after : ℕ
 
 abbrev pub no_supply_point : ℕ → SupplyPointThrough
 no_supply_point n = record { number = n; entries = 0; price = 0; before = 0; after = 0 }
+
+abbrev pub point_in : Result SupplyPoint Refusal → SupplyPointThrough
+point_in (Ok x) = record { number = 0; entries = x.entries; price = x.price; before = x.before; after = x.after }
+point_in (Err e) = no_supply_point (number_of e)
 
 abbrev pub supply_point_of : SupplyPointThrough → SupplyPoint
 supply_point_of r = record { entries = r.entries; price = r.price; before = r.before; after = r.after }

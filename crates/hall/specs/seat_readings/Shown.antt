@@ -1,5 +1,5 @@
 -- What a seat reads, as the engine shows it (document 02, 14).
-use Rattle.std.specs.Prelude.{◌+◌, ◌≤◌, ◌≡◌, Bool, true, false, List, ℤ, length}
+use Rattle.std.specs.Prelude.{◌+◌, ◌≤◌, ◌≡◌, List, ℤ, Option, Some, None, length}
 use Rattle.rules_numbers.specs.Lists.{padded}
 use Rattle.rules_auction.specs.Ledger.{Step, Standing, none, made, Call, Ledger}
 use Rattle.rules_auction.specs.Rounds.{ledger}
@@ -15,16 +15,13 @@ use Rattle.engine_auction.specs.declared.Auction.{Auction}
 use Rattle.hall.specs.declared.seat_readings.StandingOffer.{StandingOffer}
 use Rattle.hall.specs.declared.seat_readings.Reading.{Reading}
 
-abbrev pub is_made : Standing → Bool
-is_made none = false
-is_made (made ss) = true
-
--- a missing offer is distinct from one of no steps: by the mark
-abbrev pub shown_offer : Standing → StandingOffer
-shown_offer o = record { made = is_made o; count = length (pending o); prices = padded 8 (prices_of (pending o)); levels = padded 8 (levels_of (pending o)) }
+-- a missing offer is distinct from one of no steps
+abbrev pub shown_offer : Standing → Option StandingOffer
+shown_offer none = None
+shown_offer (made ss) = Some (record { count = length ss; prices = padded 8 (prices_of ss); levels = padded 8 (levels_of ss) })
 
 -- the offer that stands in a history
-pub record StandsIn (h : History) (r : StandingOffer) : Type 0 where
+pub record StandsIn (h : History) (r : Option StandingOffer) : Type 0 where
   pub offer_is : (ws : List Step) (o : Standing) (ls : List Step) → h ≡ held_history ws o ls → length ws + length (pending o) ≤ 8 → r ≡ shown_offer o
 
 abbrev pub shown_reading : seats.Reading → Reading
@@ -38,8 +35,8 @@ shown_reading x = record {
 }
 
 -- the published values of any struct's value, with these levels and this offer
-abbrev pub reading_with : Auction → ℤ → Levels → StandingOffer → Reading
-reading_with a e ls o = record { opening = a.opening; closing = a.closing; excess = e; phase = a.phase; levels = ls; offer = o }
+abbrev pub reading_with : Auction → ℤ → Levels → Option StandingOffer → Reading
+reading_with a e ls o = record { opening = a.clock.opening; closing = a.clock.closing; excess = e; phase = a.clock.phase; levels = ls; offer = o }
 
 abbrev pub hall_with : Ledger → ℤ → HallLedger
 hall_with l e = record { ledger = l; excess = e }

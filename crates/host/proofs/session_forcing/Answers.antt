@@ -8,5 +8,5 @@ returns-then-not-conducts_by c = forcing_barred _ _ _ _ _ _ _ _ (sym c.conducts_
 
 pub returns : goal.returns
 returns c =
-    forcing_seated _ _ _ _ _ _ _ _ _ _ (sym c.conducts_by.ensures ∙ c.if-not-conducts_by.false) c.who_can_force-told.ensures
-    c.host_number-2.ensures
+    forcing_seated _ _ _ _ _ _ _ _ _ _ (sym c.conducts_by.ensures ∙ c.if-not-conducts_by.false) c.who_can_force.ensures
+    c.host_outcome.ensures

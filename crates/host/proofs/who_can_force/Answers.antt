@@ -4,5 +4,5 @@ use Rattle.host.proofs.who_can_force.Goals as goal
 
 pub returns : goal.returns
 returns c =
-    let told = record_forcing _ _ _ _ _ _ _ c.who_can_force-told.ensures in
-    record { value = host_forcing_lem _ _ _ _ _ _ _ _ told c.host_number.ensures; chosen_after = told.buffer }
+    let told = record_forcing _ _ _ _ _ _ _ c.who_can_force.ensures in
+    record { value = host_forcing_lem _ _ _ _ _ _ _ _ told c.host_outcome.ensures; chosen_after = told.buffer }

@@ -29,14 +29,14 @@ use Rattle.rules_replies.specs.Replies.{twos_complement}
 use Rattle.rules_seats.specs.figures.Figures.{one_if, hall_after, closes_round, closings_from, preview_figures}
 use Rattle.rules_seats.specs.figures.FigureLaws.{closing_excess}
 use Rattle.rules_seats.specs.sessions.LinesRead.{order_as, barred_as, asked_as, calls_as}
-use Rattle.engine_checks.specs.clock.Held.{held_phase, by_number}
+use Rattle.engine_checks.specs.clock.Reading.{phase_in, demanded_at}
 use Rattle.engine_auction.specs.Holds.{held_auction}
+use Rattle.engine_auction.specs.PhaseHeld.{phase_is}
 use Rattle.engine_auction.specs.declared.Auction.{Auction}
 use Rattle.figure_writing.specs.lent_numbers.Lent.{GivesFigures}
 use Rattle.figure_writing.specs.lent_numbers.LentLaws.{gives_same, gives_refused}
 use Rattle.record_replies.specs.Runs.{with_excess, Runs}
 use Rattle.record_replies.specs.declared.Ran.{Ran}
-use Rattle.record_replay.specs.host_numbers.HostNumbers.{host_remainder}
 use Rattle.record_figures.specs.closing_preview.Previews.{WritesPreview}
 
 -- 05 and 0A
@@ -84,8 +84,8 @@ module _ (l : Ledger) where
 
   -- in a round the settings are in bounds and C is in range, so that the remainder is given
   remainder_given : Sound l → in_round l.phase ≡ true →
-      host_remainder (demand_answer l.settings.ce l.settings.d l.settings.m1 l.settings.m2 l.closing) ≡ remainder_at l l.closing
-  unfolding host_remainder demand_answer
+      (demand_answer l.settings.ce l.settings.d l.settings.m1 l.settings.m2 l.closing).remainder ≡ remainder_at l l.closing
+  unfolding demand_answer
   remainder_given s e =
       let o = open_started l.phase e in
       rw (in_bounds_test _ _ _ _ (in_settings l.settings (s.settings o.1)).bounds, in_range_test _ _ (closing_in_range s o.0))
@@ -112,8 +112,8 @@ module _ (a : Auction) (o out : List ℕ) (r : Ran) (ran : Runs a closing_line f
 
   module _
       (bits rest mark : ℕ) (new : List ℕ) (n : ℕ) (some : r.closings ≡ 0 → ⊥) (bits_are : bits ≡ twos_complement r.excess)
-      (rest_is : rest ≡ host_remainder (demand_answer a.settings.ce a.settings.d a.settings.m1 a.settings.m2 a.closing))
-      (mark_is : mark ≡ one_if (eqb r.auction.phase 4)) (f : GivesFigures 0 (bits ∷ rest ∷ mark ∷ []) old new n)
+      (rest_is : rest ≡ (demanded_at a.clock.settings a.clock.closing).remainder)
+      (mark_is : mark ≡ one_if (is_closed (phase_in r.auction.clock.phase))) (f : GivesFigures 0 (bits ∷ rest ∷ mark ∷ []) old new n)
     where
       module _ (cs : List Call) (h : a ≡ held_auction (ledger cs)) where
         in_round_lem : in_round (ledger cs).phase ≡ true
@@ -129,22 +129,17 @@ module _ (a : Auction) (o out : List ℕ) (r : Ran) (ran : Runs a closing_line f
             ran.excess cs h ∙ ap (λ (ds : List Call). (hall_after (with_excess (ledger cs) (pos 0)) ds).excess) asks_closing
             ∙ closing_excess (with_excess (ledger cs) (pos 0)) accepts
 
-        phase_is : r.auction.phase ≡ held_phase (step (ledger cs) Close).phase
-        unfolding held_auction
-        phase_is =
-            ap (λ (x : Auction). x.phase)
-            (ran.next cs h ∙ ap (λ (ds : List Call). held_auction (ledger (cs ++ ds))) asks_closing ∙ ap held_auction (ledger_snoc cs Close))
-
-        closed_is : one_if (eqb r.auction.phase 4) ≡ one_if (is_closed (step (ledger cs) Close).phase)
+        closed_is : one_if (is_closed (phase_in r.auction.clock.phase)) ≡ one_if (is_closed (step (ledger cs) Close).phase)
         closed_is =
-            ap (λ (p : ℕ). one_if (eqb p 4)) phase_is
-            ∙ ap one_if (sym (by_number is_closed (λ p. eqb p 4) refl refl refl refl refl (step (ledger cs) Close).phase))
+            ap (λ (p : Phase). one_if (is_closed p))
+            (phase_is r.auction (step (ledger cs) Close)
+            (ran.next cs h ∙ ap (λ (ds : List Call). held_auction (ledger (cs ++ ds))) asks_closing ∙ ap held_auction (ledger_snoc cs Close)))
 
         remainder_is : rest ≡ remainder_at (ledger cs) (ledger cs).closing
         unfolding held_auction
         remainder_is =
             rest_is
-            ∙ (λ i. host_remainder (demand_answer (h i).settings.ce (h i).settings.d (h i).settings.m1 (h i).settings.m2 (h i).closing))
+            ∙ ap (λ (x : Auction). (demanded_at x.clock.settings x.clock.closing).remainder) h
             ∙ remainder_given (ledger cs) (sound cs) in_round_lem
 
         figures_are : bits ∷ rest ∷ mark ∷ [] ≡ preview_figures (preview (ledger cs))

@@ -5,4 +5,4 @@ use Rattle.record_figures.proofs.preview.Goals as goal
 
 pub returns : goal.returns
 returns c =
-    gives_tells _ _ _ _ _ _ (c.previewed-refused.ensures.preview_is _ (left_ledger _ _ _ c.after-open.ensures)) c.host_number.ensures
+    gives_tells _ _ _ _ _ _ (c.previewed-preview.ensures.preview_is _ (left_ledger _ _ _ c.after-open.ensures)) c.bare_number.ensures

@@ -11,4 +11,4 @@ pub returns : goal.returns
 returns c =
     let left = c.after-after.ensures in
     let fits : SFits w64 c.after-after.result.excess = search rules in
-    state_told _ _ _ _ _ _ left.closings (c.state-refusal.ensures.state_is _ left.auction (to_z-of_z fits ∙ left.excess)) c.host_number.ensures
+    state_told _ _ _ _ _ _ left.closings (c.state-state.ensures.state_is _ left.auction (to_z-of_z fits ∙ left.excess)) c.bare_number.ensures

@@ -4,6 +4,7 @@ use mathlib.Core.Path.{◌≡◌, refl, sym, ap, ◌∙◌}
 use mathlib.Core.Logic.{◌⊎◌, inl, inr, ⊎_elim}
 use mathlib.Core.Bool.{Bool, true, false, ◌||◌}
 use mathlib.Core.List.{List}
+use Rattle.std.specs.Prelude.{Result}
 use native.Mathlib.Omega.{arith}
 use lib.Dec.{eqb}
 use lib.ListN.{get_or, drop}
@@ -15,13 +16,13 @@ use Rattle.frame_reading.specs.declared.frames.Frame.{Frame}
 use Rattle.frame_reading.specs.arguments.FrameFields.{fields_in}
 use Rattle.frame_reading.specs.arguments.FieldColumns.{below}
 use Rattle.engine_held.specs.declared.history.History.{History}
-use Rattle.engine_checks.specs.declared.clock.Settings.{Settings}
+use Rattle.engine_refusals.specs.declared.Refusal.{Refusal}
+use Rattle.engine_checks.specs.declared.clock.Clock.{Clock}
 use Rattle.engine_moves.specs.moves.Entries.{Moves}
 use Rattle.engine_auction.specs.Called.{sets_up, registers_by}
-use Rattle.engine_auction.specs.Decided.{AnswersClock, with_round, Enters}
+use Rattle.engine_auction.specs.Decided.{AnswersClock, Enters}
 use Rattle.engine_auction.specs.declared.Auction.{Auction}
-use Rattle.engine_auction.specs.declared.ClockAnswer.{ClockAnswer}
-use Rattle.engine_auction.specs.declared.Entered.{Entered}
+use Rattle.engine_auction.specs.declared.Newcomer.{Newcomer}
 use Rattle.record_lines.specs.line_calls.Decisions.{is_move, MoveFrame, RegistrationFrame, ClockFrame, developer_of}
 use Rattle.record_lines.specs.line_calls.Decisions.{DecidesMove, DecidesRegistration, DecidesClock}
 use Rattle.record_lines.specs.line_calls.DecisionLaws.{framed, ordered_as}
@@ -91,51 +92,47 @@ module _ (f : Frame) (held : Ledger → Developer → Type 0) (n k : ℕ) (h : H
 
 -- ---- registrations
 
-module _ (f : Frame) (p : ℕ) (ks hs : List ℕ) (k n kind g study day : ℕ) (ls : List ℕ) (r : Entered) (w : Enters p ks hs k n kind g study day ls r)
+module _ (f : Frame) (a : Auction) (k n kind g study day : ℕ) (ls : List ℕ) (r : Result Newcomer Refusal) (w : Enters a k n kind g study day ls r)
     (ek : k ≡ get_or (fields_in f) 0 0) (en : n ≡ get_or (fields_in f) 1 0) (eh : kind ≡ get_or (fields_in f) 2 0) where
   -- 02
   pub own_decided : f.kind ≡ 2 → n ≡ g → study ≡ get_or (fields_in f) 3 0 → day ≡ get_or (fields_in f) 4 0 → ls ≡ drop 6 (fields_in f) →
-      DecidesRegistration f p ks hs r
+      DecidesRegistration f a r
   unfolding order_of
   own_decided e eg es ed el =
       let is : registers_by Own k n kind study day ls ≡ registration_of (fields_in f) = rw (ek, en, eh, es, ed, el) in
       record {
         call = registers_by Own k n kind study day ls;
         asked = record { order = ordered_as f 2 _ (λ z. omega arith) e refl ∙ ap Asks (sym is); kind = sym e; bare = λ z. omega arith };
-        refused = λ a z. w.refused Own eg a z;
         inside = w.inside;
-        taken = λ a z. w.taken Own eg a z;
+        entered = w.entered Own eg;
       }
 
   -- 08
   pub named_decided : f.kind ≡ 8 → g ≡ get_or (fields_in f) 3 0 → study ≡ get_or (fields_in f) 4 0 → day ≡ get_or (fields_in f) 5 0 → ls ≡ drop 7 (fields_in f) →
-      DecidesRegistration f p ks hs r
+      DecidesRegistration f a r
   unfolding order_of
   named_decided e eg es ed el =
       let is : registers_by (Named g) k n kind study day ls ≡ registration_for_of (fields_in f) = rw (ek, en, eh, eg, es, ed, el) in
       record {
         call = registers_by (Named g) k n kind study day ls;
         asked = record { order = ordered_as f 8 _ (λ z. omega arith) e refl ∙ ap Asks (sym is); kind = sym e; bare = λ z. omega arith };
-        refused = λ a z. w.refused (Named g) refl a z;
         inside = w.inside;
-        taken = λ a z. w.taken (Named g) refl a z;
+        entered = w.entered (Named g) refl;
       }
 
 -- ---- the clock
 
-module _ (f : Frame) (p : ℕ) (s : Settings) (o c : ℕ) (ks qs : List ℕ) (r : ClockAnswer) where
-  pub open_decided : (n : ℕ) → n ≡ get_or (fields_in f) 0 0 → f.kind ≡ 3 → ((a : Auction) → AnswersClock (Open n) (with_round a p s o c ks qs) r) →
-      DecidesClock f p s o c ks qs r
+module _ (f : Frame) (x : Auction) (r : Result Clock Refusal) where
+  pub open_decided : (n : ℕ) → n ≡ get_or (fields_in f) 0 0 → f.kind ≡ 3 → AnswersClock (Open n) x r → DecidesClock f x r
   unfolding order_of
   open_decided n en e w = record {
     call = Open n;
-    asked = record { order = ordered_as f 3 _ (λ z. omega arith) e refl ∙ ap (λ (x : ℕ). Asks (Open x)) (sym en); kind = sym e; bare = λ z. omega arith };
+    asked = record { order = ordered_as f 3 _ (λ z. omega arith) e refl ∙ ap (λ (m : ℕ). Asks (Open m)) (sym en); kind = sym e; bare = λ z. omega arith };
     answers = w;
   }
 
   pub set_up_decided : (ce d m1 m2 a : ℕ) → ce ≡ get_or (fields_in f) 0 0 → d ≡ get_or (fields_in f) 1 0 → m1 ≡ get_or (fields_in f) 2 0 → m2 ≡ get_or (fields_in f) 3 0 →
-      a ≡ get_or (fields_in f) 4 0 → f.kind ≡ 1 → ((x : Auction) → AnswersClock (sets_up ce d m1 m2 a) (with_round x p s o c ks qs) r) →
-      DecidesClock f p s o c ks qs r
+      a ≡ get_or (fields_in f) 4 0 → f.kind ≡ 1 → AnswersClock (sets_up ce d m1 m2 a) x r → DecidesClock f x r
   unfolding order_of
   set_up_decided ce d m1 m2 a ec ed e1 e2 ea e w =
       let is : sets_up ce d m1 m2 a ≡ set_up_of (fields_in f) = rw (ec, ed, e1, e2, ea) in

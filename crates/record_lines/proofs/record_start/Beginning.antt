@@ -1,9 +1,10 @@
 -- What a set-up makes of the fresh auction, and the reply to it.
 use Prim.Native.Nat.{ℕ, ◌+◌, ◌≤◌}
-use mathlib.Core.Path.{◌≡◌, refl, sym, ap, ◌∙◌, subst}
+use mathlib.Core.Path.{◌≡◌, refl, ap, subst}
 use mathlib.Core.Bool.{false}
 use mathlib.Core.List.{List, [], ◌∷◌}
 use mathlib.Core.Option.{some}
+use Rattle.std.specs.Prelude.{Ok}
 use native.Mathlib.Omega.{arith}
 use lib.ListN.{length}
 use Rattle.rules_numbers.specs.Lists.{part}
@@ -15,13 +16,13 @@ use Rattle.rules_replies.specs.Orders.{Asks, order_of, ordered, order_in}
 use Rattle.rules_replies.specs.Replies.{answer_line, reply_to}
 use Rattle.rules_seats.specs.sessions.LinesRead.{order_as}
 use Rattle.rules_seats.specs.sessions.LinesReadLaws.{plain_free}
-use Rattle.engine_checks.specs.declared.clock.Settings.{Settings}
+use Rattle.engine_checks.specs.clock.Held.{held_clock}
+use Rattle.engine_checks.specs.declared.clock.Clock.{Clock}
 use Rattle.engine_auction.specs.Called.{Called, sets_up}
 use Rattle.engine_auction.specs.Holds.{held_auction}
 use Rattle.engine_auction.specs.Parts.{with_clock}
 use Rattle.engine_auction.specs.Decided.{AnswersClock}
 use Rattle.engine_auction.specs.declared.Auction.{Auction}
-use Rattle.engine_auction.specs.declared.ClockAnswer.{ClockAnswer}
 use Rattle.record_lines.specs.line_calls.Decisions.{Takes}
 use Rattle.reply_writing.specs.Placed.{Puts}
 use Rattle.record_lines.specs.record_start.Progress.{Progress, progress_first, progress_taken}
@@ -29,31 +30,28 @@ use Rattle.record_lines.specs.record_start.Progress.{Progress, progress_first, p
 abbrev fresh : Auction
 fresh = held_auction start
 
-abbrev pub no_settings : Settings
-no_settings = record { ce = 0; d = 0; m1 = 0; m2 = 0; a = 0 }
-
 -- nothing read yet
-pub begun_not : (s : List ℕ) (limit : ℕ) (o : List ℕ) → Progress false [] s 0 limit 0 o o (with_clock fresh 0 no_settings 0 0) 0 0
+pub begun_not : (s : List ℕ) (limit : ℕ) (o : List ℕ) (none : Clock) → none ≡ held_clock start → Progress false [] s 0 limit 0 o o (with_clock fresh none) 0 0
 unfolding held_auction ledger step_all
-begun_not s limit o = progress_first false [] s 0 limit 0 o fresh refl
+begun_not s limit o none e = rw e (progress_first false [] s 0 limit 0 o fresh refl)
 
-module _ (l : List ℕ) (ce d m1 m2 a : ℕ) (asks : read l ≡ some (raw_call 1 (ce ∷ d ∷ m1 ∷ m2 ∷ a ∷ []))) where
+module _ (none : Clock) (en : none ≡ held_clock start) (l : List ℕ) (ce d m1 m2 a : ℕ) (asks : read l ≡ some (raw_call 1 (ce ∷ d ∷ m1 ∷ m2 ∷ a ∷ []))) where
   order : order_in l ≡ Asks (sets_up ce d m1 m2 a)
   unfolding order_in ordered order_of
   order = ap ordered asks
 
-  module _ (r : ClockAnswer) (w : (x : Auction) → AnswersClock (sets_up ce d m1 m2 a) (with_clock x 0 no_settings 0 0) r) (yes : r.number ≡ 0) where
+  module _ (t : Clock) (w : (x : Auction) → AnswersClock (sets_up ce d m1 m2 a) (with_clock x none) (Ok t)) where
     abbrev set_up : Auction
-    set_up = with_clock fresh r.phase r.settings r.opening r.closing
+    set_up = with_clock fresh t
 
-    called : Called (sets_up ce d m1 m2 a) fresh set_up (bare_answer r.number)
+    called : Called (sets_up ce d m1 m2 a) fresh set_up (bare_answer 0)
     unfolding held_auction
-    called = w fresh
+    called = rw en at (w fresh)
 
     takes : Takes fresh (order_as false l) set_up (answer_line 1 0 [])
     unfolding reply_to order_as
     takes = rw order record {
-      text = λ cs h. ap (λ (n : ℕ). answer_line 1 n []) (sym yes) ∙ ap (λ (y : Answered). answer_line 1 y.number []) (called.answer cs h);
+      text = λ cs h. ap (λ (y : Answered). answer_line 1 y.number []) (called.answer cs h);
       next = λ cs h. called.next cs h;
     }
 

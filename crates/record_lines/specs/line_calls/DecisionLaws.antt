@@ -1,27 +1,28 @@
 -- From the decision of a frame's call to the reply and the auction behind it.
-use Rattle.std.specs.Prelude.{ℕ, ◌≡◌, refl, Bool, true, false, cond, ◌||◌, List, [], eqb, get_or}
-use Rattle.std.proofs.Common.{sym, ap, ◌∙◌, append-nil, arith, ne_eqb, eqb-true}
+use Rattle.std.specs.Prelude.{ℕ, ◌≡◌, refl, Bool, true, false, cond, ◌||◌, List, [], eqb}
+use Rattle.std.proofs.Common.{sym, ap, ◌∙◌, subst, append-nil, arith, ne_eqb, eqb-true}
 use Rattle.std.proofs.lemmas.Bool.{false≢true, eqb-false}
 use Rattle.rules_format.specs.Fields.{raw_call}
 use Rattle.rules_auction.specs.Ledger.{Call, By, Close, Ledger}
-use Rattle.rules_auction.specs.Refusals.{refusal}
+use Rattle.rules_auction.specs.Refusals.{in_round, is_closed, refusal}
 use Rattle.rules_auction.specs.Settling.{settling_refusal}
 use Rattle.rules_auction.specs.Rounds.{ledger, Answered, answer, bare_answer}
 use Rattle.laws_ledger.specs.reachable.Steps.{ledger_snoc, step_refused, answer_refused, answer_accepted, granted_number}
 use Rattle.laws_ledger.specs.reachable.Reachable.{sound}
 use Rattle.rules_replies.specs.Orders.{Order, Malformed, Asks, Settle, order_of, ordered}
 use Rattle.rules_replies.specs.Replies.{call_kind, closing_text, answer_line, reply_to}
-use Rattle.engine_held.specs.levels.Held.{no_levels}
 use Rattle.frame_reading.specs.frames.Decoded.{raw_call_in, call_in, call_none, call_some}
 use Rattle.frame_reading.specs.declared.frames.Frame.{Frame}
 use Rattle.frame_reading.specs.arguments.FrameFields.{fields_in, Framed, Reads}
 use Rattle.engine_held.specs.supply.ByProject.{place_of}
 use Rattle.engine_held.specs.declared.history.History.{History}
-use Rattle.engine_moves.specs.moves.Entries.{no_history, Held, MovedTo}
+use Rattle.engine_checks.specs.clock.Reading.{phase_in}
+use Rattle.engine_moves.specs.moves.Entries.{seat, Held, MovedTo}
+use Rattle.engine_moves.specs.declared.moves.Entry.{Entry}
 use Rattle.engine_auction.specs.Called.{Called}
 use Rattle.engine_auction.specs.Holds.{held_auction}
-use Rattle.engine_auction.specs.PhaseNumbers.{round_is, closed_is}
-use Rattle.engine_auction.specs.Storing.{with_history_at, entry_held, move_stored}
+use Rattle.engine_auction.specs.PhaseHeld.{phase_is}
+use Rattle.engine_auction.specs.Storing.{entry_at, with_history_at, entry_held, move_stored}
 use Rattle.engine_auction.specs.declared.Auction.{Auction}
 use Rattle.record_lines.specs.line_calls.Decisions.{is_move, is_registration, is_clock, Asked, developer_of, DecidesMove, Takes}
 
@@ -94,23 +95,31 @@ takes_call f c a b n w s = rw w.order record {
 }
 
 -- a move, its history stored at its developer's place, refused or not
-pub takes_move : (f : Frame) (a : Auction) (i k : ℕ) (r : History) → i ≡ place_of (developer_of f) →
-    DecidesMove f
-    (Held a.phase a.settings a.opening a.closing (get_or a.kinds i 0) (get_or a.declared i no_levels) (get_or a.quantities i 0)
-    (get_or a.histories i no_history))
-    k r →
-    Takes a (ordered (call_in f)) (with_history_at a i r) (answer_line f.kind k [])
-takes_move f a i k r ei w = rw w.asked.order record {
-  text = λ cs h. plain_answer f (ledger cs) (By n w.move) k w.asked ((to cs h).number ∙ sym (answer_number (ledger cs) (By n w.move)));
-  next = λ cs h. ap (λ (j : ℕ). with_history_at a j r) ei ∙ move_stored a (ledger cs) n w.move k r h (to cs h)
-      ∙ ap held_auction (sym (ledger_snoc cs (By n w.move)));
-}
-  where
-    n : ℕ
-    n = developer_of f
+module _ (f : Frame) (a : Auction) (i k : ℕ) (r : History) (ei : i ≡ place_of (developer_of f)) {y : Entry} (ey : y ≡ entry_at a i)
+    (w : DecidesMove f (Held a.clock y) k r) where
+  abbrev n : ℕ
+  n = developer_of f
 
-    to : (cs : List Call) → a ≡ held_auction (ledger cs) → MovedTo (ledger cs) n w.move k r
-    to cs h = w.moves.moves_as_ruled (ledger cs) (sound cs) (entry_held a (ledger cs) n i h ei)
+  moved_to : (cs : List Call) → a ≡ held_auction (ledger cs) → MovedTo (ledger cs) n w.move k r
+  moved_to cs h = w.moves.moves_as_ruled (ledger cs) (sound cs)
+      (subst (λ (x : Entry). Held a.clock x (ledger cs) ((ledger cs).developers (seat n))) (sym ey) (entry_held a (ledger cs) n i h ei))
+
+  answers : (cs : List Call) → a ≡ held_auction (ledger cs) → answer_line f.kind k [] ≡ reply_to (ledger cs) (Asks (By n w.move))
+  answers cs h = plain_answer f (ledger cs) (By n w.move) k w.asked ((moved_to cs h).number ∙ sym (answer_number (ledger cs) (By n w.move)))
+
+  pub takes_move : Takes a (ordered (call_in f)) (with_history_at a i r) (answer_line f.kind k [])
+  takes_move = rw w.asked.order record {
+    text = answers;
+    next = λ cs h. ap (λ (j : ℕ). with_history_at a j r) ei ∙ move_stored a (ledger cs) n w.move k r h (moved_to cs h)
+        ∙ ap held_auction (sym (ledger_snoc cs (By n w.move)));
+  }
+
+  -- a refused move leaves the auction
+  pub takes_refused_move : (k ≡ 0 → ⊥) → Takes a (ordered (call_in f)) a (answer_line f.kind k [])
+  takes_refused_move z = rw w.asked.order record {
+    text = answers;
+    next = λ cs h. h ∙ ap held_auction (sym (ledger_snoc cs (By n w.move) ∙ step_refused (ledger cs) (By n w.move) (λ e. z ((moved_to cs h).number ∙ e))));
+  }
 
 -- ---- malformed lines
 
@@ -124,11 +133,11 @@ takes_malformed a o e = rw e record {
 -- ---- a closing
 
 -- refused by 2 where no round is open
-pub no_round : (a : Auction) → (a.phase ≡ 2 → ⊥) → (cs : List Call) → a ≡ held_auction (ledger cs) → refusal (ledger cs) Close ≡ 2
+pub no_round : (a : Auction) → in_round (phase_in a.clock.phase) ≡ false → (cs : List Call) → a ≡ held_auction (ledger cs) → refusal (ledger cs) Close ≡ 2
 unfolding refusal
-no_round a z cs h = rw (round_is a (ledger cs) h, ne_eqb a.phase 2 z)
+no_round a z cs h = rw (sym (phase_is a (ledger cs) h), z)
 
-pub takes_no_round : (a : Auction) → (a.phase ≡ 2 → ⊥) → Takes a (Asks Close) a (answer_line 5 2 [])
+pub takes_no_round : (a : Auction) → in_round (phase_in a.clock.phase) ≡ false → Takes a (Asks Close) a (answer_line 5 2 [])
 unfolding reply_to answer_line
 takes_no_round a z = record {
   text =
@@ -148,6 +157,6 @@ takes_settling a limit t w = record {
   next = λ cs h. h ∙ ap (λ (xs : List Call). held_auction (ledger xs)) (sym (append-nil cs));
 }
 
-pub takes_not_closed : (a : Auction) (limit : ℕ) → (a.phase ≡ 4 → ⊥) → Takes a (Settle limit) a (answer_line 6 2 [])
+pub takes_not_closed : (a : Auction) (limit : ℕ) → is_closed (phase_in a.clock.phase) ≡ false → Takes a (Settle limit) a (answer_line 6 2 [])
 unfolding reply_to settling_refusal answer_line
-takes_not_closed a limit z = takes_settling a limit _ (λ cs h. rw (closed_is a (ledger cs) h, ne_eqb a.phase 4 z))
+takes_not_closed a limit z = takes_settling a limit _ (λ cs h. rw (sym (phase_is a (ledger cs) h), z))

@@ -1,7 +1,7 @@
 -- What a frame asks, and what the decision of its call leaves; and what a line makes of an auction.
-use Rattle.std.specs.Prelude.{ℕ, ◌<◌, ◌≡◌, Bool, true, ◌||◌, List, ◌++◌, eqb, get_or}
+use Rattle.std.specs.Prelude.{ℕ, ◌<◌, ◌≡◌, Bool, true, ◌||◌, List, ◌++◌, Result, IfOk, eqb, get_or}
 use Rattle.rules_auction.specs.Ledger.{Call, Developer, Move, By, Ledger}
-use Rattle.rules_auction.specs.Rounds.{ledger, bare_answer}
+use Rattle.rules_auction.specs.Rounds.{ledger}
 use Rattle.rules_replies.specs.Orders.{Order, Asks, ordered}
 use Rattle.rules_replies.specs.Replies.{call_kind, reply_to}
 use Rattle.rules_replies.specs.record_calls.Calls.{asked_calls}
@@ -9,14 +9,14 @@ use Rattle.frame_reading.specs.frames.Decoded.{call_in}
 use Rattle.frame_reading.specs.declared.frames.Frame.{Frame}
 use Rattle.frame_reading.specs.arguments.FrameFields.{fields_in, Reads}
 use Rattle.engine_held.specs.declared.history.History.{History}
-use Rattle.engine_checks.specs.declared.clock.Settings.{Settings}
+use Rattle.engine_refusals.specs.declared.Refusal.{Refusal}
+use Rattle.engine_checks.specs.declared.clock.Clock.{Clock}
 use Rattle.engine_moves.specs.moves.Entries.{Moves}
-use Rattle.engine_auction.specs.Called.{Called}
+use Rattle.engine_auction.specs.Called.{Called, answer_in}
 use Rattle.engine_auction.specs.Holds.{held_auction}
-use Rattle.engine_auction.specs.Decided.{AnswersClock, with_round, with_books, with_entered}
+use Rattle.engine_auction.specs.Decided.{AnswersClock, after_newcomer}
 use Rattle.engine_auction.specs.declared.Auction.{Auction}
-use Rattle.engine_auction.specs.declared.ClockAnswer.{ClockAnswer}
-use Rattle.engine_auction.specs.declared.Entered.{Entered}
+use Rattle.engine_auction.specs.declared.Newcomer.{Newcomer}
 
 -- 04 offer, 09 cancellation, 07 lodging
 abbrev pub is_move : ℕ → Bool
@@ -59,19 +59,18 @@ pub record DecidesMove (f : Frame) (held : Ledger → Developer → Type 0) (k :
   pub asked : Asked f (By (developer_of f) move)
   pub moves : Moves (developer_of f) move held k h
 
--- a registration, in every auction of this phase, these projects and kinds: refused it leaves the auction, else it enters the developer at its place
-pub record DecidesRegistration (f : Frame) (p : ℕ) (ks hs : List ℕ) (r : Entered) : Type 0 where
+-- a registration: refused it leaves the auction, else it enters the newcomer at its place
+pub record DecidesRegistration (f : Frame) (a : Auction) (r : Result Newcomer Refusal) : Type 0 where
   pub call : Call
   pub asked : Asked f call
-  pub refused : (a : Auction) → (r.number ≡ 0 → ⊥) → Called call (with_books a p ks hs) (with_books a p ks hs) (bare_answer r.number)
-  pub inside : r.place < 32
-  pub taken : (a : Auction) → r.number ≡ 0 → Called call (with_books a p ks hs) (with_entered (with_books a p ks hs) r) (bare_answer 0)
+  pub inside : IfOk r (λ x. x.place < 32)
+  pub entered : Called call a (after_newcomer a r) (answer_in r)
 
--- a set-up or an opening, in every auction of this clock, these projects and quantities
-pub record DecidesClock (f : Frame) (p : ℕ) (s : Settings) (o c : ℕ) (ks qs : List ℕ) (r : ClockAnswer) : Type 0 where
+-- a set-up or an opening
+pub record DecidesClock (f : Frame) (a : Auction) (r : Result Clock Refusal) : Type 0 where
   pub call : Call
   pub asked : Asked f call
-  pub answers : (a : Auction) → AnswersClock call (with_round a p s o c ks qs) r
+  pub answers : AnswersClock call a r
 
 -- ---- an order
 

@@ -10,11 +10,8 @@ returns-then-bytes-gt-LONGEST_RECORD c = print_long _ c.if-bytes-gt-LONGEST_RECO
 pub slice_bounds-replies_in-end-2 : goal.slice_bounds-replies_in-end-2
 slice_bounds-replies_in-end-2 c = sym (length-take-le 65536 c.args.out.now c.requires)
 
-pub returns-then-n-gt-LONGEST_RECORD : goal.returns-then-n-gt-LONGEST_RECORD
-returns-then-n-gt-LONGEST_RECORD c =
-    print_over _ c.if-bytes-gt-LONGEST_RECORD.false _ _ c.requires _ c.replies_in-n.ensures c.if-n-gt-LONGEST_RECORD.true _ _ c.put_refusal-then-n-gt-LONGEST_RECORD.ensures
+pub returns-in-Ok : goal.returns-in-Ok
+returns-in-Ok c = print_replies _ c.if-bytes-gt-LONGEST_RECORD.false _ _ c.requires _ c.in-Ok.ensures
 
-pub returns : goal.returns
-returns c =
-    print_replies _ c.if-bytes-gt-LONGEST_RECORD.false _ _ c.requires _ c.replies_in-n.ensures
-    c.if-n-gt-LONGEST_RECORD.false
+pub returns-in-Err : goal.returns-in-Err
+returns-in-Err c = print_over _ c.if-bytes-gt-LONGEST_RECORD.false _ _ c.requires _ c.in-Err.ensures _ _ c.put_refusal-in-Err.ensures

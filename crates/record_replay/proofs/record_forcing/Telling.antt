@@ -1,7 +1,7 @@
 -- What is told, by the tests: a refusal of the game, no byte for the move, or the outcome with the move's byte.
 use Prim.Native.Nat.{ℕ, ◌<◌}
 use mathlib.Core.Path.{◌≡◌, refl, sym, ap, ◌∙◌}
-use mathlib.Core.Bool.{cond}
+use Rattle.std.specs.Int.{from_bool}
 use mathlib.Core.List.{List, [], ◌∷◌}
 use native.Mathlib.Omega.{arith}
 use borrow.Author.Tests.{eq-eqb, ne_eqb, lt-ltb}
@@ -14,17 +14,15 @@ use Rattle.rules_forcing.specs.Forcing.{forcing_refusal, forced_outcome, first_m
 use Rattle.engine_auction.specs.Holds.{held_auction}
 use Rattle.engine_auction.specs.declared.Auction.{Auction}
 use Rattle.engine_looks.specs.rivals.Plain.{withdraws_by}
-use Rattle.engine_looks.specs.forcing.Forces.{ForcesPrice}
-use Rattle.engine_looks.specs.declared.forcing.Forced.{Forced}
-use Rattle.record_replay.specs.declared.record_forcing.Told.{Told}
-use Rattle.record_replay.specs.record_forcing.Chosen.{told_refusal, told_outcome, move_byte, chosen_in, Tells}
+use Rattle.engine_looks.specs.forcing.Forces.{Forced, ForcesPrice}
+use Rattle.record_replay.specs.record_forcing.Chosen.{Told, told_refusal, told_outcome, move_byte, chosen_in, Tells}
 
 first_byte_lem : (b : ℕ) (old : List ℕ) → 0 < length old → set old 0 b ≡ laid (b ∷ []) old
 unfolding laid
 first_byte_lem b [] h = absurd (omega arith)
 first_byte_lem b (x ∷ old) h = refl
 
-move_byte_lem : (m : GameMove) → cond (withdraws_by m) 1 0 ≡ move_byte m
+move_byte_lem : (m : GameMove) → from_bool (withdraws_by m) ≡ move_byte m
 unfolding withdraws_by
 move_byte_lem Keep = refl
 move_byte_lem Withdraw = refl
@@ -66,10 +64,10 @@ module _ (a : Auction) (cs : List Call) (m n : ℕ) (ps old : List ℕ) (f : For
     unfolding told_refusal
     tells_no_room k = tells_refusal (ledger cs) m n ps old _ (rw (game_number, k)) (omega arith) refl
 
-    pub tells_forced : (b : ℕ) → (length old ≡ 0 → ⊥) → b ≡ cond f.withdraws 1 0 → Tell (set old 0 b) (told 0 f.outcome)
+    pub tells_forced : (b : ℕ) → (length old ≡ 0 → ⊥) → b ≡ from_bool f.withdraws → Tell (set old 0 b) (told 0 f.outcome)
     unfolding told_refusal
     tells_forced b k e =
         let g = w.answer cs h z in
-        let is : b ≡ move_byte (first_move (ledger cs) m n ps) = e ∙ ap (λ (x : Forced). cond x.withdraws 1 0) g ∙ move_byte_lem (first_move (ledger cs) m n ps) in
+        let is : b ≡ move_byte (first_move (ledger cs) m n ps) = e ∙ ap (λ (x : Forced). from_bool x.withdraws) g ∙ move_byte_lem (first_move (ledger cs) m n ps) in
         rw is (tells_outcome (ledger cs) m n ps old _ (rw (game_number, lt-ltb 0 (length old) (omega arith))) refl (omega arith)
         (ap (λ (x : Forced). x.outcome) g))

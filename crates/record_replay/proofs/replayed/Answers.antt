@@ -3,10 +3,10 @@ use mathlib.Core.Path.{◌∙◌}
 use Rattle.record_replay.proofs.Replaying.{hosted_yes, hosted_no}
 use Rattle.record_replay.proofs.replayed.Goals as goal
 
-pub returns-then-n-room : goal.returns-then-n-room
-returns-then-n-room c = let f = c.replies_in-n.ensures in record { value = hosted_yes _ _ _ _ f c.if-n-room.true; out_after = f.text }
+pub returns-in-Ok : goal.returns-in-Ok
+returns-in-Ok c = let f = c.in-Ok.ensures in record { value = hosted_yes _ _ _ _ f; out_after = f.text }
 
-pub returns : goal.returns
-returns c =
-    let f = c.replies_in-n.ensures in
-    record { value = c.host_number.ensures ∙ hosted_no _ _ _ _ f c.if-n-room.false; out_after = f.text }
+pub returns-in-Err : goal.returns-in-Err
+returns-in-Err c =
+    let f = c.in-Err.ensures in
+    record { value = c.host_number.ensures ∙ hosted_no _ _ _ _ f; out_after = f.text }

@@ -17,4 +17,4 @@ unfolding ledger step_all
 returns c =
     let k = c.begin-begun.result in
     rw c.if-seated.false (begun_run _ _ _ _ _ c.begin-begun.ensures _ _ _
-    (ap (λ (x : Auction). with_clock x k.phase k.settings k.opening k.closing) c.new-auction.ensures) c.run-ran.ensures)
+    (ap (λ (x : Auction). with_clock x k.clock) c.new-auction.ensures) c.run-ran.ensures)

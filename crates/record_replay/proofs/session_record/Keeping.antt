@@ -1,5 +1,5 @@
 -- What the plain record has of a line, as it is read and written: nothing, or the frame and then its 0A into the tail behind it.
-use Prim.Native.Nat.{ℕ, ◌+◌, ◌-◌, ◌≤◌}
+use Prim.Native.Nat.{ℕ, ◌+◌, ◌-◌, ◌≤◌, ◌<◌}
 use mathlib.Core.Path.{◌≡◌, refl, sym, ap, ◌∙◌}
 use mathlib.Core.Bool.{Bool, true, false, cond, not, ◌&&◌, ◌||◌}
 use mathlib.Core.Logic.{⊎_elim}
@@ -50,8 +50,8 @@ module _ (s : Seat) (l : List ℕ) (w : WellFormed l) (first : ℕ) (g : 4 ≤ l
       go false e = refl
 
 module _ (line : List ℕ) (kind : ℕ) (e : kind ≡ kind_in (frame_behind line)) where
-  pub nothing_kept : kind ≡ 0 → [] ≡ kept_frame line
-  nothing_kept z = sym (none_kept line (none_read (frame_behind line) (sym e ∙ z)))
+  pub nothing_kept : kind ≡ 0 → kept_frame line ≡ []
+  nothing_kept z = none_kept line (none_read (frame_behind line) (sym e ∙ z))
 
   -- b says whether the line is barred, by the frame's kind and the developer behind it
   module _
@@ -59,6 +59,9 @@ module _ (line : List ℕ) (kind : ℕ) (e : kind ≡ kind_in (frame_behind line
       (t : b ≡ names_seat line && barred_by_kind (seat_by (seat_kind line) (seat_number line)) kind (first ∷ [])) where
     formed : WellFormed (frame_behind line)
     formed = some_read (frame_behind line) (λ z. h (e ∙ z))
+
+    pub frame_there : 0 < length (frame_behind line)
+    frame_there = omega (arith, formed.exact)
 
     call : read (frame_behind line) ≡ some (call_of (frame_behind line))
     call = reads (frame_behind line) formed
@@ -72,22 +75,27 @@ module _ (line : List ℕ) (kind : ℕ) (e : kind ≡ kind_in (frame_behind line
         (ap (λ (j : ℕ). barred_by_kind s j (first ∷ [])) k ∙ barred_by_developer s (frame_behind line) formed first g)
         ∙ barred_read line _ _ call
 
-    pub barred_dropped : b ≡ true → [] ≡ kept_frame line
-    barred_dropped z = sym (barred_left line _ call (sym barred ∙ z))
+    pub barred_dropped : b ≡ true → kept_frame line ≡ []
+    barred_dropped z = barred_left line _ call (sym barred ∙ z)
 
     pub frame_stays : b ≡ false → frame_behind line ≡ kept_frame line
     frame_stays z = sym (frame_kept line _ call (sym barred ∙ z))
 
 -- ---- its text
 
+module _ (line : List ℕ) (e : kept_frame line ≡ []) where
+  pub size_none : 0 ≡ length (kept_text line)
+  size_none = sym (ap length (no_text line (ap length e)))
+
+  pub put_none : (old : List ℕ) → (0 ≡ length (kept_text line)) × (old ≡ laid (kept_text line) old)
+  unfolding laid
+  put_none old = (size_none, ap (λ (t : List ℕ). laid t old) (sym (no_text line (ap length e))))
+
 module _ (line frame : List ℕ) (e : frame ≡ kept_frame line) where
-  pub size_none : length frame ≡ 0 → 0 ≡ length (kept_text line)
-  size_none z = sym (ap length (no_text line (ap length (sym e) ∙ z)))
+  some_kept : 0 < length frame → length (kept_frame line) ≡ 0 → ⊥
+  some_kept h z = omega (arith, h, ap length e, z)
 
-  some_kept : (length frame ≡ 0 → ⊥) → length (kept_frame line) ≡ 0 → ⊥
-  some_kept h z = h (ap length e ∙ z)
-
-  pub size_some : (length frame ≡ 0 → ⊥) → length frame + 1 ≡ length (kept_text line)
+  pub size_some : 0 < length frame → length frame + 1 ≡ length (kept_text line)
   size_some h = ap (λ (x : List ℕ). length x + 1) e ∙ sym (text_long line (some_kept h))
 
   -- in a buffer that it fits
@@ -95,11 +103,7 @@ module _ (line frame : List ℕ) (e : frame ≡ kept_frame line) where
     abbrev Put : ℕ → List ℕ → Type 0
     Put n new = (n ≡ length (kept_text line)) × (new ≡ laid (kept_text line) old)
 
-    pub put_none : length frame ≡ 0 → Put 0 old
-    unfolding laid
-    put_none z = (size_none z, ap (λ (t : List ℕ). laid t old) (sym (no_text line (ap length (sym e) ∙ z))))
-
-    module _ (h : length frame ≡ 0 → ⊥) where
+    module _ (h : 0 < length frame) where
       pub frame_room : length frame + 1 ≤ length old
       frame_room = omega (arith, size_some h)
 

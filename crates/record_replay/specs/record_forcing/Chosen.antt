@@ -1,11 +1,22 @@
 -- Who can force the price (document 02, 11), told with the best first move in a lent buffer.
-use Rattle.std.specs.Prelude.{ℕ, ◌≡◌, cond, List, [], ◌∷◌, ltb, eqb, length}
+use Rattle.std.specs.Prelude.{ℕ, ◌≡◌, cond, List, [], ◌∷◌, Result, Ok, Err, ltb, eqb, length}
 use Rattle.rules_numbers.specs.Tails.{laid}
 use Rattle.rules_auction.specs.Ledger.{Ledger}
 use Rattle.rules_auction.specs.Refusals.{check}
 use Rattle.rules_forcing.specs.Game.{GameMove, Keep, Withdraw}
 use Rattle.rules_forcing.specs.Forcing.{forcing_refusal, forced_outcome, first_move}
-use Rattle.record_replay.specs.declared.record_forcing.Told.{Told}
+use Rattle.engine_refusals.specs.Numbers.{number_of}
+use Rattle.engine_refusals.specs.declared.Refusal.{Refusal}
+
+-- what is told: 0 and the outcome, or a refusal's number and 0
+pub record Told : Type 0 where
+  pub number : ℕ
+  pub outcome : ℕ
+
+-- the number and the outcome of an answer
+abbrev pub told_in : Result ℕ Refusal → Told
+told_in (Ok x) = record { number = 0; outcome = x }
+told_in (Err e) = record { number = number_of e; outcome = 0 }
 
 -- 2 and 17 in their order, and last 11 where the buffer has no byte for the move
 unfoldable pub told_refusal : Ledger → ℕ → ℕ → List ℕ → ℕ → ℕ

@@ -18,18 +18,19 @@ use Rattle.frame_reading.specs.frames.Decoded.{call_in}
 use Rattle.frame_reading.specs.declared.frames.Frame.{Frame}
 use Rattle.frame_reading.specs.arguments.FrameFields.{fields_in, Reads}
 use Rattle.frame_reading.specs.arguments.FieldColumns.{below}
+use Rattle.engine_refusals.specs.NumberLaws.{number_not_0}
 use Rattle.engine_auction.specs.Decided.{rounded_in, with_rounded}
 use Rattle.engine_auction.specs.Parts.{with_clock}
 use Rattle.engine_auction.specs.declared.Auction.{Auction}
 use Rattle.record_lines.specs.line_calls.Decisions.{Takes}
-use Rattle.record_lines.specs.line_calls.DecisionLaws.{framed, none_asked, takes_call, takes_move, takes_malformed, takes_no_round, takes_not_closed}
+use Rattle.record_lines.specs.line_calls.DecisionLaws.{framed, none_asked, takes_call, takes_move, takes_refused_move, takes_malformed, takes_no_round, takes_not_closed}
 use Rattle.record_lines.specs.line_seats.FrameParts.{frame_part}
 use Rattle.record_lines.specs.line_seats.FramePartLaws.{order_read, barred_by_lem, barred_as_asked}
 use Rattle.reply_values.specs.Shows.{ShowsClosing}
 use Rattle.reply_writing.specs.Placed.{Puts}
 use Rattle.record_replies.proofs.Counting.{Counts, counts_nothing, counts_asked, counts_no_round, counts_closing}
 use Rattle.record_replies.proofs.Running.{Run, run_first, run_again, run_barred, run_skipped, run_settled, run_kept_accepted, run_kept_refused, run_end}
-use Rattle.record_replies.proofs.Asking.{asks_close, asks_settling, takes_closing}
+use Rattle.record_replies.proofs.Asking.{takes_clock, asks_close, asks_settling, takes_closing}
 use Rattle.record_replies.proofs.run.Goals as goal
 use Rattle.record_replies.proofs.run.Goals.{After-decode-frame, After-is_barred, Else-is_barred}
 
@@ -62,7 +63,7 @@ dec c = (goal.at.Else-is_barred c).After-decode-frame
 -- the run behind the line
 abbrev Behind : After-decode-frame → List ℕ → Auction → ℤ → ℕ → ℕ → Type 0
 Behind c out b e n r =
-    Run c.args.start c.args.bytes.now c.args.seated c.args.from c.args.limit c.args.end c.args.out.now out b e n c.loop-read.kept c.loop-read.settled
+    Run c.args.start c.args.bytes.now c.args.seated c.args.from c.args.limit c.args.end c.args.out.now out b e n c.loop-read.settled
     c.loop-read.awards (c.loop-read.read + length (line c) + 1) r
 
 free : (c : Else-is_barred) → barred_as c.args.seated c.next_line-line.result.now ≡ false
@@ -75,7 +76,7 @@ counting : (c : Else-is_barred) (t out : List ℕ) (r : ℕ) (b : Auction) (e : 
     Puts t c.args.limit c.loop-read.written c.loop-read.out out r → Behind (dec c) out b e n r
 counting c t out r b e n o m eo w k p =
     let eq = sym (ordering (dec c) ∙ eo) in
-    run_again _ _ _ _ _ _ _ _ _ _ _ _ _ _ _ _ _ c.loop-read.invariant c.loop-read-test.true c.next_line-line.ensures t out r p b e n m (free c)
+    run_again _ _ _ _ _ _ _ _ _ _ _ _ _ _ _ _ c.loop-read.invariant c.loop-read-test.true c.next_line-line.ensures t out r p b e n m (free c)
     (subst (λ (x : Order). Takes c.loop-read.auction x b t) eq w)
     (subst (λ (x : Order). Counts c.loop-read.auction (asked_calls x) (to_z w64 c.loop-read.excess-bits) c.loop-read.closings e n) eq k)
 
@@ -91,20 +92,20 @@ settling_order : (c : After-decode-frame) (n : ℕ) → (frame c).kind ≡ 6 →
 settling_order c n e en = ordering c ∙ asks_settling _ n e en
 
 pub loop-read-init : goal.loop-read-init
-loop-read-init c = run_first _ _ _ _ _ _ _ _ _ refl
+loop-read-init c = run_first _ _ _ _ _ _ _ _ refl
 
-pub mover-i-requires : goal.mover-i-requires
-mover-i-requires c = record { reads = reading (goal.at.mover-i-requires c).After-decode-frame; kind = sym c.is_move.ensures ∙ c.if-is_move.true }
+pub mover-place-requires : goal.mover-place-requires
+mover-place-requires c = record { reads = reading (goal.at.mover-place-requires c).After-decode-frame; kind = sym c.is_move.ensures ∙ c.if-is_move.true }
 
-pub decide_move-moved-requires : goal.decide_move-moved-requires
-decide_move-moved-requires c = record {
-  reads = reading (goal.at.decide_move-moved-requires c).After-decode-frame;
+pub decide_move-requires : goal.decide_move-requires
+decide_move-requires c = record {
+  reads = reading (goal.at.decide_move-requires c).After-decode-frame;
   kind = sym c.is_move.ensures ∙ c.if-is_move.true;
 }
 
-pub decide_registration-entered-requires : goal.decide_registration-entered-requires
-decide_registration-entered-requires c = record {
-  reads = reading (goal.at.decide_registration-entered-requires c).After-decode-frame;
+pub decide_registration-requires : goal.decide_registration-requires
+decide_registration-requires c = record {
+  reads = reading (goal.at.decide_registration-requires c).After-decode-frame;
   kind = sym c.is_registration.ensures ∙ c.if-is_registration.true;
 }
 
@@ -126,52 +127,59 @@ loop-read-preserved-then-is_barred c =
     let b = (goal.at.loop-read-preserved-then-is_barred c).After-is_barred in
     let d = (goal.at.loop-read-preserved-then-is_barred c).After-decode-frame in
     let barred = sym (barring b) ∙ c.if-is_barred.true in
-    run_barred _ _ _ _ _ _ _ _ _ _ _ _ _ _ _ _ _ c.loop-read.invariant c.loop-read-test.true c.next_line-line.ensures
-    _ _ _ _ c.plain_at-written.ensures barred (barred_as_asked (line d) (frame d) c.args.seated (called d) barred) refl
+    run_barred _ _ _ _ _ _ _ _ _ _ _ _ _ _ _ _ c.loop-read.invariant c.loop-read-test.true c.next_line-line.ensures
+    _ _ _ _ c.refusal_at-written.ensures barred (barred_as_asked (line d) (frame d) c.args.seated (called d) barred) refl
 
 -- ---- a move
 
+pub loop-read-preserved-in-Err : goal.loop-read-preserved-in-Err
+loop-read-preserved-in-Err c =
+    let w = c.in-Err.ensures in
+    again (goal.at.loop-read-preserved-in-Err c).Else-is_barred _ _ _ _ _ refl
+    (takes_refused_move c.decode-frame.result _ _ _ _ c.mover-place.ensures.0 c.entry-entry.ensures w (number_not_0 c.in-Err.refused))
+    (λ e n. counts_asked _ e n c.decode-frame.result _ w.asked) c.refusal_at-written-in-Err.ensures
+
 pub loop-read-preserved-then-is_move : goal.loop-read-preserved-then-is_move
 loop-read-preserved-then-is_move c =
+    let w = c.in-Ok.ensures in
     again (goal.at.loop-read-preserved-then-is_move c).Else-is_barred _ _ _ _ _ refl
-    (takes_move c.decode-frame.result _ _ _ _ c.mover-i.ensures.0 c.decide_move-moved.ensures)
-    (λ e n. counts_asked _ e n c.decode-frame.result _ c.decide_move-moved.ensures.asked) c.plain_at-written-then-is_move.ensures
+    (takes_move c.decode-frame.result _ _ 0 _ c.mover-place.ensures.0 c.entry-entry.ensures w)
+    (λ e n. counts_asked _ e n c.decode-frame.result _ w.asked) c.plain_at-written.ensures
 
 -- ---- a registration
 
-pub loop-read-preserved-then-entered-ne0 : goal.loop-read-preserved-then-entered-ne0
-loop-read-preserved-then-entered-ne0 c =
-    let w = c.decide_registration-entered.ensures in
-    again (goal.at.loop-read-preserved-then-entered-ne0 c).Else-is_barred _ _ _ _ _ refl
-    (takes_call c.decode-frame.result w.call _ _ _ w.asked (w.refused c.loop-read.auction c.if-entered-ne0.true))
-    (λ e n. counts_asked _ e n c.decode-frame.result _ w.asked) c.plain_at-written-then-entered-ne0.ensures
+pub loop-read-preserved-in-Err-decide_registration : goal.loop-read-preserved-in-Err-decide_registration
+loop-read-preserved-in-Err-decide_registration c =
+    let w = c.in-Err-decide_registration.ensures in
+    again (goal.at.loop-read-preserved-in-Err-decide_registration c).Else-is_barred _ _ _ _ _ refl
+    (takes_call c.decode-frame.result w.call _ _ _ w.asked w.entered)
+    (λ e n. counts_asked _ e n c.decode-frame.result _ w.asked) c.refusal_at-written-in-Err-decide_registration.ensures
 
 pub loop-read-preserved-then-is_registration : goal.loop-read-preserved-then-is_registration
 loop-read-preserved-then-is_registration c =
-    let w = c.decide_registration-entered.ensures in
+    let w = c.in-Ok-decide_registration.ensures in
     again (goal.at.loop-read-preserved-then-is_registration c).Else-is_barred _ _ _ _ _ refl
-    (takes_call c.decode-frame.result w.call _ _ 0 w.asked (w.taken c.loop-read.auction c.if-entered-ne0.false))
+    (takes_call c.decode-frame.result w.call _ _ 0 w.asked w.entered)
     (λ e n. counts_asked _ e n c.decode-frame.result _ w.asked) c.plain_at-written-then-is_registration.ensures
 
 -- ---- the clock
 
 pub loop-read-preserved-then-is_clock : goal.loop-read-preserved-then-is_clock
 loop-read-preserved-then-is_clock c =
+    let f = c.decode-frame.result in
     let w = c.decide_clock-turned.ensures in
     let a = c.loop-read.auction in
-    let r = c.decide_clock-turned.result in
-    let b = with_clock a r.phase r.settings r.opening r.closing in
-    again (goal.at.loop-read-preserved-then-is_clock c).Else-is_barred _ _ _ b _ refl
-    (takes_call c.decode-frame.result w.call a b r.number w.asked (w.answers a))
-    (λ e n. counts_asked a e n c.decode-frame.result _ w.asked) c.plain_at-written-then-is_clock.ensures
+    again (goal.at.loop-read-preserved-then-is_clock c).Else-is_barred _ _ _ (with_clock a c.unwrap_or-auction.result) _ refl
+    (takes_clock f a c.decide_clock-turned.result c.unwrap_or-auction.result _ w c.unwrap_or-auction.ensures c.answer_number-number.ensures)
+    (λ e n. counts_asked a e n f _ w.asked) c.plain_at-written-then-is_clock.ensures
 
 -- ---- a closing
 
-pub loop-read-preserved-then-auction-ne-ROUND : goal.loop-read-preserved-then-auction-ne-ROUND
-loop-read-preserved-then-auction-ne-ROUND c =
-    again (goal.at.loop-read-preserved-then-auction-ne-ROUND c).Else-is_barred _ _ _ _ _ (asks_close _ c.if-kind-eq5.true)
-    (takes_no_round _ c.if-auction-ne-ROUND.true) (λ e n. counts_no_round _ e n c.if-auction-ne-ROUND.true)
-    c.plain_at-written-then-auction-ne-ROUND.ensures
+pub loop-read-preserved-then-not-in_round : goal.loop-read-preserved-then-not-in_round
+loop-read-preserved-then-not-in_round c =
+    let shut = sym c.in_round.ensures ∙ c.if-not-in_round.true in
+    again (goal.at.loop-read-preserved-then-not-in_round c).Else-is_barred _ _ _ _ _ (asks_close _ c.if-kind-eq5.true)
+    (takes_no_round _ shut) (λ e n. counts_no_round _ e n shut) c.refusal_at-written-then-not-in_round.ensures
 
 pub loop-read-preserved-then-kind-eq5 : goal.loop-read-preserved-then-kind-eq5
 loop-read-preserved-then-kind-eq5 c =
@@ -181,7 +189,7 @@ loop-read-preserved-then-kind-eq5 c =
     let shows : ShowsClosing 0 rounded.result.excess rounded.result.remainder shown.result = rw (to_z-of_z fits) at shown.ensures in
     let a = c.loop-read.auction in
     let b = with_rounded a rounded.result in
-    let closes = rounded.ensures.closes a c.if-auction-ne-ROUND.false in
+    let closes = rounded.ensures.closes (sym c.in_round.ensures ∙ c.if-not-in_round.false) in
     counting (goal.at.loop-read-preserved-then-kind-eq5 c).Else-is_barred _ _ _ b _ _ _ (omega arith) (asks_close _ c.if-kind-eq5.true)
     (takes_closing a b (rounded_in rounded.result) _ closes shows)
     (rw (to_z-of_z fits) (counts_closing a _ _ b (rounded_in rounded.result) closes refl)) c.reply_at-written.ensures
@@ -191,34 +199,38 @@ loop-read-preserved-then-kind-eq5 c =
 pub loop-read-preserved-then-limit-written : goal.loop-read-preserved-then-limit-written
 loop-read-preserved-then-limit-written c =
     let d = (goal.at.loop-read-preserved-then-limit-written c).Else-is_barred in
-    run_skipped _ _ _ _ _ _ _ _ _ _ _ _ _ _ _ _ _ c.loop-read.invariant c.loop-read-test.true c.next_line-line.ensures _
+    run_skipped _ _ _ _ _ _ _ _ _ _ _ _ _ _ _ _ c.loop-read.invariant c.loop-read-test.true c.next_line-line.ensures _
     (free d) (settling_order (dec d) _ c.if-kind-eq6.true refl) c.if-limit-written.true
 
-pub loop-read-preserved-then-auction-ne-CLOSED : goal.loop-read-preserved-then-auction-ne-CLOSED
-loop-read-preserved-then-auction-ne-CLOSED c =
-    again (goal.at.loop-read-preserved-then-auction-ne-CLOSED c).Else-is_barred _ _ _ _ _ (asks_settling _ _ c.if-kind-eq6.true refl)
-    (takes_not_closed _ _ c.if-auction-ne-CLOSED.true) (λ e n. counts_nothing _ e n) c.plain_at-written-then-auction-ne-CLOSED.ensures
+pub loop-read-preserved-then-not-is_closed : goal.loop-read-preserved-then-not-is_closed
+loop-read-preserved-then-not-is_closed c =
+    again (goal.at.loop-read-preserved-then-not-is_closed c).Else-is_barred _ _ _ _ _ (asks_settling _ _ c.if-kind-eq6.true refl)
+    (takes_not_closed _ _ (sym c.is_closed.ensures ∙ c.if-not-is_closed.true)) (λ e n. counts_nothing _ e n)
+    c.refusal_at-written-then-not-is_closed.ensures
 
-pub loop-read-preserved-then-number-ne0 : goal.loop-read-preserved-then-number-ne0
-loop-read-preserved-then-number-ne0 c =
-    let d = (goal.at.loop-read-preserved-then-number-ne0 c).Else-is_barred in
-    run_kept_refused _ _ _ _ _ _ _ _ _ _ _ _ _ _ _ _ _ c.loop-read.invariant c.loop-read-test.true c.next_line-line.ensures _
-    (free d) (settling_order (dec d) _ c.if-kind-eq6.true c.word-asked.ensures) _ _ c.if-kept.true
-    _ c.refusal_again-number.ensures c.if-number-ne0.true c.plain_at-written-then-number-ne0.ensures
+pub loop-read-preserved-in-Err-check_again : goal.loop-read-preserved-in-Err-check_again
+loop-read-preserved-in-Err-check_again c =
+    let d = (goal.at.loop-read-preserved-in-Err-check_again c).Else-is_barred in
+    rw (← c.in-Some.is)
+    (run_kept_refused _ _ _ _ _ _ _ _ _ _ _ _ _ _ _ _ c.loop-read.invariant c.loop-read-test.true c.next_line-line.ensures _
+    (free d) (settling_order (dec d) _ c.if-kind-eq6.true c.word-asked.ensures) c.in-Some.settlement _ _ c.in-Some.is
+    _ c.in-Err-check_again.ensures (number_not_0 c.in-Err-check_again.refusal) c.refusal_at-written-in-Err-check_again.ensures)
 
-pub loop-read-preserved-then-kept : goal.loop-read-preserved-then-kept
-loop-read-preserved-then-kept c =
-    let d = (goal.at.loop-read-preserved-then-kept c).Else-is_barred in
-    run_kept_accepted _ _ _ _ _ _ _ _ _ _ _ _ _ _ _ _ _ c.loop-read.invariant c.loop-read-test.true c.next_line-line.ensures _
-    (free d) (settling_order (dec d) _ c.if-kind-eq6.true c.word-asked.ensures) _ _ c.if-kept.true
-    _ c.settling_reply-again.ensures (sym c.refusal_again-number.ensures ∙ c.if-number-ne0.false) c.reply_at-written-then-kept.ensures
+pub loop-read-preserved-in-Some : goal.loop-read-preserved-in-Some
+loop-read-preserved-in-Some c =
+    let d = (goal.at.loop-read-preserved-in-Some c).Else-is_barred in
+    let within = rw c.in_default-check_again.is at c.check_again.ensures in
+    rw (← c.in-Some.is)
+    (run_kept_accepted _ _ _ _ _ _ _ _ _ _ _ _ _ _ _ _ c.loop-read.invariant c.loop-read-test.true c.next_line-line.ensures _
+    (free d) (settling_order (dec d) _ c.if-kind-eq6.true c.word-asked.ensures) c.in-Some.settlement _ _ c.in-Some.is
+    _ c.settling_reply-again.ensures (sym within) c.reply_at-written-in-Some.ensures)
 
 pub loop-read-preserved-then-kind-eq6 : goal.loop-read-preserved-then-kind-eq6
 loop-read-preserved-then-kind-eq6 c =
     let d = (goal.at.loop-read-preserved-then-kind-eq6 c).Else-is_barred in
-    run_settled _ _ _ _ _ _ _ _ _ _ _ _ _ _ _ _ _ c.loop-read.invariant c.loop-read-test.true c.next_line-line.ensures _
+    run_settled _ _ _ _ _ _ _ _ _ _ _ _ _ _ _ _ c.loop-read.invariant c.loop-read-test.true c.next_line-line.ensures _
     (free d) (settling_order (dec d) _ c.if-kind-eq6.true c.word-asked.ensures)
-    _ _ _ _ _ c.settle-settled.ensures c.settling_reply-reply.ensures c.reply_at-written-then-kind-eq6.ensures
+    c.settle-answer.result _ _ _ _ _ c.settle-answer.ensures c.ok-settled.ensures.value c.settling_reply-reply.ensures c.reply_at-written-then-kind-eq6.ensures
 
 -- ---- a malformed line
 
@@ -227,7 +239,7 @@ loop-read-preserved c =
     again (goal.at.loop-read-preserved c).Else-is_barred _ _ _ _ _
     (none_asked _ (sym c.is_move.ensures ∙ c.if-is_move.false) (sym c.is_registration.ensures ∙ c.if-is_registration.false)
     (sym c.is_clock.ensures ∙ c.if-is_clock.false) c.if-kind-eq5.false c.if-kind-eq6.false)
-    (takes_malformed _ _ refl) (λ e n. counts_nothing _ e n) c.plain_at-written-in-loop-read.ensures
+    (takes_malformed _ _ refl) (λ e n. counts_nothing _ e n) c.refusal_at-written-in-loop-read.ensures
 
 pub returns : goal.returns
 returns c = run_end _ _ _ _ _ _ _ _ _ _ c.loop-read.invariant c.loop-read-test.false

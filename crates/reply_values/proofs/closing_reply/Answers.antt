@@ -12,7 +12,7 @@ pub returns : goal.returns
 returns c = record {
   text = λ x e f.
       let s : SFits w64 c.args.excess = search rules in
-      let b = c.blank-reply.ensures.kind_value in
+      let b = c.blank.ensures.kind_value in
       let bits = c.bits_of.ensures ∙ ap twos_complement (to_z-of_z s ∙ e) in
       text_of_lem _ 5 _ (closing_text x) b.0 b.1 (λ z. closing_added _ x b.0 (c.closing_values-values.ensures x bits f));
 }

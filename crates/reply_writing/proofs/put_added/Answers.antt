@@ -18,27 +18,27 @@ use Rattle.reply_writing.specs.declared.reply_sizes.Reply.{Reply}
 use Rattle.reply_writing.specs.reply_sizes.TextLaws.{shown_refused, Parts, parts}
 use Rattle.reply_writing.proofs.Laws.{Held, held_first, held_room, held_next}
 use Rattle.reply_writing.proofs.put_added.Goals as goal
-use Rattle.reply_writing.proofs.put_added.Goals.{After-last-1, After-least-n, After-put_bytes-arg-1, After-put_values-arg-1, After-put_values-arg-2-1, After-slice_known-2-1, After-slice_known-3-1, After-slice_known-4-1, Start}
+use Rattle.reply_writing.proofs.put_added.Goals.{After-min-n, After-put_bytes-arg-2-1, After-put_values-arg-3-1, After-put_values-arg-6-1, After-slice_known-2-1, After-slice_known-3-1, After-slice_known-4-1, Start}
 
 -- the places behind the fields before the records and behind the records, each from the next, and what is known at the form
-abbrev formed : After-slice_known-2-1 → After-least-n
-formed c = (goal.at.After-slice_known-2-1 c).After-least-n
+abbrev formed : After-slice_known-2-1 → After-min-n
+formed c = (goal.at.After-slice_known-2-1 c).After-min-n
 
-abbrev start : After-least-n → Start
-start c = (goal.at.After-least-n c).Start
+abbrev start : After-min-n → Start
+start c = (goal.at.After-min-n c).Start
 
-abbrev reply : After-least-n → Reply
+abbrev reply : After-min-n → Reply
 reply c = (start c).args.reply
 
-abbrev form : After-least-n → Form
+abbrev form : After-min-n → Form
 form c = c.form_of-form.result
 
-full : (c : After-least-n) → length (reply c).awards ≡ 192
+full : (c : After-min-n) → length (reply c).awards ≡ 192
 full c = search rules
 
 -- what the reply adds, part by part
-added : (c : After-least-n) → Parts (reply c) (form c) c.least-n.result
-added c = parts (reply c) (form c) c.least-n.result c.form_of-form.ensures c.least-n.ensures c.if-reply-ne0.false (full c)
+added : (c : After-min-n) → Parts (reply c) (form c) c.min-n.result
+added c = parts (reply c) (form c) c.min-n.result c.form_of-form.ensures c.min-n.ensures c.if-reply-ne0.false (full c)
 
 -- behind the fields before the records: the buffer, and that the records and the fields behind them have room
 headed : (c : After-slice_known-2-1) →
@@ -51,7 +51,7 @@ headed c =
 
 room : (c : After-slice_known-2-1) →
     let f = formed c in
-    c.put_values-records.result + 2 * f.least-n.result + total (form f).tail ≤ length (start f).args.out.now
+    c.put_values-records.result + 2 * f.min-n.result + total (form f).tail ≤ length (start f).args.out.now
 room c = omega (arith, c.put_values-records.ensures.value, (added (formed c)).size, (start (formed c)).requires)
 
 -- behind the records
@@ -60,13 +60,13 @@ first c = (goal.at.After-slice_known-3-1 c).After-slice_known-2-1
 
 recorded : (c : After-slice_known-3-1) →
     let f = formed (first c) in
-    let n = f.least-n.result in
+    let n = f.min-n.result in
     let head = (first c).put_values-records in
     let out = put_mid head.result (length head.new.out - head.result) head.new.out c.put_bytes.new.out in
     Held (text_at (form f).head (reply f).values.head ++ record_digits (take n (reply f).awards)) (start f).args.out.now out (head.result + 2 * n)
 recorded c =
     let f = formed (first c) in
-    let n = f.least-n.result in
+    let n = f.min-n.result in
     let few = length-take-le n (reply f).awards (omega (arith, (added f).within_room, full f)) in
     let m : 2 * n ≡ length (record_digits (take n (reply f).awards)) = omega (arith, bytes_length (take n (reply f).awards)) in
     held_next (headed (first c)) _ (2 * n) m (omega (arith, room (first c))) c.put_bytes.ensures
@@ -78,7 +78,7 @@ returns-then-reply-ne0 c =
     record { value = sym (ap length e); out_after = rw e }
 
 pub put_values-records-requires : goal.put_values-records-requires
-put_values-records-requires c = omega (arith, (added (goal.at.After-put_values-arg-1 c).After-least-n).size, (start (goal.at.After-put_values-arg-1 c).After-least-n).requires)
+put_values-records-requires c = omega (arith, (added (goal.at.After-put_values-arg-3-1 c).After-min-n).size, (start (goal.at.After-put_values-arg-3-1 c).After-min-n).requires)
 
 pub slice_bounds-put_bytes-count : goal.slice_bounds-put_bytes-count
 slice_bounds-put_bytes-count c = omega (arith, room (goal.at.slice_bounds-put_bytes-count c).After-slice_known-2-1, (headed (goal.at.slice_bounds-put_bytes-count c).After-slice_known-2-1).same)
@@ -88,7 +88,7 @@ slice_bounds-put_bytes-start c = omega (arith, room (goal.at.slice_bounds-put_by
 
 pub put_bytes-requires : goal.put_bytes-requires
 put_bytes-requires c =
-    ((added (formed (goal.at.After-put_bytes-arg-1 c).After-slice_known-2-1)).within_room, held_room (headed (goal.at.After-put_bytes-arg-1 c).After-slice_known-2-1) _ (omega (arith, room (goal.at.After-put_bytes-arg-1 c).After-slice_known-2-1)))
+    ((added (formed (goal.at.After-put_bytes-arg-2-1 c).After-slice_known-2-1)).within_room, held_room (headed (goal.at.After-put_bytes-arg-2-1 c).After-slice_known-2-1) _ (omega (arith, room (goal.at.After-put_bytes-arg-2-1 c).After-slice_known-2-1)))
 
 pub overflow_mul-behind : goal.overflow_mul-behind
 overflow_mul-behind c = omega (arith, (added (formed (first c))).within_room)
@@ -97,13 +97,13 @@ pub overflow_add-behind : goal.overflow_add-behind
 overflow_add-behind c = omega (arith, room (first c), (start (formed (first c))).well_formed)
 
 pub slice_bounds-put_values-count : goal.slice_bounds-put_values-count
-slice_bounds-put_values-count c = omega (arith, room (first (goal.at.After-last-1 c).After-slice_known-3-1), (recorded (goal.at.After-last-1 c).After-slice_known-3-1).same)
+slice_bounds-put_values-count c = omega (arith, room (first c), (recorded c).same)
 
 pub slice_bounds-put_values-start : goal.slice_bounds-put_values-start
-slice_bounds-put_values-start c = omega (arith, room (first (goal.at.After-last-1 c).After-slice_known-3-1), (recorded (goal.at.After-last-1 c).After-slice_known-3-1).same)
+slice_bounds-put_values-start c = omega (arith, room (first c), (recorded c).same)
 
 pub put_values-requires : goal.put_values-requires
-put_values-requires c = held_room (recorded (goal.at.After-put_values-arg-2-1 c).After-slice_known-3-1) _ (room (first (goal.at.After-put_values-arg-2-1 c).After-slice_known-3-1))
+put_values-requires c = held_room (recorded (goal.at.After-put_values-arg-6-1 c).After-slice_known-3-1) _ (room (first (goal.at.After-put_values-arg-6-1 c).After-slice_known-3-1))
 
 pub overflow_add-result : goal.overflow_add-result
 overflow_add-result c =

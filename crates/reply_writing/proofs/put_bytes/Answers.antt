@@ -1,7 +1,8 @@
 -- Each turn writes two digits into the tail behind those of the bytes passed.
 use mathlib.Core.Path.{◌≡◌}
-use Rattle.std.proofs.Common.{arith}
+use Rattle.std.proofs.Common.{◌<◌, arith}
 use lib.ListN.{length}
+use lib.Seq.{get_or-take, length-take-le}
 use Rattle.std.proofs.Common.{rules}
 use Rattle.reply_writing.proofs.Laws.{passed_none, passed_one, passed_all}
 use Rattle.reply_writing.proofs.put_bytes.Goals as goal
@@ -13,8 +14,9 @@ pub loop-i-preserved : goal.loop-i-preserved
 loop-i-preserved c =
     let a = c.args in
     let l : length a.bytes ≡ 192 = search rules in
+    let h : c.loop-i.i < a.n = omega (arith, c.loop-i-test.true, length-take-le a.n a.bytes (omega arith)) in
     passed_one a.out.now a.n a.bytes (omega arith) (omega arith) c.loop-i.out c.put_hex.new.out c.loop-i.i
-    c.loop-i.invariant c.loop-i-test.true c.put_hex.ensures
+    c.loop-i.invariant h (rw (c.from.ensures, get_or-take a.n a.bytes c.loop-i.i 0 h) at c.put_hex.ensures)
 
 pub shape_of-out : goal.shape_of-out
 shape_of-out c = c.loop-i.invariant.same
@@ -23,4 +25,5 @@ pub returns : goal.returns
 returns c =
     let a = c.args in
     let l : length a.bytes ≡ 192 = search rules in
-    passed_all a.out.now a.n a.bytes (omega arith) (omega arith) c.loop-i.out c.loop-i.i c.loop-i.invariant (omega arith)
+    passed_all a.out.now a.n a.bytes (omega arith) (omega arith) c.loop-i.out c.loop-i.i c.loop-i.invariant
+    (omega (arith, c.loop-i-test.false, length-take-le a.n a.bytes (omega arith)))

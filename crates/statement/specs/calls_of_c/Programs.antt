@@ -2,7 +2,7 @@
 -- buffer of at least 65,536 bytes: the replies where record and replies have at most so many, else FF0B and 0A; they stand over the buffer's start. Of
 -- `trace` what stands before and below each reply, at any place with room for it: all other bytes stay. And a line that is no frame reads as zeros.
 -- Each function meets its contract, and asks the room alone that is named.
-use Rattle.std.specs.Prelude.{ℕ, ◌+◌, ◌≤◌, ◌<◌, ◌≡◌, refl, Bool, true, false, ◌&&◌, List, [], ◌∷◌, ◌++◌, leb, eqb, length, take, drop, replicate}
+use Rattle.std.specs.Prelude.{ℕ, ◌+◌, ◌≤◌, ◌<◌, ◌≡◌, refl, Bool, true, false, ◌&&◌, List, [], ◌∷◌, ◌++◌, leb, eqb, length, take, drop, replicate, Option, Result}
 use Rattle.std.proofs.Common.{sym, ap, ◌∙◌, ⊎_elim}
 use Rattle.std.proofs.Math.Option.{none, some-ne-none}
 use borrow.Author.Tests.{le-leb, lt-leb, eqb-true, eqb-false}
@@ -15,11 +15,12 @@ use Rattle.rules_numbers.specs.Tails.{laid}
 use Rattle.rules_format.specs.Hex.{char_of, digits}
 use Rattle.rules_format.specs.Fields.{read}
 use Rattle.rules_replies.specs.Replies.{answer_line, replies}
-use Rattle.engine_settling.specs.declared.Settled.{Settled}
+use Rattle.engine_refusals.specs.declared.Refusal.{Refusal}
+use Rattle.engine_looks.specs.declared.readings.Preview.{Preview}
+use Rattle.engine_settling.specs.declared.Settlement.{Settlement}
 use Rattle.trace_text.specs.decimal_text.Puts.{Puts}
 use Rattle.trace_text.specs.settling_text.SettledLines.{settled_lines}
 use Rattle.trace_text.specs.Words.{closed_lines, preview_line, point_line, lines_before, lines_below}
-use Rattle.trace_text.specs.declared.PreviewShown.{PreviewShown}
 use Rattle.trace_text.specs.WordsLaws.{before_closing, before_other, below_refused, below_closing, below_settling, below_other}
 use Rattle.record_replay.specs.Replayed.{printed}
 use Rattle.frame_reading.specs.frames.Decoded.{call_in, Zero, call_some}
@@ -96,12 +97,12 @@ pub record TraceStated (M : Type 1) : Type 2 where
       Puts (point_line x.1.1.0 x.1.1.1.0 x.1.1.1.1.0) 100 x.0.now y.0.now x.1.0 r
   -- before a closing's reply its preview, and before no other a line
   pub lines_before_lem :
-      (kind : ℕ) (p : PreviewShown) → (kind ≡ 5 → lines_before kind p ≡ preview_line p) × ((kind ≡ 5 → ⊥) → lines_before kind p ≡ [])
+      (kind : ℕ) (p : Option (Result Preview Refusal)) → (kind ≡ 5 → lines_before kind p ≡ preview_line p) × ((kind ≡ 5 → ⊥) → lines_before kind p ≡ [])
   -- below an accepted closing's or settling's what it says, and below no other a line
   pub lines_below_lem :
-      (kind : ℕ) (p : PreviewShown) (accepted : Bool) (s : Settled) (awards : List ℕ) →
+      (kind : ℕ) (p : Option (Result Preview Refusal)) (accepted : Bool) (s : Option Settlement) (awards : List ℕ) →
       (accepted ≡ false → lines_below kind accepted p s awards ≡ [])
-      × (accepted ≡ true → kind ≡ 5 → lines_below kind accepted p s awards ≡ closed_lines p.excess p.remainder)
+      × (accepted ≡ true → kind ≡ 5 → lines_below kind accepted p s awards ≡ closed_lines p)
       × (accepted ≡ true → kind ≡ 6 → lines_below kind accepted p s awards ≡ settled_lines s awards)
       × ((kind ≡ 5 → ⊥) → (kind ≡ 6 → ⊥) → lines_below kind accepted p s awards ≡ [])
   -- a text at a place: one place behind it and one buffer

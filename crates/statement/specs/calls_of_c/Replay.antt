@@ -26,8 +26,7 @@ use Rattle.rules_replies.specs.Replies.{answer_line, award_room, reply_to, repli
 use Rattle.rules_replies.specs.Lengths.{flat_digits, six}
 use Rattle.rules_replies.specs.record_calls.Calls.{asked_calls}
 use Rattle.rules_replies.specs.record_calls.CallLaws.{after_asked}
-use Rattle.engine_settling.specs.Settles.{refused_with, settled_as}
-use Rattle.engine_settling.specs.declared.Settled.{Settled}
+use Rattle.engine_settling.specs.Settles.{Settled, refused_with, settled_as}
 use Rattle.reply_values.specs.ShowsLaws.{refused_line}
 use Rattle.record_replay.specs.Replayed.{hosted, over}
 use Rattle.statement.specs.settling.Stated.{Stated}

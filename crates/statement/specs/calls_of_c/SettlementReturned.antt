@@ -15,8 +15,7 @@ use Rattle.rules_auction.specs.Rounds.{ledger}
 use Rattle.rules_auction.specs.Award.{admissible}
 use Rattle.rules_auction.specs.Settling.{Settlement, records, settlement, settling_refusal}
 use Rattle.rules_seats.specs.figures.Figures.{lent_after, one_if, settlement_figures, award_bytes, settlement_refusal}
-use Rattle.engine_settling.specs.Settles.{refused_with, settled_as}
-use Rattle.engine_settling.specs.declared.Settled.{Settled}
+use Rattle.engine_settling.specs.Settles.{Settled, refused_with, settled_as}
 use Rattle.record_replay.specs.host_numbers.HostNumbers.{value_answer, host_number}
 use Rattle.statement.specs.settling.Stated.{Within, Stated}
 use Rattle.statement.specs.settling.StatedLaws.{open_number, outnumbered, too_short, fitting, stated_taken, stated_refused}

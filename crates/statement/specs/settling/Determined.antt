@@ -18,8 +18,7 @@ use Rattle.rules_auction.specs.Second.{second_price}
 use Rattle.rules_auction.specs.Participation.{sufficient, grants, price_paid}
 use Rattle.rules_auction.specs.Settling.{records, settlement_at, settlement}
 use Rattle.laws_ledger.specs.reachable.AcceptedCalls.{accepted_calls, same_accepted}
-use Rattle.engine_settling.specs.Settles.{refused_with, settled_as}
-use Rattle.engine_settling.specs.declared.Settled.{Settled}
+use Rattle.engine_settling.specs.Settles.{Settled, refused_with, settled_as}
 use Rattle.statement.specs.settling.Stated.{Within, Fit, Accepted, Stated}
 
 -- an accepted answer is the ledger's settlement: place by place at its price, and its price is the ledger's

@@ -7,7 +7,7 @@ use mathlib.Core.List.{List, [], ◌∷◌, ◌++◌, map, map-append, append_as
 use Rattle.std.proofs.lemmas.List.{length-map}
 use Rattle.std.proofs.Math.Seq.{take-append_seam}
 use Rattle.rules_numbers.specs.Cases.{clash}
-use Rattle.rules_auction.specs.Ledger.{Step, Standing, none, made, Developer, Phase, Fresh, Ready, Round, Between, Closed, Ledger, nobody}
+use Rattle.rules_auction.specs.Ledger.{Step, Standing, none, made, Developer, Ledger, nobody, with_developers}
 use Rattle.rules_auction.specs.Clearing.{of_each}
 use Rattle.rules_auction.specs.Refusals.{is_number}
 use Rattle.rules_auction.specs.CheckLaws.{is_number_lem}
@@ -16,25 +16,11 @@ use Rattle.laws_ledger.specs.Sound.{prices_of, levels_of, Sound}
 use Rattle.engine_held.specs.levels.Held.{no_levels, held_levels, levels_in}
 use Rattle.engine_held.specs.history.Held.{held_history}
 use Rattle.engine_held.specs.declared.history.History.{History}
-use Rattle.engine_auction.specs.Holds.{held_phase, held_course, held_auction}
+use Rattle.engine_checks.specs.clock.Reading.{clock_in}
+use Rattle.engine_checks.specs.clock.ReadingLaws.{phase_read}
+use Rattle.engine_auction.specs.Holds.{held_course, held_auction}
 use Rattle.engine_moves.specs.closing_entries.Places.{each_at}
 use Rattle.engine_auction.specs.declared.Auction.{Auction}
-
--- ---- phases
-
-abbrev phase_in : ℕ → Phase
-phase_in zero = Fresh
-phase_in (suc zero) = Ready
-phase_in (suc (suc zero)) = Round
-phase_in (suc (suc (suc zero))) = Between
-phase_in (suc (suc (suc (suc n)))) = Closed
-
-phase_back : (p : Phase) → phase_in (held_phase p) ≡ p
-phase_back Fresh = refl
-phase_back Ready = refl
-phase_back Round = refl
-phase_back Between = refl
-phase_back Closed = refl
 
 -- ---- histories
 
@@ -157,18 +143,12 @@ module _ (l : Ledger) (n : ℕ) where
 -- ---- the ledger
 
 abbrev ledger_in : Auction → Ledger
-ledger_in a = record {
-  phase = phase_in a.phase;
-  settings = record { ce = a.settings.ce; d = a.settings.d; m1 = a.settings.m1; m2 = a.settings.m2; a = a.settings.a };
-  opening = a.opening;
-  closing = a.closing;
-  developers = developer_in a;
-}
+ledger_in a = with_developers (clock_in a.clock) (developer_in a)
 
 read_back : (l : Ledger) → Sound l → ledger_in (held_auction l) ≡ l
 unfolding held_auction
 read_back l s = λ i. record {
-  phase = phase_back l.phase i;
+  phase = phase_read l.phase i;
   settings = l.settings;
   opening = l.opening;
   closing = l.closing;

@@ -15,8 +15,7 @@ use Rattle.rules_auction.specs.Second.{taken_out, remaining, short, second_price
 use Rattle.rules_auction.specs.Participation.{grants, new_award, new_to_small, sufficient, price_paid}
 use Rattle.rules_auction.specs.Settling.{records}
 use Rattle.laws_ledger.specs.awards.ParticipationLaws.{Recorded}
-use Rattle.engine_settling.specs.Settles.{refused_with}
-use Rattle.engine_settling.specs.declared.Settled.{Settled}
+use Rattle.engine_settling.specs.Settles.{Settled, refused_with}
 use Rattle.statement.specs.settling.AwardRecords.{awarded_level, Goes, first_byte, quantity_of, ByRisingProject}
 
 -- the admissible choices do not outnumber the limit, capped at 65,536

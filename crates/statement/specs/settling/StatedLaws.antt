@@ -27,8 +27,7 @@ use Rattle.laws_ledger.specs.awards.Winners.{winner_open, winner_preferred, awar
 use Rattle.engine_auction.specs.Holds.{held_auction}
 use Rattle.engine_auction.specs.declared.Auction.{Auction}
 use Rattle.rules_numbers.specs.Tails.{laid}
-use Rattle.engine_settling.specs.Settles.{Settles, refused_with, settled_as}
-use Rattle.engine_settling.specs.declared.Settled.{Settled}
+use Rattle.engine_settling.specs.Settles.{Settled, Settles, refused_with, settled_as}
 use Rattle.statement.specs.settling.AwardRecords.{awarded_level, first_byte, quantity_of}
 use Rattle.statement.specs.settling.RecordOrder.{records_rise}
 use Rattle.statement.specs.settling.RecordsInWords.{records_each}

@@ -31,7 +31,7 @@ use Rattle.laws_ledger.specs.Sound.{Sound}
 use Rattle.laws_ledger.specs.reachable.Reachable.{sound}
 use Rattle.laws_ledger.specs.clearing.ClosingPrice.{closed_started, covered_rises}
 use Rattle.laws_ledger.specs.clearing.Second.{remaining_part}
-use Rattle.engine_settling.specs.declared.Settled.{Settled}
+use Rattle.engine_settling.specs.Settles.{Settled}
 use Rattle.statement.specs.settling.AwardRecords.{quantity_of, granted}
 use Rattle.statement.specs.settling.RecordsInWords.{RecordEach, records_decided, award_recorded, quantities_are, grants_are}
 use Rattle.statement.specs.settling.Stated.{Accepted, Stated}

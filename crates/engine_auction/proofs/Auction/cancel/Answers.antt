@@ -1,11 +1,21 @@
 -- A cancellation, decided over its developer's entry.
+use mathlib.Core.Path.{refl}
+use Rattle.std.proofs.lemmas.Result.{err_from_is_err_and}
 use Rattle.rules_auction.specs.Ledger.{Cancel}
-use Rattle.engine_auction.proofs.Moving.{move_called}
+use Rattle.engine_refusals.specs.NumberLaws.{number_not_0}
+use Rattle.engine_auction.proofs.Moving.{move_refused, move_taken}
 use Rattle.engine_auction.proofs.Auction.cancel.Goals as goal
+
+pub returns-in_err-history : goal.returns-in_err-history
+returns-in_err-history c =
+    let p = err_from_is_err_and c.from_residual.result c.from_residual.ensures.1 in
+    let s = c.args in
+    rw (p.1, p.2) (move_refused s.developer Cancel s.self c.place-place.result _ _ c.place-place.ensures.0
+    c.entry.ensures (c.in_err-history.ensures _ c.is_number-numbered.ensures) (number_not_0 _))
 
 pub returns : goal.returns
 returns c =
     let s = c.args in
-    rw c.with_move.ensures
-    (move_called s.developer Cancel _ c.place-place.result _ _ c.place-place.ensures.0
-    (c.cancelled-moved.ensures _ _ _ _ _ _ c.is_number-numbered.ensures))
+    rw c.with_history.ensures
+    (move_taken s.developer Cancel s.self c.place-place.result _ _ c.place-place.ensures.0
+    c.entry.ensures (c.in_ok-history.ensures _ c.is_number-numbered.ensures) refl)

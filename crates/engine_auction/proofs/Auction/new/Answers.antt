@@ -12,10 +12,7 @@ use Rattle.engine_auction.proofs.Auction.new.Goals as goal
 pub returns : goal.returns
 unfolding held_auction ledger step_all
 returns c = λ i. record {
-  phase = 0;
-  settings = record { ce = 0; d = 0; m1 = 0; m2 = 0; a = 0 };
-  opening = 0;
-  closing = 0;
+  clock = c.new.ensures i;
   projects = fresh_places (λ x. x.declared.project) 0 refl i;
   kinds = fresh_places (λ x. x.declared.kind) 0 refl i;
   agents = fresh_places (λ x. x.agent) 0 refl i;
@@ -24,5 +21,5 @@ returns c = λ i. record {
   quantities = fresh_places (λ x. x.quantity) 0 refl i;
   declared = fresh_places (λ x. held_levels x.declared.levels) c.none-none.result c.none-none.ensures i;
   histories = fresh_places held_course c.new-empty.result c.new-empty.ensures i;
-  curve = (c.new-curve.ensures ∙ ap held_curve (sym (curve_empty start (λ n. refl)))) i;
+  curve = (c.new-2.ensures ∙ ap held_curve (sym (curve_empty start (λ n. refl)))) i;
 }

@@ -1,18 +1,28 @@
 -- `preferred` is `better`: the study values decide where they differ, else the start days.
-use Rattle.engine_award.proofs.awarding.Preferring.{first_one, lower_study, higher_study, earlier_day, no_earlier_day}
+use Rattle.std.proofs.Common.{◌≡◌, ◌∙◌, arith}
+use borrow.Author.Tests.{lt-ltb, le-ltb, eq-eqb, ne_eqb}
+use Rattle.engine_award.proofs.awarding.Preferring.{first_one, later_wins, by_tests}
 use Rattle.engine_award.proofs.awarding.preferred.Goals as goal
+use Rattle.engine_award.proofs.awarding.preferred.Goals.{Joined-studies-j, then-studies-j, else-studies-j+then-studies-i, else-studies-j+else-studies-i}
 
-pub returns-then-m-lt1 : goal.returns-then-m-lt1
-returns-then-m-lt1 c = first_one _ _ _ _ c.if-m-lt1.true
+-- the test of the branch
+tested :
+    (c : Joined-studies-j) →
+    let a = c.args in
+    later_wins a.auction.now.studies a.auction.now.days a.m a.i ≡ c.if-studies-j.value
+tested c =
+    let j = c.from-j.ensures in
+    elim c.if-studies-j.branch [
+      | then-studies-j w ↦ rw (rw j at w.value-is, lt-ltb _ _ (rw j at w.if-studies-j.true))
+      | else-studies-j+then-studies-i w ↦ rw (rw j at w.value-is, le-ltb _ _ (rw j at w.if-studies-j.false), eq-eqb _ _ (rw j at w.if-studies-i.true))
+      | else-studies-j+else-studies-i w ↦ rw (rw j at w.value-is, le-ltb _ _ (rw j at w.if-studies-j.false), ne_eqb _ _ (rw j at w.if-studies-i.false))
+    ]
 
-pub returns-then-studies-i-2 : goal.returns-then-studies-i-2
-returns-then-studies-i-2 c = lower_study _ _ _ _ c.if-m-lt1.false c.if-studies-i-2.true
-
-pub returns-then-studies-i : goal.returns-then-studies-i
-returns-then-studies-i c = higher_study _ _ _ _ c.if-m-lt1.false c.if-studies-i.true c.if-studies-i-2.false
+pub returns-then-m-eq0 : goal.returns-then-m-eq0
+returns-then-m-eq0 c = first_one _ _ _ _ (omega arith)
 
 pub returns-then-days-i : goal.returns-then-days-i
-returns-then-days-i c = earlier_day _ _ _ _ c.if-m-lt1.false c.if-studies-i.false c.if-days-i.true
+returns-then-days-i c = by_tests _ _ _ _ _ c.if-m-eq0.false (tested (goal.at.returns-then-days-i c).Joined-studies-j ∙ c.if-days-i.true)
 
-pub returns : goal.returns
-returns c = no_earlier_day _ _ _ _ c.if-m-lt1.false c.if-studies-i.false c.if-days-i.false
+pub returns-else-days-i : goal.returns-else-days-i
+returns-else-days-i c = by_tests _ _ _ _ _ c.if-m-eq0.false (tested (goal.at.returns-else-days-i c).Joined-studies-j ∙ c.if-days-i.false)

@@ -1,6 +1,6 @@
 -- `existing_levels`: the loop keeps the sum over the first i developers, each below 2^32.
 use mathlib.Core.Path.{sym, ◌∙◌}
-use Rattle.std.proofs.Common.{rules}
+use Rattle.std.proofs.Common.{arith, rules}
 use Rattle.rules_numbers.specs.Numbered.{at_number}
 use Rattle.rules_numbers.specs.Lists.{one_to, last_or}
 use Rattle.rules_numbers.specs.Sums.{total_kept}
@@ -14,11 +14,11 @@ loop-i-init c = summing_first _
 
 pub loop-i-preserved : goal.loop-i-preserved
 unfolding at_number
-loop-i-preserved c = summing_next _ _ _ c.loop-i.invariant _ c.loop-i-test.true (search rules) c.existing_level-level.ensures
+loop-i-preserved c = summing_next _ _ _ c.loop-i.invariant _ (omega arith) (search rules) (c.from-sum.ensures ∙ c.existing_level.ensures)
 
 pub returns : goal.returns
 unfolding existing_plants last_or
 returns c =
     let a = c.args in
-    let e = summing_end _ _ _ c.loop-i.invariant c.loop-i-test.false in
-    (e.0 ∙ sym (total_kept (at_number a.highest) (is_plant a.agents a.kinds a.agent) (one_to 32)), e.1)
+    let e = summing_end _ _ _ c.loop-i.invariant (omega arith) in
+    (e.0 ∙ sym (total_kept (at_number a.highest) (is_plant a.auction.now.agents a.auction.now.kinds a.agent) (one_to 32)), e.1)

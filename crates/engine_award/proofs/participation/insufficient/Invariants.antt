@@ -1,5 +1,5 @@
 -- `insufficient`: the loop keeps what of the first i levels is new, and what of that is given to small agents.
-use Prim.Native.Nat.{ℕ, ◌-◌}
+use Prim.Native.Nat.{ℕ}
 use mathlib.Core.Bool.{Bool, ◌&&◌}
 use mathlib.Core.List.{List}
 use lib.Dec.{eqb}
@@ -19,7 +19,7 @@ abbrev pub is_new_small : ℕ → List ℕ → List ℕ → List ℕ → ℕ →
 is_new_small d agents kinds highest n = is_new_one kinds n && is_small (judged_in d agents kinds highest) (at_number agents n)
 
 abbrev pub invariant-loop-i : goal.invariant-loop-i
-invariant-loop-i l = Summing (level_to (is_new_one l.kinds) l.award l.winners) l.new_award l.i × Summing (level_to (is_new_small l.d l.agents l.kinds l.highest) l.award l.winners) l.to_small l.i
-
-abbrev pub decreases-loop-i : goal.decreases-loop-i
-decreases-loop-i l = 32 - l.i
+invariant-loop-i l =
+    let a = l.auction in
+    Summing (level_to (is_new_one a.kinds) l.award l.winners) l.new_award l.i
+    × Summing (level_to (is_new_small a.clock.settings.d a.agents a.kinds l.highest) l.award l.winners) l.to_small l.i

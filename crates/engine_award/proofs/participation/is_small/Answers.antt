@@ -10,5 +10,5 @@ use Rattle.engine_award.proofs.participation.is_small.Goals as goal
 pub returns : goal.returns
 unfolding is_small existing_plants
 returns c =
-    let d = c.args.d in
+    let d = c.args.auction.now.clock.settings.d in
     by_quotient (100 * c.existing_levels.result) 15 d (omega arith) ∙ ap (λ (n : ℕ). ltb (100 * n) (15 * d)) c.existing_levels.ensures.0

@@ -1,16 +1,14 @@
 -- The two lengths, the number of steps, then the prices.
-use borrow.Author.Tests.{le-leb, lt-leb, eq-eqb, ne_eqb}
-use Rattle.rules_auction.specs.Refusals.{prices_ok}
+use mathlib.Core.Path.{◌≡◌}
+use Rattle.std.proofs.Common.{arith}
+use Rattle.std.proofs.lemmas.Grind.{common_steps}
+use Rattle.rules_auction.specs.Refusals.{falling, prices_ok}
+use Rattle.engine_checks.proofs.step_checks.PricesThatFall.{as_numbers}
 use Rattle.engine_checks.proofs.step_checks.prices_ok.Goals as goal
 
-pub returns-then-prices-levels : goal.returns-then-prices-levels
+pub returns-then-prices-le-MOST : goal.returns-then-prices-le-MOST
 unfolding prices_ok
-returns-then-prices-levels c = simp (ne_eqb _ _ c.if-prices-levels.true)
-
-pub returns-then-prices-gt-MOST : goal.returns-then-prices-gt-MOST
-unfolding prices_ok
-returns-then-prices-gt-MOST c = simp (eq-eqb _ _ c.if-prices-levels.false, lt-leb _ _ c.if-prices-gt-MOST.true)
-
-pub returns : goal.returns
-unfolding prices_ok
-returns c = simp (eq-eqb _ _ c.if-prices-levels.false, le-leb _ _ c.if-prices-gt-MOST.false) c.prices_fall.ensures
+returns-then-prices-le-MOST c =
+    let s = c.args in
+    let f : c.prices_fall.result ≡ falling c.from.result c.from-then-prices-le-MOST.result s.prices.now = as_numbers _ _ _ _ c.prices_fall.ensures in
+    grind (arith, common_steps)

@@ -1,10 +1,7 @@
--- `may_join` is the test `joins`: the loop keeps that the developers that are left allow it exactly if all do.
-use Prim.Native.Nat.{◌-◌}
+-- `may_join` is the test `joins`: the loop keeps that what is left says what all say.
+use Rattle.std.proofs.Common.{length}
 use Rattle.engine_held.proofs.supply.Joining.{Joining}
 use Rattle.engine_held.proofs.supply.may_join.Given as goal
 
-abbrev pub invariant-loop-i : goal.invariant-loop-i
-invariant-loop-i l = Joining l.projects l.kinds l.project l.kind l.i
-
-abbrev pub decreases-loop-i : goal.decreases-loop-i
-decreases-loop-i l = 32 - l.i
+abbrev pub invariant-loop-other : goal.invariant-loop-other
+invariant-loop-other l = Joining l.fn.projects l.fn.kinds l.project l.kind (length l.yielded)

@@ -1,12 +1,10 @@
 -- `last_level` reads the last place of the withdrawals.
-use Rattle.engine_held.proofs.withdrawals.Reading.{no_last, too_long_lem, last_level_lem}
+use Rattle.std.proofs.Common.{arith}
+use Rattle.engine_held.proofs.withdrawals.Reading.{no_last, last_level_lem}
 use Rattle.engine_held.proofs.withdrawals.last_level.Goals as goal
 
-pub returns-then-n-lt1 : goal.returns-then-n-lt1
-returns-then-n-lt1 c = no_last _ _ c.if-n-lt1.true
+pub returns-then-history-eq0 : goal.returns-then-history-eq0
+returns-then-history-eq0 c = no_last _ _ c.if-history-eq0.true
 
-pub returns-then-n-gt-MOST : goal.returns-then-n-gt-MOST
-returns-then-n-gt-MOST c = too_long_lem _ _ c.if-n-gt-MOST.true
-
-pub returns : goal.returns
-returns c = last_level_lem _ _ c.if-n-lt1.false
+pub returns-else-history-eq0 : goal.returns-else-history-eq0
+returns-else-history-eq0 c = last_level_lem _ _ _ (omega arith) (λ h. omega arith)

@@ -1,29 +1,38 @@
 -- `level_at` goes through the withdrawals: the quantity read so far and those left give the level.
-use Rattle.std.proofs.Common.{◌<◌, arith}
+use Rattle.std.proofs.Common.{rules, arith, ◌≡◌, ◌<◌, ◌∙◌, ℕ, refl, get_or, length, length-append, length-take, take, get_or-take}
+use Rattle.std.proofs.lemmas.Slice.Zip.{zip_turn, zip_end}
 use Rattle.engine_held.proofs.withdrawals.Reading.{level_first, level_taken, level_passed, level_end}
 use Rattle.engine_held.proofs.withdrawals.level_at.Goals as goal
-use Rattle.engine_held.proofs.withdrawals.level_at.Goals.{Else-n-i, then-p-history, else-p-history}
+use Rattle.engine_held.proofs.withdrawals.level_at.Goals.{In-Some}
 
-pub loop-i-init : goal.loop-i-init
-loop-i-init c = level_first _ _ _
+-- this turn's withdrawal
+turn :
+    (c : In-Some) → let i = length c.loop-price.yielded in let h = c.args.history in
+    (i < 8) × (i < h.count) × (c.in-Some.price.now ≡ get_or h.prices i 0) × (c.in-Some.level.now ≡ get_or h.levels i 0)
+turn c =
+    let h = c.args.history in
+    let n = c.min-n.result in
+    let i = length c.loop-price.yielded in
+    let z = zip_turn (take n h.prices) (take n h.levels) c.loop-price.yielded _ _ c.next.new.self _ (search rules) (search rules) c.loop-price.yielded_by (c.in-Some.price, c.in-Some.level) refl c.in-Some.ensures.steps in
+    let w : i < n = omega (arith, z.0, length-take {A = ℕ}) in
+    (omega (arith, c.min-n.ensures), omega (arith, c.min-n.ensures), z.2 0 ∙ get_or-take n h.prices i 0 w, z.3 0 ∙ get_or-take n h.levels i 0 w)
 
-pub returns-then-n-i : goal.returns-then-n-i
-returns-then-n-i c = level_end _ _ _ _ _ c.loop-i.invariant (λ k. omega arith)
+pub loop-price-init : goal.loop-price-init
+loop-price-init c = level_first _ _ _
 
--- a withdrawal is read, not a step behind them
-a_withdrawal : (c : Else-n-i) → c.loop-i.i < c.args.history.count
-a_withdrawal c = c.if-n-i.false
+pub loop-price-preserved : goal.loop-price-preserved
+loop-price-preserved c =
+    let t = turn (goal.at.loop-price-preserved c).In-Some in
+    rw length-append (level_passed _ _ _ _ _ c.loop-price.invariant t.0 t.1 (rw t.2 at c.if-p-price.false))
 
--- a withdrawal that is passed over is below p
-pub loop-i-preserved : goal.loop-i-preserved
-loop-i-preserved c =
-    let i = c.loop-i.invariant in
-    let t = c.loop-i-test.true in
-    let n = a_withdrawal (goal.at.loop-i-preserved c).Else-n-i in
-    elim c.if-p-history.branch [
-      | then-p-history w ↦ rw w.q-is (level_taken _ _ _ _ _ i t n w.if-p-history.true)
-      | else-p-history w ↦ rw w.q-is (level_passed _ _ _ _ _ i t n w.if-p-history.false)
-    ]
+pub loop-price-preserved-then-p-price : goal.loop-price-preserved-then-p-price
+loop-price-preserved-then-p-price c =
+    let t = turn (goal.at.loop-price-preserved-then-p-price c).In-Some in
+    rw (length-append, t.3) (level_taken _ _ _ _ _ c.loop-price.invariant t.0 t.1 (rw t.2 at c.if-p-price.true))
 
 pub returns : goal.returns
-returns c = level_end _ _ _ _ _ c.loop-i.invariant (λ k. omega arith)
+returns c =
+    let h = c.args.history in
+    let n = c.min-n.result in
+    let end = zip_end (take n h.prices) (take n h.levels) c.loop-price.yielded _ _ c.next.new.self _ (search rules) (search rules) c.loop-price.yielded_by refl c.in-None.ensures.steps in
+    level_end _ _ _ _ _ c.loop-price.invariant (λ k. omega (arith, end, length-take {A = ℕ}))

@@ -1,15 +1,15 @@
 -- Refused by its number; else the list alone.
+use mathlib.Core.Path.{refl}
+use Rattle.std.proofs.lemmas.Result.{err_from_is_err_and}
+use Rattle.engine_refusals.specs.NumberLaws.{number_not_0}
 use Rattle.engine_moves.proofs.moves.Lodging.{lodge_refused, lodge_taken}
 use Rattle.engine_moves.proofs.moves.lodged.Goals as goal
 
-pub returns-then-number-ne0 : goal.returns-then-number-ne0
-returns-then-number-ne0 c = λ o k q n e.
+pub returns-in_err-check_lodging : goal.returns-in_err-check_lodging
+returns-in_err-check_lodging c =
+    let p = err_from_is_err_and c.from_residual.result c.from_residual.ensures.1 in
     let x = c.args in
-    lodge_refused x.phase x.settings o k x.kind x.declared q x.history n _ e x.prices.now x.levels.now
-    _ c.lodge_refusal-number.ensures c.if-number-ne0.true
+    rw (p.1, p.2) (λ n e. lodge_refused x.clock.now x.entry.now n _ e x.prices.now x.levels.now _ c.in_err-check_lodging.ensures (number_not_0 _))
 
 pub returns : goal.returns
-returns c = λ o k q n e.
-    let x = c.args in
-    lodge_taken x.phase x.settings o k x.kind x.declared q x.history n _ e x.prices.now x.levels.now
-    _ c.lodge_refusal-number.ensures c.if-number-ne0.false _ c.lodge-next.ensures
+returns c = λ n e. let x = c.args in lodge_taken x.clock.now x.entry.now n _ e x.prices.now x.levels.now _ c.in_ok-check_lodging.ensures refl _ c.lodge.ensures

@@ -1,17 +1,18 @@
--- Developer by developer, up to the first that is taken out.
-use mathlib.Core.Path.{sym, ◌∙◌}
-use Rattle.std.proofs.Common.{arith}
-use Rattle.engine_price.proofs.second_price.Taking.{none_first, none_next, none_all, some_taken}
+-- No pair of a kind and a history is of a developer that is taken out.
+use Rattle.std.proofs.Common.{ℕ, ◌≡◌, true, false, rules}
+use borrow.Author.Tests.{tests}
+use Rattle.std.proofs.lemmas.Iterator.{cases_from_all, YieldsList-from_slice, YieldsList-from_zip}
+use Rattle.rules_auction.specs.Second.{lodged_applied}
+use Rattle.engine_held.specs.declared.history.History.{History}
+use Rattle.engine_price.specs.second_price.Taken.{plant_in}
+use Rattle.engine_price.proofs.second_price.Taking.{none_read}
 use Rattle.engine_price.proofs.second_price.none_taken_out.Goals as goal
 
-pub loop-i-init : goal.loop-i-init
-loop-i-init c = none_first _ _
-
-pub returns-then-is_taken_out : goal.returns-then-is_taken_out
-returns-then-is_taken_out c = some_taken _ _
-
-pub loop-i-preserved : goal.loop-i-preserved
-loop-i-preserved c = none_next _ _ _ _ c.loop-i.invariant (omega arith) (sym c.is_taken_out.ensures ∙ c.if-is_taken_out.false)
-
 pub returns : goal.returns
-returns c = none_all _ _ _ c.loop-i.invariant (omega arith)
+returns c =
+    let a = c.args.auction.now in
+    none_read a.kinds a.histories c.all.result _ (cases_from_all c.all.new.self _ _
+    (λ (x : ℕ × History). lodged_applied (plant_in x.0 x.1.count) ≡ false)
+    (λ (x : ℕ × History). lodged_applied (plant_in x.0 x.1.count) ≡ true)
+    c.all.ensures.ran (YieldsList-from_zip (YieldsList-from_slice a.kinds (cc)) (YieldsList-from_slice a.histories (cc)))
+    (λ x q k. search (rules, tests)) (λ x q k. search (rules, tests)))

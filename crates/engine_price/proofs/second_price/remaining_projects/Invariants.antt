@@ -4,7 +4,7 @@ use Rattle.engine_price.proofs.second_price.Taking.{RemainTurn}
 use Rattle.engine_price.proofs.second_price.remaining_projects.Given as goal
 
 abbrev pub invariant-loop-i : goal.invariant-loop-i
-invariant-loop-i l = RemainTurn l.projects l.kinds l.histories l.out l.i
+invariant-loop-i l = RemainTurn l.auction.projects l.auction.kinds l.auction.histories l.out l.i
 
 abbrev pub decreases-loop-i : goal.decreases-loop-i
 decreases-loop-i l = 32 - l.i

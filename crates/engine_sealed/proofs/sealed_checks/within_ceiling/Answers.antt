@@ -1,19 +1,12 @@
--- The prices at the places that are left are at most the ceiling exactly where all are.
-use mathlib.Core.Path.{sym, ap}
-use borrow.Author.Tests.{le-leb, lt-leb}
-use Rattle.rules_numbers.specs.Lists.{all}
-use Rattle.engine_sealed.specs.sealed_checks.Listed.{listed}
-use Rattle.engine_sealed.proofs.sealed_checks.EveryPlace.{before_all, fails_here, passes_here, passes_all}
+-- The test of every price.
+use lib.Dec.{leb}
+use Rattle.std.proofs.Common.{rules, tests}
+use Rattle.std.proofs.lemmas.Iterator.{YieldsList-from_slice}
+use Rattle.std.proofs.lemmas.Iterator.Search.{all_from_yields_List}
+use Rattle.engine_sealed.proofs.sealed_checks.EveryPlace.{all_is}
 use Rattle.engine_sealed.proofs.sealed_checks.within_ceiling.Goals as goal
 
-pub loop-i-init : goal.loop-i-init
-loop-i-init c = before_all _ _ _ _ (ap (all _) (sym (listed _)))
-
-pub returns-then-ceiling-prices : goal.returns-then-ceiling-prices
-returns-then-ceiling-prices c = fails_here _ _ _ _ _ c.loop-i.invariant c.loop-i-test.true (lt-leb _ _ c.if-ceiling-prices.true)
-
-pub loop-i-preserved : goal.loop-i-preserved
-loop-i-preserved c = passes_here _ _ _ _ _ c.loop-i.invariant c.loop-i-test.true (le-leb _ _ c.if-ceiling-prices.false)
-
 pub returns : goal.returns
-returns c = passes_all _ _ _ _ _ c.loop-i.invariant c.loop-i-test.false
+returns c =
+    rw (all_is (λ p. leb p c.args.ceiling) c.args.prices.now)
+    (all_from_yields_List (λ p. leb p c.args.ceiling) _ _ _ c.all.ensures.ran (YieldsList-from_slice c.args.prices.now cc) (λ x b q k. search (rules, tests)))

@@ -3,7 +3,4 @@ use Rattle.engine_search.proofs.rows_behind.Looking.{Looking}
 use Rattle.engine_search.proofs.rows_behind.look_behind.Given as goal
 
 abbrev pub invariant-loop-i : goal.invariant-loop-i
-invariant-loop-i l = Looking l.levels l.ends l.order l.strides l.rows l.n l.low l.high l.i
-
-abbrev pub decreases-loop-i : goal.decreases-loop-i
-decreases-loop-i l = l.i
+invariant-loop-i l = Looking l.levels l.ends l.order l.strides l.rows l.ways l.lows l.highs l.i

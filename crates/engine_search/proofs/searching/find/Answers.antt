@@ -9,12 +9,6 @@ look_behind-rows-requires c = (c.requires.table, find_order c.requires c.args.de
 pub past_single-start-requires : goal.past_single-start-requires
 past_single-start-requires c = (c.requires.table, find_order c.requires c.args.demand c.search_order-order.ensures)
 
-pub offset_bounds-order-row : goal.offset_bounds-order-row
-offset_bounds-order-row c = omega (arith, c.past_single-start.ensures.place)
-
-pub bounds-order-row : goal.bounds-order-row
-bounds-order-row c = omega (arith, c.past_single-start.ensures.place)
-
 pub start_of-requires : goal.start_of-requires
 start_of-requires c = omega (arith, first_number c.requires c.args.demand c.search_order-order.ensures c.past_single-start.ensures)
 

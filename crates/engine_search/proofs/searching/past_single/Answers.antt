@@ -6,9 +6,6 @@ use Rattle.engine_search.proofs.searching.past_single.Goals as goal
 pub loop-place-init : goal.loop-place-init
 loop-place-init c = passed_first c.requires.0 c.requires.1
 
-pub bounds-order-place : goal.bounds-order-place
-bounds-order-place c = c.loop-place.invariant.place
-
 pub start_of-at-requires : goal.start_of-at-requires
 start_of-at-requires c = omega (arith, number c.requires.0 c.requires.1 c.loop-place.invariant)
 
@@ -21,9 +18,6 @@ bounds-ends-k c = number c.requires.0 c.requires.1 c.loop-place.invariant
 pub overflow_add-at : goal.overflow_add-at
 overflow_add-at c = omega (arith, c.start_of-at.ensures, row_inside c.requires.0 c.requires.1 c.loop-place.invariant)
 
-pub returns-then-at-end : goal.returns-then-at-end
-returns-then-at-end c = c.loop-place.invariant
-
 pub offset_bounds-levels-at : goal.offset_bounds-levels-at
 offset_bounds-levels-at c =
     omega (arith, c.start_of-at.ensures, row_inside c.requires.0 c.requires.1 c.loop-place.invariant)
@@ -32,25 +26,12 @@ pub bounds-levels-at : goal.bounds-levels-at
 bounds-levels-at c =
     omega (arith, c.start_of-at.ensures, row_inside c.requires.0 c.requires.1 c.loop-place.invariant)
 
-pub overflow_cast-base : goal.overflow_cast-base
-overflow_cast-base c =
-    rw c.start_of-at.ensures (omega (arith, level_fits c.requires.0 c.requires.1 c.loop-place.invariant))
-
 pub overflow_add-base : goal.overflow_add-base
 overflow_add-base c =
-    rw c.start_of-at.ensures
+    rw (c.from-base.ensures, c.start_of-at.ensures)
     (omega (arith, level_fits c.requires.0 c.requires.1 c.loop-place.invariant, c.loop-place.invariant.base_fits, c.loop-place.invariant.place))
-
-pub overflow_add-place : goal.overflow_add-place
-overflow_add-place c = omega (arith, c.loop-place.invariant.place)
-
-pub loop-place-smaller : goal.loop-place-smaller
-loop-place-smaller c = omega (arith, c.loop-place.invariant.place)
 
 pub loop-place-preserved : goal.loop-place-preserved
 loop-place-preserved c =
     let s = c.start_of-at.ensures in
-    rw s (passed_next c.requires.0 c.requires.1 c.loop-place.invariant (omega (arith, c.loop-place-test.true)) (omega (arith, s, c.if-at-end.false)))
-
-pub returns : goal.returns
-returns c = c.loop-place.invariant
+    rw (c.from-base.ensures, s) (passed_next c.requires.0 c.requires.1 c.loop-place.invariant (omega (arith, c.loop-place-test.true)) (omega (arith, s, c.if-at-end.false)))

@@ -34,7 +34,7 @@ strides c =
     c.strides_of-strides.ensures
 
 pub returns-then-not-is_valid : goal.returns-then-not-is_valid
-returns-then-not-is_valid c = rw c.refused.ensures (not_valid _ c.is_valid.ensures c.if-not-is_valid.true)
+returns-then-not-is_valid c = not_valid _ c.is_valid.ensures c.if-not-is_valid.true
 
 pub count_choices-counted-requires : goal.count_choices-counted-requires
 count_choices-counted-requires c =
@@ -42,8 +42,7 @@ count_choices-counted-requires c =
 
 pub returns-then-limit-counted : goal.returns-then-limit-counted
 returns-then-limit-counted c =
-    rw c.refused-then-limit-counted.ensures
-    (too_many (counted (goal.at.returns-then-limit-counted c).After-count_choices-counted) c.if-limit-counted.true)
+    too_many (counted (goal.at.returns-then-limit-counted c).After-count_choices-counted) c.if-limit-counted.true
 
 pub strides_of-strides-requires : goal.strides_of-strides-requires
 strides_of-strides-requires c = (

@@ -1,25 +1,20 @@
--- `with_more` follows `more` by its tests.
-use mathlib.Core.Path.{sym, ◌∙◌}
-use Rattle.std.proofs.Common.{arith}
-use Rattle.engine_search.specs.tally.TallyLaws.{more_above, more_below, more_later, more_earlier}
+-- `with_more` is `more`, whose tests it follows.
+use mathlib.Core.Path.{sym}
+use borrow.Author.Tests.{le-ltb, eq-eqb, ne_eqb}
+use Rattle.engine_search.specs.tally.Tally.{more}
+use Rattle.engine_search.specs.tally.TallyLaws.{more_above}
 use Rattle.engine_search.proofs.tally.with_more.Goals as goal
+use Rattle.engine_search.proofs.tally.with_more.Goals.{then-total-best, else-total-best}
 
 pub returns-then-best-total : goal.returns-then-best-total
-returns-then-best-total c =
-    let s = c.args in
-    c.set_aside.ensures ∙ sym (more_above s.n s.total s.index s.found (omega (arith, c.if-best-total.true)))
+returns-then-best-total c = sym (more_above c.args.n c.args.total c.args.index c.args.found c.if-best-total.true)
 
-pub returns-then-index-place : goal.returns-then-index-place
-returns-then-index-place c =
-    let s = c.args in
-    sym (more_earlier s.n s.total s.index s.found c.if-total-best.true (omega (arith, c.if-index-place.true)))
-
-pub returns-else-index-place : goal.returns-else-index-place
-returns-else-index-place c =
-    let s = c.args in
-    sym (more_later s.n s.total s.index s.found c.if-total-best.true (omega (arith, c.if-index-place.false)))
-
-pub returns-else-total-best : goal.returns-else-total-best
-returns-else-total-best c =
-    let s = c.args in
-    sym (more_below s.n s.total s.index s.found (omega (arith, c.if-total-best.false, c.if-best-total.false)))
+pub returns : goal.returns
+unfolding more
+returns c =
+    let t = c.args.total in
+    let best = c.args.found.total in
+    elim c.if-total-best.branch [
+      | then-total-best w ↦ rw (w.last-is, w.max-last.ensures, le-ltb best t c.if-best-total.false, eq-eqb t best w.if-total-best.true)
+      | else-total-best w ↦ rw (w.last-is, le-ltb best t c.if-best-total.false, ne_eqb t best w.if-total-best.false)
+    ]

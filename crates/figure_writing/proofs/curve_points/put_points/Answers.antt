@@ -1,50 +1,40 @@
 -- Each turn writes the three numbers of a point; the supply after it is that before the next.
-use Prim.Native.Nat.{◌+◌, ◌*◌, ◌<◌}
-use mathlib.Core.Path.{◌≡◌}
+use Prim.Native.Nat.{ℕ, min, ◌*◌, ◌≤◌}
+use mathlib.Core.Path.{◌≡◌, ap, ◌∙◌}
+use mathlib.Core.List.{List}
 use Rattle.std.proofs.Common.{arith}
-use lib.ListN.{length, length-set, length-take}
+use lib.ListN.{length, take, length-set, length-take}
 use Rattle.std.proofs.Common.{rules}
-use Rattle.figure_writing.proofs.curve_points.Pointing.{pointing_first, pointing_long, pointing_end, pointing_next}
+use Rattle.std.proofs.lemmas.List.{take_min}
+use Rattle.rules_numbers.specs.Tails.{laid}
+use Rattle.figure_writing.specs.curve_points.Points.{points_from}
+use Rattle.figure_writing.proofs.curve_points.Pointing.{pointing_first, pointing_end, pointing_next}
 use Rattle.figure_writing.proofs.curve_points.put_points.Goals as goal
-use Rattle.figure_writing.proofs.curve_points.put_points.Goals.{At-loop-i, Else-count-i}
+use Rattle.figure_writing.proofs.curve_points.put_points.Goals.{After-min}
+
+room : (c : After-min) → 3 * length (take c.min.result c.args.words) ≤ length c.args.points.now
+room c = omega (arith, length-take c.min.result c.args.words, c.min.ensures, c.requires)
 
 pub loop-i-init : goal.loop-i-init
-loop-i-init c = pointing_first _ _ _ _
-
-long : (c : At-loop-i) → length c.loop-i.points ≡ length c.args.points.now
-long c = pointing_long _ _ _ _ c.requires _ _ _ c.loop-i.invariant
-
-pub shape_of-points-then-count-i : goal.shape_of-points-then-count-i
-shape_of-points-then-count-i c = long (goal.at.shape_of-points-then-count-i c).At-loop-i
-
-pub returns-then-count-i : goal.returns-then-count-i
-returns-then-count-i c =
-    let a = c.args in
-    pointing_end _ _ _ _ c.requires _ _ _ c.loop-i.invariant (omega (arith, length-take a.count a.words, c.if-count-i.true))
-
--- the place of a point's last number
-room : (c : Else-count-i) → 3 * c.loop-i.i + 2 < length c.loop-i.points
-room c = omega (arith, long (goal.at.Else-count-i c).At-loop-i, c.requires, c.if-count-i.false)
+loop-i-init c = pointing_first _ _ _
 
 pub bounds-points-i : goal.bounds-points-i
-bounds-points-i c = omega (arith, room c)
+bounds-points-i c = omega (arith, room (goal.at.bounds-points-i c).After-min)
 
 pub bounds-points-i-in-loop-i : goal.bounds-points-i-in-loop-i
-bounds-points-i-in-loop-i c = simp length-set (omega (arith, room c))
+bounds-points-i-in-loop-i c = simp length-set (omega (arith, room (goal.at.bounds-points-i-in-loop-i c).After-min))
 
 pub bounds-points-i-in-loop-i-2 : goal.bounds-points-i-in-loop-i-2
-bounds-points-i-in-loop-i-2 c = simp length-set (room c)
+bounds-points-i-in-loop-i-2 c = simp length-set (omega (arith, room (goal.at.bounds-points-i-in-loop-i-2 c).After-min))
 
 pub loop-i-preserved : goal.loop-i-preserved
-loop-i-preserved c =
-    let k : c.loop-i.i < length c.args.words = search rules in
-    pointing_next _ _ _ _ c.requires _ _ _ c.loop-i.invariant c.if-count-i.false k (omega arith)
-
-pub shape_of-points : goal.shape_of-points
-shape_of-points c = long (goal.at.shape_of-points c).At-loop-i
+loop-i-preserved c = pointing_next _ _ _ (room (goal.at.loop-i-preserved c).After-min) _ _ _ c.loop-i.invariant c.loop-i-test.true
 
 pub returns : goal.returns
 returns c =
     let a = c.args in
     let l : length a.words ≡ 256 = search rules in
-    pointing_end _ _ _ _ c.requires _ _ _ c.loop-i.invariant (omega (arith, length-take a.count a.words))
+    let m : c.min.result ≡ min a.count (length a.words) = omega (arith, c.min.ensures) in
+    let e : take c.min.result a.words ≡ take a.count a.words = ap (λ (n : ℕ). take n a.words) m ∙ take_min a.count a.words in
+    pointing_end _ _ _ (room (goal.at.returns c).After-min) _ _ _ c.loop-i.invariant c.loop-i-test.false
+    ∙ ap (λ (ws : List ℕ). laid (points_from a.first ws) a.points.now) e

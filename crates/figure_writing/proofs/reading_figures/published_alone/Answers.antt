@@ -5,9 +5,8 @@ use Rattle.figure_writing.proofs.reading_figures.published_alone.Goals as goal
 
 pub returns-then-figures-lt4 : goal.returns-then-figures-lt4
 unfolding published_in
-returns-then-figures-lt4 c = rw c.too_short.ensures (counts_short _ _ 4 c.if-figures-lt4.true)
+returns-then-figures-lt4 c = counts_short _ _ 4 c.if-figures-lt4.true
 
 pub returns : goal.returns
 unfolding published_in
-returns c =
-    rw c.counted.ensures (counts_all _ _ 4 _ c.if-figures-lt4.false c.put_published.ensures)
+returns c = counts_all _ _ 4 _ c.if-figures-lt4.false c.put_published.ensures

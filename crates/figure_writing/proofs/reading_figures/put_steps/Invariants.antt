@@ -1,10 +1,6 @@
 -- Each turn writes the price and the level of one step.
-use Prim.Native.Nat.{◌-◌}
 use Rattle.figure_writing.proofs.reading_figures.Putting.{Stepping}
 use Rattle.figure_writing.proofs.reading_figures.put_steps.Given as goal
 
 abbrev pub invariant-loop-i : goal.invariant-loop-i
 invariant-loop-i l = Stepping l.at l.count l.prices l.levels l.initial.figures l.figures l.i
-
-abbrev pub decreases-loop-i : goal.decreases-loop-i
-decreases-loop-i l = l.count - l.i

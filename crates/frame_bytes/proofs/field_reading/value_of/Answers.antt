@@ -27,14 +27,5 @@ returns-then-c-lt48 c =
     let h : c.args.c ≤ 57 = omega arith in
     simp (le-leb _ _ h) (omega arith)
 
-pub overflow_cast-letter : goal.overflow_cast-letter
-overflow_cast-letter c = tt
-
-pub overflow_mul-result : goal.overflow_mul-result
-overflow_mul-result c = omega (arith, bit_small (ltb 57 c.args.c))
-
-pub overflow_add-result : goal.overflow_add-result
-overflow_add-result c = omega (arith, bit_small (ltb 57 c.args.c))
-
 pub returns : goal.returns
-returns c = by_letter _ c.if-c-lt48.false
+returns c = rw (c.from.ensures, c.from-letter.ensures) (by_letter c.args.c c.if-c-lt48.false)

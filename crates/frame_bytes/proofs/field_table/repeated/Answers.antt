@@ -23,11 +23,11 @@ counted c =
 pub returns-then-row-eq0 : goal.returns-then-row-eq0
 returns-then-row-eq0 c = let start = c in sym (repeats_none _ _ (sym start.requires.0.follow ∙ c.if-row-eq0.true))
 
-pub overflow_sub-last : goal.overflow_sub-last
-overflow_sub-last c = (counted c).0
+pub overflow_sub-result : goal.overflow_sub-result
+overflow_sub-result c = (counted c).0
 
-pub bounds-fields-last : goal.bounds-fields-last
-bounds-fields-last c = omega (arith, (counted (goal.at.bounds-fields-last c).Else-row-eq0).0, c.requires.2)
+pub bounds-fields-n : goal.bounds-fields-n
+bounds-fields-n c = omega (arith, (counted (goal.at.bounds-fields-n c).Else-row-eq0).0, c.requires.2)
 
 pub overflow_mul-result : goal.overflow_mul-result
 overflow_mul-result c = omega (arith, (counted (goal.at.overflow_mul-result c).Else-row-eq0).1, c.requires.3)

@@ -4,7 +4,4 @@ use Rattle.frame_bytes.proofs.field_writing.Writing.{Writing}
 use Rattle.frame_bytes.proofs.field_writing.put_hex.Given as goal
 
 abbrev pub invariant-loop-i : goal.invariant-loop-i
-invariant-loop-i l = Writing l.initial.out l.value l.width l.out l.v l.i
-
-abbrev pub decreases-loop-i : goal.decreases-loop-i
-decreases-loop-i l = l.width - l.i
+invariant-loop-i l = Writing l.initial.out l.value l.width l.out l.left (l.width - l.i)

@@ -3,8 +3,8 @@ use Rattle.std.proofs.Common.{arith}
 use Rattle.frame_reading.proofs.frames.Reading.{listed_first, listed_next, listed_end}
 use Rattle.frame_reading.proofs.frames.read_listed.Goals as goal
 
-pub overflow_add-end : goal.overflow_add-end
-overflow_add-end c = omega (arith, c.requires.0)
+pub overflow_add-n-end : goal.overflow_add-n-end
+overflow_add-n-end c = omega (arith, c.requires.0)
 
 pub loop-n-init : goal.loop-n-init
 loop-n-init c = let s = c in listed_first _ _ s.args.start s.args.first s.args.more s.requires.2 s.requires.0 s.requires.1
@@ -20,12 +20,6 @@ bounds-fields-n c = omega (arith, c.requires.0, c.loop-n-test.true)
 
 pub overflow_add-at : goal.overflow_add-at
 overflow_add-at c = let s = c in omega (arith, c.loop-n.invariant.room, c.loop-n-test.true, s.well_formed.0)
-
-pub overflow_add-n : goal.overflow_add-n
-overflow_add-n c = omega (arith, c.requires.0, c.loop-n-test.true)
-
-pub loop-n-smaller : goal.loop-n-smaller
-loop-n-smaller c = omega (arith, c.loop-n-test.true)
 
 pub loop-n-preserved : goal.loop-n-preserved
 loop-n-preserved c =

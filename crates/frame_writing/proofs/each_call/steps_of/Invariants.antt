@@ -1,11 +1,6 @@
 -- Step by step; the loop keeps `Stepping`.
-use Prim.Native.Nat.{◌-◌}
-use lib.ListN.{length}
 use Rattle.frame_writing.proofs.each_call.Gathering.{Stepping}
 use Rattle.frame_writing.proofs.each_call.steps_of.Given as goal
 
 abbrev pub invariant-loop-i : goal.invariant-loop-i
 invariant-loop-i l = Stepping l.prices l.levels l.steps l.i
-
-abbrev pub decreases-loop-i : goal.decreases-loop-i
-decreases-loop-i l = length l.prices - l.i

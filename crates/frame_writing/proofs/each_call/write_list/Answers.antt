@@ -1,6 +1,6 @@
 -- The fields gathered are the few, then the list; where they do not fit the array, the line would be too long.
 use Prim.Native.Nat.{ℕ, ◌+◌}
-use mathlib.Core.Path.{◌≡◌, refl, sym, ap, ◌∙◌}
+use mathlib.Core.Path.{◌≡◌, sym, ap, ◌∙◌}
 use mathlib.Core.List.{List, ◌++◌}
 use Rattle.std.proofs.Common.{arith}
 use lib.ListN.{length, take, length-append}
@@ -25,7 +25,7 @@ pub returns-then-few-list : goal.returns-then-few-list
 returns-then-few-list c =
     let a = c.args in
     let n = length-append a.head.now a.list.now in
-    not_writable _ _ _ _ _ c.refused.ensures (too_many _ (a.head.now ++ a.list.now) (omega (arith, n, c.if-few-list.true))) refl
+    not_writable _ _ _ (too_many _ (a.head.now ++ a.list.now) (omega (arith, n, c.if-few-list.true)))
 
 pub slice_bounds-encode-end : goal.slice_bounds-encode-end
 slice_bounds-encode-end c =

@@ -1,6 +1,6 @@
 -- Steps that were gathered are the paired lists; of unequal lists, and of more steps than the array holds, the answer is 14.
 use Prim.Native.Nat.{ℕ}
-use mathlib.Core.Path.{◌≡◌, refl, sym, ap, ◌∙◌}
+use mathlib.Core.Path.{◌≡◌, sym, ap, ◌∙◌}
 use mathlib.Core.List.{List, ◌∷◌}
 use Rattle.std.proofs.Common.{arith}
 use lib.ListN.{length}
@@ -10,6 +10,7 @@ use Rattle.frame_writing.specs.EncodesLaws.{not_writable}
 use Rattle.frame_writing.proofs.each_call.Gathering.{length_paired, same_fields, equal_lists, unequal_lists}
 use Rattle.frame_writing.proofs.each_call.write_steps.Goals as goal
 use Rattle.frame_writing.proofs.each_call.write_steps.Goals.{Else-n-levels}
+use Rattle.frame_writing.proofs.each_call.write_steps.Goals.{then-n-levels-via-then-n-levels, then-n-levels-via-else-n-levels+then-n-gt16}
 
 -- past the first test the lists are equally long
 same : (c : Else-n-levels) → let a = c.args in length a.prices.now ≡ length a.levels.now
@@ -17,17 +18,15 @@ same c = omega arith
 
 pub returns-then-n-levels : goal.returns-then-n-levels
 returns-then-n-levels c =
-    let a = c.args in
-    unequal_lists _ _ _ _ _ a.prices.now a.levels.now c.refused.ensures (λ e. omega arith) refl
-
-pub returns-then-n-gt16 : goal.returns-then-n-gt16
-returns-then-n-gt16 c =
-    let a = c.args in
-    let e = same (goal.at.returns-then-n-gt16 c).Else-n-levels in
-    let n = length_paired a.prices.now a.levels.now e in
-    let many =
-    too_many a.kind (a.developer ∷ (length a.prices.now ∷ paired a.prices.now a.levels.now)) (omega (arith, n, c.if-n-gt16.true)) in
-    equal_lists _ _ _ _ _ a.prices.now a.levels.now e (not_writable _ _ _ _ _ c.refused-then-n-gt16.ensures many refl)
+    let ps = c.args.prices.now in
+    let qs = c.args.levels.now in
+    elim c.then-n-levels.branch [
+      | then-n-levels-via-then-n-levels w ↦ unequal_lists _ _ ps qs _ (λ e. omega arith)
+      | then-n-levels-via-else-n-levels+then-n-gt16 w ↦
+          let e : length ps ≡ length qs = omega (arith, w.if-n-levels.false) in
+          let n = length_paired ps qs e in
+          equal_lists _ _ _ _ _ ps qs e (not_writable _ _ _ (too_many c.args.kind (c.args.developer ∷ (length ps ∷ paired ps qs)) (omega (arith, n, w.if-n-gt16.true))))
+    ]
 
 pub slice_bounds-write_list-end-2 : goal.slice_bounds-write_list-end-2
 slice_bounds-write_list-end-2 c =

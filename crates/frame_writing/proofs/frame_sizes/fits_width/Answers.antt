@@ -2,11 +2,11 @@
 use Rattle.frame_writing.proofs.frame_sizes.Widths.{dividing_first, dividing_next, dividing_end}
 use Rattle.frame_writing.proofs.frame_sizes.fits_width.Goals as goal
 
-pub loop-i-init : goal.loop-i-init
-loop-i-init c = dividing_first _ _
+pub loop-init : goal.loop-init
+loop-init c = dividing_first _ _
 
-pub loop-i-preserved : goal.loop-i-preserved
-loop-i-preserved c = let l = c.loop-i in dividing_next _ _ l.left l.i l.invariant c.loop-i-test.true
+pub loop-preserved : goal.loop-preserved
+loop-preserved c = let l = c.loop in dividing_next _ _ l.left l.counter l.invariant c.loop-test.true
 
 pub returns : goal.returns
-returns c = let l = c.loop-i in dividing_end _ _ l.left l.i l.invariant c.loop-i-test.false
+returns c = let l = c.loop in dividing_end _ _ l.left l.counter l.invariant c.loop-test.false

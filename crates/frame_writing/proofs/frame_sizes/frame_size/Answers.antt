@@ -12,28 +12,26 @@ use Rattle.rules_format.specs.Written.{fit, line_of}
 use Rattle.rules_format.specs.WrittenLaws.{Writable, length_line, length_frame}
 use Rattle.frame_bytes.specs.field_table.Shapes.{Tabled, Shaped}
 use Rattle.frame_bytes.specs.field_table.Fitting.{fitting_kind}
-use Rattle.frame_bytes.specs.field_table.RowLaws.{row_kind, row_unknown, row_own}
+use Rattle.frame_bytes.specs.field_table.RowLaws.{row_own}
 use Rattle.frame_writing.specs.frame_sizes.FrameSizeLaws.{as_many, few_fields, line_long, no_size, the_size, widths_are, fit_few}
 use Rattle.frame_writing.proofs.frame_sizes.frame_size.Goals as goal
-use Rattle.frame_writing.proofs.frame_sizes.frame_size.Goals.{After-repeated-more, After-shape_of-shape, Else-length-gt-LONGEST_LINE, Else-n-shape, Else-not-fields_fit, Else-row-eq0}
+use Rattle.frame_writing.proofs.frame_sizes.frame_size.Goals.{After-repeated-more, After-shape_of-shape, Else-length-gt-LONGEST_LINE, Else-n-gt32, Else-not-fields_fit, In_ok-row}
+use Rattle.frame_writing.proofs.frame_sizes.frame_size.Goals.{then-n-shape-via-then-n-shape, then-n-shape-via-else-n-shape+then-n-gt32}
 
--- the row's kind is the call's, which the table has; the shape is that of this kind
+-- the row is that of the call's kind, which the table has; the shape is that of this kind
 of_kind :
-    (c : Else-row-eq0) →
-    let r = c.row_of-row.result in
+    (c : In_ok-row) →
+    let r = c.in_ok-row.row in
     let k = c.args.kind in
     (r.kind ≡ k) × (known k ≡ true) × Tabled r.kind r
-of_kind c =
-    let t = c.row_of-row.ensures in
-    let k = row_kind _ _ t c.if-row-eq0.false in
-    (k.0, k.1, row_own _ _ t k.0)
+of_kind c = let t = c.in_ok-row.ensures in (t.1.kind, t.0, row_own _ _ t.1)
 
 shape : (c : After-shape_of-shape) → Shaped c.args.kind c.shape_of-shape.result
-shape c = rw (of_kind (goal.at.After-shape_of-shape c).Else-row-eq0).0 at c.shape_of-shape.ensures
+shape c = rw (of_kind (goal.at.After-shape_of-shape c).In_ok-row).0 at c.shape_of-shape.ensures
 
 -- the first widths are as many as the fields
 many :
-    (c : Else-n-shape) →
+    (c : Else-n-gt32) →
     let ns = c.args.fields.now in
     (length ns ≤ 32) × (length (take (length ns) c.shape_of-shape.result.widths) ≡ length ns)
 many c =
@@ -49,7 +47,7 @@ fits :
     (fit (take (length ns) c.shape_of-shape.result.widths) ns ≡ true) × (repeats k ns ≤ 512)
 fits c =
     let f = sym c.fields_fit.ensures ∙ c.if-not-fields_fit.false in
-    (f, fit_few _ _ _ (shape (goal.at.Else-not-fields_fit c).After-shape_of-shape) _ refl (many (goal.at.Else-not-fields_fit c).Else-n-shape).0 (omega (arith, c.if-n-shape.false)) f)
+    (f, fit_few _ _ _ (shape (goal.at.Else-not-fields_fit c).After-shape_of-shape) _ refl (many (goal.at.Else-not-fields_fit c).Else-n-gt32).0 (omega (arith, c.if-n-shape.false)) f)
 
 -- how many follow the fixed ones
 more :
@@ -57,7 +55,7 @@ more :
     let a = c.args in
     (c.repeated-more.result ≡ repeats a.kind a.fields.now) × (c.repeated-more.result ≤ 512)
 more c =
-    let e = c.repeated-more.ensures ∙ ap (λ (k : ℕ). repeats k c.args.fields.now) (of_kind (goal.at.After-repeated-more c).Else-row-eq0).0 in
+    let e = c.repeated-more.ensures ∙ ap (λ (k : ℕ). repeats k c.args.fields.now) (of_kind (goal.at.After-repeated-more c).In_ok-row).0 in
     (e, omega (arith, e, (fits (goal.at.After-repeated-more c).Else-not-fields_fit).1))
 
 -- how long the line is, by what was added
@@ -81,43 +79,40 @@ writable c =
     let q : length a.fields.now ≡ length (fixed a.kind) + repeats a.kind a.fields.now =
     omega (arith, (shape (goal.at.Else-length-gt-LONGEST_LINE c).After-shape_of-shape).many, (more (goal.at.Else-length-gt-LONGEST_LINE c).After-repeated-more).0, c.if-n-shape-2.false) in
     record {
-      kind_known = (of_kind (goal.at.Else-length-gt-LONGEST_LINE c).Else-row-eq0).1;
-      fields_fit = rw (widths_are _ _ _ (shape (goal.at.Else-length-gt-LONGEST_LINE c).After-shape_of-shape) _ refl (many (goal.at.Else-length-gt-LONGEST_LINE c).Else-n-shape).0 q) at (fits (goal.at.Else-length-gt-LONGEST_LINE c).Else-not-fields_fit).0;
+      kind_known = (of_kind (goal.at.Else-length-gt-LONGEST_LINE c).In_ok-row).1;
+      fields_fit = rw (widths_are _ _ _ (shape (goal.at.Else-length-gt-LONGEST_LINE c).After-shape_of-shape) _ refl (many (goal.at.Else-length-gt-LONGEST_LINE c).Else-n-gt32).0 q) at (fits (goal.at.Else-length-gt-LONGEST_LINE c).Else-not-fields_fit).0;
       short = omega (arith, (long (goal.at.Else-length-gt-LONGEST_LINE c).After-repeated-more).0, c.if-length-gt-LONGEST_LINE.false);
     }
 
-pub returns-then-row-eq0 : goal.returns-then-row-eq0
-returns-then-row-eq0 c = no_size _ _ (λ w. row_unknown _ _ c.row_of-row.ensures c.if-row-eq0.true w.kind_known)
+pub returns-in_err-row : goal.returns-in_err-row
+returns-in_err-row c = rw c.from_residual.ensures (no_size _ _ (λ w. clash w.kind_known c.in_err-row.ensures))
 
 pub shape_of-shape-requires : goal.shape_of-shape-requires
-shape_of-shape-requires c = (of_kind (goal.at.shape_of-shape-requires c).Else-row-eq0).2
-
-pub returns-then-n-gt32 : goal.returns-then-n-gt32
-returns-then-n-gt32 c = no_size _ _ (λ w. let f = few_fields _ _ w in omega arith)
+shape_of-shape-requires c = (of_kind (goal.at.shape_of-shape-requires c).In_ok-row).2
 
 pub returns-then-n-shape : goal.returns-then-n-shape
-returns-then-n-shape c = no_size _ _ (λ w. omega (arith, as_many _ _ w, (shape (goal.at.returns-then-n-shape c).After-shape_of-shape).many))
+returns-then-n-shape c = elim c.then-n-shape.branch [
+  | then-n-shape-via-then-n-shape w ↦ no_size _ _ (λ f. omega (arith, as_many _ _ f, (shape (goal.at.returns-then-n-shape c).After-shape_of-shape).many))
+  | then-n-shape-via-else-n-shape+then-n-gt32 w ↦ no_size _ _ (λ f. let few = few_fields _ _ f in omega arith)
+]
 
 pub slice_bounds-widths-end : goal.slice_bounds-widths-end
 slice_bounds-widths-end c =
     let l : length c.shape_of-shape.result.widths ≡ 32 = search rules in
-    omega (arith, (many (goal.at.slice_bounds-widths-end c).Else-n-shape).0)
-
-pub slice_bounds-fields_fit-end : goal.slice_bounds-fields_fit-end
-slice_bounds-fields_fit-end c = sym (many (goal.at.slice_bounds-fields_fit-end c).Else-n-shape).1
+    omega (arith, (many (goal.at.slice_bounds-widths-end c).Else-n-gt32).0)
 
 pub fields_fit-requires : goal.fields_fit-requires
-fields_fit-requires c = (many (goal.at.fields_fit-requires c).Else-n-shape).1
+fields_fit-requires c = (many (goal.at.fields_fit-requires c).Else-n-gt32).1
 
 pub returns-then-not-fields_fit : goal.returns-then-not-fields_fit
 returns-then-not-fields_fit c =
     let ns = c.args.fields.now in
     let no = sym c.fields_fit.ensures ∙ c.if-not-fields_fit.true in
-    no_size _ _ (λ w. clash w.fields_fit (rw (widths_are _ ns _ (shape (goal.at.returns-then-not-fields_fit c).After-shape_of-shape) _ refl (many (goal.at.returns-then-not-fields_fit c).Else-n-shape).0 (as_many _ ns w)) at no))
+    no_size _ _ (λ w. clash w.fields_fit (rw (widths_are _ ns _ (shape (goal.at.returns-then-not-fields_fit c).After-shape_of-shape) _ refl (many (goal.at.returns-then-not-fields_fit c).Else-n-gt32).0 (as_many _ ns w)) at no))
 
 pub repeated-more-requires : goal.repeated-more-requires
 repeated-more-requires c =
-    let k = of_kind (goal.at.repeated-more-requires c).Else-row-eq0 in
+    let k = of_kind (goal.at.repeated-more-requires c).In_ok-row in
     (k.2, c.shape_of-shape.ensures.many, omega (arith, c.if-n-shape.false), rw k.0 (fits (goal.at.repeated-more-requires c).Else-not-fields_fit).1)
 
 pub overflow_add-shape : goal.overflow_add-shape

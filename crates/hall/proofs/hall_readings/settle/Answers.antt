@@ -6,7 +6,7 @@ use Rattle.hall.proofs.hall_readings.settle.Goals as goal
 
 pub returns-then-not-settles : goal.returns-then-not-settles
 returns-then-not-settles c = record {
-  barred = λ _. (c.refused.ensures, refl);
+  barred = λ _. (refl, refl);
   made = no_right _ c.settles.ensures (ap not c.if-not-settles.true);
 }
 

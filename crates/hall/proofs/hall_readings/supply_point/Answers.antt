@@ -8,4 +8,4 @@ pub returns-then-not-conducts : goal.returns-then-not-conducts
 returns-then-not-conducts c = record { barred = λ _. refl; made = no_right _ c.conducts.ensures (ap not c.if-not-conducts.true) }
 
 pub returns : goal.returns
-returns c = record { barred = has_right_lem _ c.conducts.ensures (ap not c.if-not-conducts.false); made = λ _. (refl, c.supply_point-point.ensures) }
+returns c = record { barred = has_right_lem _ c.conducts.ensures (ap not c.if-not-conducts.false); made = λ _. (refl, c.supply_point.ensures) }

@@ -5,4 +5,4 @@ use Rattle.hall.proofs.seat_readings.published_alone.Goals as goal
 
 pub returns : goal.returns
 returns c =
-    none_read c.args.auction (to_z-of_z c.ranges.excess) c.none.ensures c.no_offer.ensures c.published.ensures
+    none_read c.args.auction (to_z-of_z c.ranges.excess) c.none.ensures c.published.ensures

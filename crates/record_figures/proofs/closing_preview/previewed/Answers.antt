@@ -5,6 +5,7 @@ use mir.Syntax.{w64}
 use mir.Val.{SFits}
 use Rattle.std.proofs.Common.{rules}
 use Rattle.rules_replies.specs.Replies.{twos_complement}
+use Rattle.rules_seats.specs.figures.Figures.{one_if}
 use Rattle.record_figures.proofs.closing_preview.Previewing.{previewed_refused, previewed_written}
 use Rattle.record_figures.proofs.closing_preview.previewed.Goals as goal
 use Rattle.record_figures.proofs.closing_preview.previewed.Goals.{Else-ran-eq0}
@@ -19,4 +20,4 @@ fitting c = search rules
 pub returns : goal.returns
 returns c =
     previewed_written _ _ _ _ c.run-ran.ensures _ _ _ _ _ _ c.if-ran-eq0.false (c.bits_of.ensures ∙ ap twos_complement (to_z-of_z (fitting (goal.at.returns c).Else-ran-eq0)))
-    c.remainder_number-remainder.ensures c.mark.ensures c.lend.ensures
+    (c.from.ensures ∙ c.remainder_at.ensures) (c.mark.ensures ∙ ap one_if c.is_closed.ensures) c.lend.ensures

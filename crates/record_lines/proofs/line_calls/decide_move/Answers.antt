@@ -1,8 +1,6 @@
 -- A cancellation or an offer by its kind, else a lodged list; the steps in two columns.
-use mathlib.Core.Path.{sym}
 use mathlib.Core.Logic.{⊎_elim}
 use Rattle.std.proofs.Common.{arith}
-use lib.Seq.{length-take-le}
 use Rattle.frame_reading.specs.arguments.Stepping.{offer_stepped, lodge_stepped}
 use Rattle.record_lines.specs.line_calls.DecisionLaws.{framed}
 use Rattle.record_lines.proofs.line_calls.Framing.{developer_below, moves_kinds, lodges, cancel_decided, offer_decided, lodge_decided}
@@ -10,7 +8,7 @@ use Rattle.record_lines.proofs.line_calls.decide_move.Goals as goal
 
 pub returns-then-frame-eq9 : goal.returns-then-frame-eq9
 returns-then-frame-eq9 c =
-    cancel_decided _ _ _ _ _ c.byte.ensures c.if-frame-eq9.true (c.cancelled.ensures _ _ _ _ _ _ c.is_number-numbered.ensures)
+    cancel_decided _ _ _ _ _ c.byte.ensures c.if-frame-eq9.true (c.cancelled.ensures _ c.is_number-numbered.ensures)
 
 pub steps_in-steps-requires : goal.steps_in-steps-requires
 steps_in-steps-requires c =
@@ -19,32 +17,16 @@ steps_in-steps-requires c =
     (λ q. ⊎_elim (λ e. absurd (c.if-frame-eq9.false e)) (λ e. lodge_stepped _ (framed 7 _ w.reads (λ z. omega arith) e)) q)
     (moves_kinds _ w.kind)
 
-pub slice_bounds-offered-end : goal.slice_bounds-offered-end
-slice_bounds-offered-end c = let s = c.steps_in-steps.ensures in
-    sym (length-take-le _ _ (omega (arith, s.at_most_nine, s.long_prices)))
-
-pub slice_bounds-offered-end-then-frame-eq4 : goal.slice_bounds-offered-end-then-frame-eq4
-slice_bounds-offered-end-then-frame-eq4 c = let s = c.steps_in-steps.ensures in
-    sym (length-take-le _ _ (omega (arith, s.at_most_nine, s.long_levels)))
-
 pub returns-then-frame-eq4 : goal.returns-then-frame-eq4
 returns-then-frame-eq4 c =
     let s = c.steps_in-steps.ensures in
-    offer_decided _ _ _ _ _ c.byte.ensures _ _ s.prices s.levels c.if-frame-eq4.true (c.offered.ensures _ _ c.is_number-numbered.ensures)
-
-pub slice_bounds-lodged-end : goal.slice_bounds-lodged-end
-slice_bounds-lodged-end c = let s = c.steps_in-steps.ensures in
-    sym (length-take-le _ _ (omega (arith, s.at_most_nine, s.long_prices)))
-
-pub slice_bounds-lodged-end-2 : goal.slice_bounds-lodged-end-2
-slice_bounds-lodged-end-2 c = let s = c.steps_in-steps.ensures in
-    sym (length-take-le _ _ (omega (arith, s.at_most_nine, s.long_levels)))
+    offer_decided _ _ _ _ _ c.byte.ensures _ _ s.prices s.levels c.if-frame-eq4.true (c.offered.ensures _ c.is_number-numbered.ensures)
 
 pub returns : goal.returns
 returns c =
     let s = c.steps_in-steps.ensures in
     lodge_decided _ _ _ _ _ c.byte.ensures _ _ s.prices s.levels (lodges _ c.requires c.if-frame-eq9.false c.if-frame-eq4.false)
-    (c.lodged.ensures _ _ _ _ c.is_number-numbered.ensures)
+    (c.lodged.ensures _ c.is_number-numbered.ensures)
 
 pub byte-requires : goal.byte-requires
 byte-requires c = developer_below _ c.requires

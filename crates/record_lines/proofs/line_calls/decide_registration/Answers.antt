@@ -18,7 +18,7 @@ entered-requires c = let r = c.registration_in-named.ensures in (r.at_most_sixte
 pub returns-then-frame-eq8 : goal.returns-then-frame-eq8
 returns-then-frame-eq8 c =
     let r = c.registration_in-named.ensures in
-    named_decided _ _ _ _ _ _ _ _ _ _ _ _ c.entered.ensures r.project r.developer r.kind c.if-frame-eq8.true
+    named_decided _ _ _ _ _ _ _ _ _ _ c.entered.ensures r.project r.developer r.kind c.if-frame-eq8.true
     c.byte-agent.ensures r.study r.day r.levels
 
 pub registration_in-own-requires : goal.registration_in-own-requires
@@ -30,5 +30,5 @@ entered-requires-2 c = let r = c.registration_in-own.ensures in (r.at_most_sixte
 pub returns : goal.returns
 returns c =
     let r = c.registration_in-own.ensures in
-    own_decided _ _ _ _ _ _ _ _ _ _ _ _ c.entered-2.ensures r.project r.developer r.kind (owns _ c.requires c.if-frame-eq8.false) refl
+    own_decided _ _ _ _ _ _ _ _ _ _ c.entered-2.ensures r.project r.developer r.kind (owns _ c.requires c.if-frame-eq8.false) refl
     r.study r.day r.levels

@@ -2,8 +2,8 @@
 use Rattle.record_replay.proofs.session_record.Keeping.{size_none, size_some}
 use Rattle.record_replay.proofs.session_record.kept_size.Goals as goal
 
-pub returns-then-n-eq0 : goal.returns-then-n-eq0
-returns-then-n-eq0 c = size_none _ _ c.kept_frame-n.ensures c.if-n-eq0.true
+pub returns-in-Some : goal.returns-in-Some
+returns-in-Some c = let kept = c.in-Some.ensures.kept in size_some _ _ kept.0 kept.1
 
-pub returns : goal.returns
-returns c = size_some _ _ c.kept_frame-n.ensures c.if-n-eq0.false
+pub returns-in-None : goal.returns-in-None
+returns-in-None c = size_none _ c.in-None.ensures.left_out

@@ -1,8 +1,6 @@
 -- Each refusal by its test, in their order; past both there is room for the digits of both numbers.
 use mathlib.Core.Path.{◌≡◌, sym, ◌∙◌}
 use mathlib.Core.Bool.{true}
-use Rattle.std.proofs.Common.{rules}
-use borrow.Author.Tests.{not-true, not-false}
 use Rattle.rules_format.specs.SessionLines.{writable_seat}
 use Rattle.seats.proofs.seat_numbers.SeatDigits.{no_seat, seat_short, seat_laid}
 use Rattle.seats.proofs.seat_numbers.write_seat.Goals as goal

@@ -4,8 +4,6 @@ use mathlib.Core.Path.{◌≡◌, sym, ap, ap₂, ◌∙◌}
 use mathlib.Core.Bool.{true}
 use mathlib.Core.List.{[], ◌∷◌}
 use Rattle.std.proofs.Common.{arith}
-use Rattle.std.proofs.Common.{rules}
-use borrow.Author.Tests.{not-true, not-false}
 use lib.ListN.{drop, length}
 use Rattle.rules_format.specs.HexLaws.{field_fits}
 use Rattle.rules_format.specs.SessionLines.{seat_kind, seat_number, names_seat}

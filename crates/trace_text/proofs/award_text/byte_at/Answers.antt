@@ -1,5 +1,4 @@
 -- An element of an array of bytes.
-use mathlib.Core.Path.{refl}
 use mir.Syntax.{w8}
 use mir.Val.{Fits}
 use lib.ListN.{get_or}
@@ -9,4 +8,4 @@ use Rattle.trace_text.proofs.award_text.byte_at.Goals as goal
 pub returns : goal.returns
 returns c =
     let f : Fits w8 (get_or c.args.awards c.args.i 0) = search rules in
-    (refl, f.fits)
+    (c.from.ensures, rw c.from.ensures f.fits)

@@ -1,17 +1,13 @@
--- The items, the awards behind them, then the other items.
-use mathlib.Core.Path.{refl}
+-- What the settlement says, or nothing.
 use Rattle.std.proofs.Common.{arith}
 use Rattle.trace_text.specs.settling_text.SettledLines.{settled_lines}
-use Rattle.trace_text.specs.decimal_text.PutsLaws.{puts_as, puts_then}
+use Rattle.trace_text.specs.decimal_text.PutsLaws.{puts_none}
 use Rattle.trace_text.proofs.settling_text.put_settled.Goals as goal
 
-pub put_awards-behind-requires : goal.put_awards-behind-requires
-put_awards-behind-requires c = (c.count.ensures.1, omega arith)
-
-pub returns : goal.returns
+pub returns-in-Some : goal.returns-in-Some
 unfolding settled_lines
-returns c =
-    let n = c.count in
-    let p2 = puts_then c.put_items-next.ensures (rw n.ensures.0 at c.put_awards-behind.ensures) in
-    let all = puts_then (puts_then p2 c.put_items_behind-last.ensures) c.put_paid.ensures in
-    puts_as all _ _ refl (omega (arith, n.ensures.0, n.ensures.1))
+returns-in-Some c = rw c.in-Some.is c.put_settlement.ensures
+
+pub returns-in-None : goal.returns-in-None
+unfolding settled_lines
+returns-in-None c = rw c.in-None.is (puts_none _ 3000 _ (omega arith))

@@ -1,9 +1,0 @@
--- The two tests of `is_number`, one after the other.
-use borrow.Author.Tests.{lt-leb, le-leb}
-use Rattle.engine_auction.proofs.Auction.is_number.Goals as goal
-
-pub returns-then-n-lt1 : goal.returns-then-n-lt1
-returns-then-n-lt1 c = rw (lt-leb 1 _ c.if-n-lt1.true)
-
-pub returns : goal.returns
-returns c = rw (le-leb 1 _ c.if-n-lt1.false)

@@ -1,9 +1,0 @@
--- The steps left to write fall by one each turn.
-use Rattle.std.proofs.Common.{◌-◌, ◌≤◌}
-use Rattle.hall_calls.proofs.output.write_steps.Given as goal
-
-abbrev pub invariant-loop-i : goal.invariant-loop-i
-invariant-loop-i g l = l.i ≤ l.n
-
-abbrev pub decreases-loop-i : goal.decreases-loop-i
-decreases-loop-i g l = l.n - l.i

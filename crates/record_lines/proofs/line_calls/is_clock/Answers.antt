@@ -1,9 +1,0 @@
--- 3 or 1.
-use borrow.Author.Tests.{eq-eqb, ne_eqb}
-use Rattle.record_lines.proofs.line_calls.is_clock.Goals as goal
-
-pub returns-then-kind-eq3 : goal.returns-then-kind-eq3
-returns-then-kind-eq3 c = simp (eq-eqb _ _ c.if-kind-eq3.true)
-
-pub returns : goal.returns
-returns c = simp (ne_eqb _ _ c.if-kind-eq3.false)
