@@ -2,9 +2,9 @@
 use Prim.Native.Nat.{ℕ, ◌≤◌}
 use Rattle.std.specs.Prelude.{◌≡◌, Bool, ◌&&◌, List, eqb}
 use Rattle.std.proofs.Math.Path.{refl}
-use Rattle.std.proofs.Common.{arith}
+use Rattle.std.proofs.Common.{◌∙◌, arith}
 use Rattle.std.proofs.Math.Bool.{true, false, not}
-use borrow.Author.Tests.{eqb-false, not-true}
+use borrow.Author.Tests.{eq-eqb, ne_eqb, eqb-false, not-true}
 use Rattle.rules_numbers.specs.Cases.{and_true}
 use Rattle.rules_auction.specs.Ledger.{Ledger}
 use Rattle.rules_auction.specs.Refusals.{is_between, is_of_kind, check}
@@ -12,9 +12,20 @@ use Rattle.rules_auction.specs.CheckLaws.{of_kind_facts}
 use Rattle.laws_ledger.specs.Sound.{Sound}
 use Rattle.rules_forcing.specs.Forcing.{pair_ok, list_ok, forcing_refusal}
 use Rattle.engine_held.specs.supply.Reading.{read_back}
+use Rattle.engine_checks.specs.declared.clock.Phase.{Phase}
+use Rattle.engine_checks.specs.clock.Held.{phase_number}
+use Rattle.engine_checks.specs.clock.Reading.{phase_in}
+use Rattle.engine_checks.specs.clock.PhaseNumbers.{between_in}
 use Rattle.engine_checks.specs.clock.ReadingLaws.{phase_read}
 use Rattle.engine_auction.specs.Holds.{held_auction}
 use Rattle.engine_looks.specs.forcing_checks.Asking.{asked_in}
+
+-- between rounds, by the number of the phase
+pub when_between : (p : Phase) → phase_number p ≡ 3 → is_between (phase_in p) ≡ true
+when_between p e = between_in p ∙ eq-eqb (phase_number p) 3 e
+
+pub not_between : (p : Phase) → (phase_number p ≡ 3 → ⊥) → is_between (phase_in p) ≡ false
+not_between p n = between_in p ∙ ne_eqb (phase_number p) 3 n
 
 pub record Pair (m n : ℕ) : Type 0 where
   pub first_low : 1 ≤ m

@@ -14,7 +14,7 @@ use Rattle.rules_format.specs.HexLaws.{power_pos}
 use Rattle.rules_format.specs.Fields.{RawCall, raw_call, listed, fixed, count, repeats, layout}
 use Rattle.rules_format.specs.FieldLaws.{total_layout, length_layout, layout_at}
 use Rattle.rules_format.specs.Written.{written_widths, line_of, frame_of, fit, writable}
-use Rattle.rules_format.specs.WrittenLaws.{Writable, is_writable, writable_test, fitting, length_line}
+use Rattle.rules_format.specs.WrittenLaws.{Writable, is_writable, writable_test, fitting, length_line, length_frame}
 use Rattle.frame_bytes.specs.field_table.Fitting.{fitting_kind, repeats_few}
 use Rattle.frame_bytes.specs.declared.field_table.Shape.{Shape}
 use Rattle.frame_bytes.specs.field_table.Shapes.{Shaped}
@@ -52,6 +52,9 @@ module _ (k : ℕ) (ns : List ℕ) where
   pub the_size : (n : ℕ) → n ≡ length (frame_of c) → Writable c → Some n ≡ frame_size c
   unfolding frame_size
   the_size n e w = rw (writable_test c w) (ap Some e)
+
+  frame_pos : 1 ≤ length (frame_of c)
+  frame_pos = omega (arith, length_frame c)
 
   pub size_none : frame_size c ≡ None → writable c ≡ false
   unfolding frame_size

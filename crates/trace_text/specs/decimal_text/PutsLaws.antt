@@ -1,6 +1,6 @@
 -- Texts written one behind the other, over plain lists.
-use Rattle.std.specs.Prelude.{ℕ, ◌+◌, ◌≤◌, ◌≡◌, refl, List, [], ◌∷◌, ◌++◌, length, take, drop, set}
-use Rattle.std.proofs.Common.{sym, ap, ap₂, ◌∙◌, append_assoc, append-nil, add-one, arith, length-append, length-take, length-drop, take-append-drop, take_at, drop_at, drop-drop}
+use Rattle.std.specs.Prelude.{ℕ, ◌+◌, ◌≤◌, ◌<◌, ◌≡◌, refl, List, [], ◌∷◌, ◌++◌, length, take, drop, get_or, set}
+use Rattle.std.proofs.Common.{sym, ap, ap₂, ◌∙◌, append_assoc, append-nil, add-one, arith, length-append, length-take, length-drop, take-append-drop, take_at, drop_at, drop-drop, take-suc}
 use Rattle.std.proofs.lemmas.List.{set_split}
 use Rattle.std.proofs.Math.Seq.{append_snoc}
 use Rattle.trace_text.specs.decimal_text.Puts.{Puts}
@@ -49,3 +49,13 @@ module _ {s o xs : List ℕ} {m a b : ℕ} (p : Puts s m o xs a b) where
   -- the same text under another name, with a wider bound
   pub puts_as : (u : List ℕ) (n : ℕ) → s ≡ u → m ≤ n → Puts u n o xs a b
   puts_as u n e h = rw (← e) record { holds = p.holds; next = p.next; short = omega (arith, p.short); inside = p.inside }
+
+-- one byte more of a name
+pub puts_more :
+    (name o xs : List ℕ) (a i : ℕ) → Puts (take i name) i o xs a (a + i) → i < length name → a + length name ≤ length o →
+    Puts (take (i + 1) name) (i + 1) o (set xs (a + i) (get_or name i 0)) a (a + (i + 1))
+puts_more name o xs a i p h g =
+    let q = puts_then p (puts_byte xs (a + i) (get_or name i 0) (omega (arith, puts_length p))) in
+    let e : a + i + 1 ≡ a + (i + 1) = omega arith in
+    let t : take i name ++ (get_or name i 0 ∷ []) ≡ take (i + 1) name = rw add-one (sym (take-suc name i 0 h)) in
+    rw (← e) (puts_as q (take (i + 1) name) (i + 1) t (omega arith))
