@@ -9,7 +9,7 @@ use Rattle.laws_ledger.specs.reachable.Steps.{step_accepted}
 use Rattle.engine_held.specs.supply.ByProject.{place_of}
 use Rattle.engine_held.specs.declared.history.History.{History}
 use Rattle.engine_moves.specs.moves.Entries.{seat, Held, MovedTo, Moves}
-use Rattle.engine_moves.specs.declared.moves.Entry.{Entry}
+use Rattle.engine_moves.specs.moves.Entries.{Entry}
 use Rattle.engine_auction.specs.declared.Auction.{Auction}
 use Rattle.engine_auction.specs.Holds.{held_auction}
 use Rattle.engine_auction.specs.Called.{Called}

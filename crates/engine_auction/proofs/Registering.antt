@@ -36,7 +36,7 @@ use Rattle.engine_auction.specs.declared.Auction.{Auction}
 use Rattle.engine_auction.specs.declared.Newcomer.{Newcomer}
 use Rattle.engine_auction.specs.Holds.{held_phase, held_course, held_auction, Holding}
 use Rattle.engine_auction.specs.Called.{Called, registers_by, registers, registers_for}
-use Rattle.engine_auction.specs.Decided.{with_newcomer, Enters}
+use Rattle.engine_auction.specs.Decided.{with_books, with_newcomer, Enters}
 use Rattle.engine_moves.specs.closing_entries.Places.{numbered_length, each_at, put_at, put_keeps}
 use Rattle.engine_auction.proofs.Calls.{Refused, refused, taken}
 use Rattle.engine_checks.specs.clock.Reading.{standing_at, developers_in}
@@ -191,7 +191,7 @@ module _ (a : Auction) (n : ℕ) (ls : List ℕ) (r : Newcomer) (j : ℕ)
   pub entering_refused : (f : Refusal) → j ≡ number_of f → Enters a r.project n r.kind r.agent r.study r.day ls (Err f)
   entering_refused f q = record {
     inside = tt;
-    entered = λ w z. by_agency w _ n _ _ _ _ ls _ _ _ z (rw q at (register_refused a n ls r j e (λ h. number_not_0 f (sym q ∙ h))));
+    entered = λ w z b. by_agency w _ n _ _ _ _ ls _ _ _ z (rw q at (register_refused (with_books b a) n ls r j e (λ h. number_not_0 f (sym q ∙ h))));
   }
 
   pub entering_taken :
@@ -199,5 +199,5 @@ module _ (a : Auction) (n : ℕ) (ls : List ℕ) (r : Newcomer) (j : ℕ)
       Enters a r.project n r.kind r.agent r.study r.day ls (Ok r)
   entering_taken z place copied highest = record {
     inside = rw place (place_below n);
-    entered = λ w q. by_agency w _ n _ _ _ _ ls _ _ _ q (register_taken a n ls r j e place copied highest z);
+    entered = λ w q b. by_agency w _ n _ _ _ _ ls _ _ _ q (register_taken (with_books b a) n ls r j e place copied highest z);
   }

@@ -16,7 +16,7 @@ use Rattle.engine_held.specs.supply.ByProject.{place_of}
 use Rattle.engine_held.specs.levels.Held.{no_levels, held_levels}
 use Rattle.engine_held.specs.declared.history.History.{History}
 use Rattle.engine_moves.specs.closing_entries.Places.{each_at, put_stores, put_keeps}
-use Rattle.engine_moves.specs.declared.moves.Entry.{Entry}
+use Rattle.engine_moves.specs.moves.Entries.{Entry}
 use Rattle.engine_moves.specs.moves.Entries.{no_history, seat, Held, MovedTo}
 use Rattle.engine_moves.specs.moves.EntryLaws.{seat_is, place_below, kind_number}
 use Rattle.engine_auction.specs.declared.Auction.{Auction}

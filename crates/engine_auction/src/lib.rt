@@ -10,8 +10,9 @@ ghost use Rattle.engine_auction.specs.declared.Auction.{Auction};
 ghost use Rattle.engine_auction.specs.Holds.{held_auction};
 ghost use Rattle.engine_auction.specs.Called.{sets_up, registers, registers_for, AnswersCall, AnswersClosing};
 ghost use Rattle.engine_auction.specs.Parts.{with_clock};
+ghost use Rattle.engine_moves.specs.moves.Entries.{entry_of};
 ghost use Rattle.engine_auction.specs.Storing.{entry_at, with_history_at};
-ghost use Rattle.engine_auction.specs.Decided.{AnswersClock, Enters, with_newcomer, Closes};
+ghost use Rattle.engine_auction.specs.Decided.{AnswersClock, with_round, Enters, with_newcomer, Closes};
 
 use engine_checks::clock::{Clock, Phase, Settings};
 use engine_checks::{checks, closing_figures, registrations};
@@ -115,7 +116,7 @@ pub fn setting_up(
 
 // An opening that announces c: the next clock. Checks: 2, 5, 9.
 pub fn opening_at(auction: &Auction, c: u32) -> Result<Clock, Refusal>
-    ensures { AnswersClock (Open c) auction.now result }
+    ensures { (a : Auction) → AnswersClock (Open c) (with_round a auction.now) result }
 {
     let clock = auction.clock;
     clock.check_opening(auction.projects, auction.quantities, c)?;
@@ -261,15 +262,15 @@ impl Auction {
     }
 
     // What the auction holds of the developer at place i that its moves read.
-    pub fn entry(&self, i: usize) -> Entry
+    pub fn entry(&self, i: usize) -> Entry<'_>
         requires { i < 32 }
-        ensures { result ≡ entry_at self.now i }
+        ensures { entry_of result ≡ entry_at self.now i }
     {
         Entry {
             kind: self.kinds[i],
-            declared: self.declared[i],
+            declared: &self.declared[i],
             quantity: self.quantities[i],
-            history: self.histories[i],
+            history: &self.histories[i],
         }
     }
 
@@ -360,7 +361,7 @@ impl Auction {
     {
         let i = supply::place(developer);
         let numbered = Auction::is_number(developer);
-        let history = moves::offered(&self.clock, numbered, &self.entry(i), prices, levels)?;
+        let history = moves::offered(&self.clock, numbered, self.entry(i), prices, levels)?;
         Ok(self.with_history(i, history))
     }
 
@@ -370,7 +371,7 @@ impl Auction {
     {
         let place = supply::place(developer);
         let numbered = Auction::is_number(developer);
-        let history = moves::cancelled(&self.clock, numbered, &self.entry(place))?;
+        let history = moves::cancelled(&self.clock, numbered, self.entry(place))?;
         Ok(self.with_history(place, history))
     }
 
@@ -380,7 +381,7 @@ impl Auction {
     {
         let i = supply::place(developer);
         let numbered = Auction::is_number(developer);
-        let history = moves::lodged(&self.clock, numbered, &self.entry(i), prices, levels)?;
+        let history = moves::lodged(&self.clock, numbered, self.entry(i), prices, levels)?;
         Ok(self.with_history(i, history))
     }
 

@@ -5,7 +5,7 @@ ghost use Rattle.rules_auction.specs.Ledger.{Between, Closed, start};
 ghost use Rattle.rules_auction.specs.Refusals.{is_fresh, is_ready, may_open, in_round, is_between, is_closed, opening_price};
 ghost use Rattle.engine_refusals.specs.Numbers.{number_in};
 ghost use Rattle.engine_checks.specs.clock.Held.{phase_number, held_phase, held_clock};
-ghost use Rattle.engine_checks.specs.clock.Reading.{phase_in, clock_in, demanded_at};
+ghost use Rattle.engine_checks.specs.clock.Reading.{phase_of, phase_in, clock_in, demanded_at};
 ghost use Rattle.engine_checks.specs.clock.Opening.{StartCovered, OpeningNumber};
 
 use engine_held::supply;
@@ -70,6 +70,21 @@ impl From<Phase> for u8 {
 
     fn from(phase: Phase) -> u8 {
         phase as u8
+    }
+}
+
+// A number that is no phase's is taken as Fresh.
+impl From<u8> for Phase {
+    ghost from_gives = { λ n p. phase_in p ≡ phase_of n };
+
+    fn from(number: u8) -> Phase {
+        match number {
+            1 => Phase::Ready,
+            2 => Phase::Round,
+            3 => Phase::Between,
+            4 => Phase::Closed,
+            _ => Phase::Fresh,
+        }
     }
 }
 

@@ -6,8 +6,10 @@ ghost use Rattle.rules_auction.specs.Refusals.{prices_ok, lowering, check};
 ghost use Rattle.engine_refusals.specs.Numbers.{number_in, after};
 ghost use Rattle.engine_held.specs.levels.Held.{levels_in};
 ghost use Rattle.engine_checks.specs.clock.Reading.{clock_in};
+ghost use Rattle.engine_checks.specs.declared.clock.Clock.{Clock};
 ghost use Rattle.engine_moves.specs.moves.Reading.{entry_in, MoveNumber};
-ghost use Rattle.engine_moves.specs.moves.Entries.{Held, Decides};
+ghost use Rattle.engine_moves.specs.moves.Entries as held;
+ghost use Rattle.engine_moves.specs.moves.Entries.{entry_of, with_phase, with_settings, with_prices, with_history, with_declared, Held, Decides};
 
 use engine_checks::clock::Clock;
 use engine_checks::step_checks;
@@ -18,24 +20,24 @@ use engine_refusals::Refusal;
 
 // What the auction holds of a developer that its moves read.
 #[derive(Clone, Copy)]
-pub struct Entry {
+pub struct Entry<'a> {
     pub kind: u8,
-    pub declared: Levels,
+    pub declared: &'a Levels,
     pub quantity: u32,
-    pub history: History,
+    pub history: &'a History,
 }
 
 // Of steps from below `opening` down to `closing`, and from the quantity down. Checks: 6, 7; all prices before any level.
 fn check_steps(
     closing: u32,
     opening: u32,
-    declared: Levels,
+    declared: &Levels,
     quantity: u32,
     prices: &[u32],
     levels: &[u32],
 ) -> Result<(), Refusal>
     ensures { number_in result ≡ check (prices_ok closing opening prices.now levels.now) 6
-        (check (lowering (levels_in declared) quantity levels.now) 7 0) }
+        (check (lowering (levels_in declared.now) quantity levels.now) 7 0) }
 {
     if !step_checks::prices_ok(closing, opening, prices, levels) {
         return Err(Refusal::BadSteps);
@@ -52,11 +54,11 @@ fn check_steps(
 fn check_offer(
     clock: &Clock,
     numbered: bool,
-    entry: &Entry,
+    entry: Entry,
     prices: &[u32],
     levels: &[u32],
 ) -> Result<(), Refusal>
-    ensures { MoveNumber numbered (clock_in clock.now) (entry_in entry.now) (Offer prices.now levels.now) (number_in result) }
+    ensures { (t : Clock) → MoveNumber numbered (clock_in (with_prices t clock.now)) (entry_in (entry_of entry.entry)) (Offer prices.now levels.now) (number_in result) }
 {
     if !clock.phase.in_round() {
         return Err(Refusal::NotInThisPhase);
@@ -80,11 +82,12 @@ fn check_offer(
 pub fn offered(
     clock: &Clock,
     numbered: bool,
-    entry: &Entry,
+    entry: Entry,
     prices: &[u32],
     levels: &[u32],
 ) -> Result<History, Refusal>
-    ensures { Decides numbered (Offer prices.now levels.now) (Held clock.now entry.now) (number_in result) (after entry.now.history result) }
+    ensures { (t : Clock) → Decides numbered (Offer prices.now levels.now) (Held (with_prices t clock.now) (entry_of entry.entry))
+        (number_in result) (after entry.entry.history.now result) }
 {
     check_offer(clock, numbered, entry, prices, levels)?;
     Ok(entry.history.offer(prices, levels))
@@ -93,8 +96,8 @@ pub fn offered(
 // ---- cancellations (document 02, 7)
 
 // Checks: 2, 3, 16.
-fn check_cancellation(clock: &Clock, numbered: bool, entry: &Entry) -> Result<(), Refusal>
-    ensures { MoveNumber numbered (clock_in clock.now) (entry_in entry.now) Cancel (number_in result) }
+fn check_cancellation(clock: &Clock, numbered: bool, entry: Entry) -> Result<(), Refusal>
+    ensures { (t : Clock) (e : held.Entry) → MoveNumber numbered (clock_in (with_phase t clock.now)) (entry_in (with_history e (entry_of entry.entry))) Cancel (number_in result) }
 {
     if !clock.phase.in_round() {
         return Err(Refusal::NotInThisPhase);
@@ -108,8 +111,9 @@ fn check_cancellation(clock: &Clock, numbered: bool, entry: &Entry) -> Result<()
     Ok(())
 }
 
-pub fn cancelled(clock: &Clock, numbered: bool, entry: &Entry) -> Result<History, Refusal>
-    ensures { Decides numbered Cancel (Held clock.now entry.now) (number_in result) (after entry.now.history result) }
+pub fn cancelled(clock: &Clock, numbered: bool, entry: Entry) -> Result<History, Refusal>
+    ensures { (t : Clock) (e : held.Entry) → Decides numbered Cancel (Held (with_phase t clock.now) (with_history e (entry_of entry.entry)))
+        (number_in result) (after entry.entry.history.now result) }
 {
     check_cancellation(clock, numbered, entry)?;
     Ok(entry.history.cancel())
@@ -121,11 +125,12 @@ pub fn cancelled(clock: &Clock, numbered: bool, entry: &Entry) -> Result<History
 fn check_lodging(
     clock: &Clock,
     numbered: bool,
-    entry: &Entry,
+    entry: Entry,
     prices: &[u32],
     levels: &[u32],
 ) -> Result<(), Refusal>
-    ensures { MoveNumber numbered (clock_in clock.now) (entry_in entry.now) (Lodge prices.now levels.now) (number_in result) }
+    ensures { (t : Clock) (e : held.Entry) → MoveNumber numbered (clock_in (with_settings t clock.now)) (entry_in (with_declared e (entry_of entry.entry)))
+        (Lodge prices.now levels.now) (number_in result) }
 {
     if !clock.phase.is_ready() {
         return Err(Refusal::NotInThisPhase);
@@ -146,11 +151,12 @@ fn check_lodging(
 pub fn lodged(
     clock: &Clock,
     numbered: bool,
-    entry: &Entry,
+    entry: Entry,
     prices: &[u32],
     levels: &[u32],
 ) -> Result<History, Refusal>
-    ensures { Decides numbered (Lodge prices.now levels.now) (Held clock.now entry.now) (number_in result) (after entry.now.history result) }
+    ensures { (t : Clock) (e : held.Entry) → Decides numbered (Lodge prices.now levels.now) (Held (with_settings t clock.now) (with_declared e (entry_of entry.entry)))
+        (number_in result) (after entry.entry.history.now result) }
 {
     check_lodging(clock, numbered, entry, prices, levels)?;
     Ok(History::lodge(prices, levels))

@@ -1,6 +1,6 @@
 // What a frame's call decides, by the clock and what the auction holds where the call reaches: one function for each group of calls that change the
 // same parts of an auction.
-ghost use Rattle.engine_moves.specs.moves.Entries.{Held};
+ghost use Rattle.engine_moves.specs.moves.Entries.{entry_of, Held};
 ghost use Rattle.std.specs.Prelude.{◌≡◌, ◌≤◌, ◌<◌, length, take};
 ghost use Rattle.engine_auction.specs.Decided.{Enters};
 ghost use Rattle.engine_held.specs.supply.ByProject.{place_of};
@@ -48,9 +48,9 @@ pub fn mover(frame: Frame) -> usize
 }
 
 // A move, by the clock and what the auction holds of its developer: the history that it leaves.
-pub fn decide_move(frame: Frame, clock: &Clock, entry: &Entry) -> Result<History, Refusal>
+pub fn decide_move(frame: Frame, clock: &Clock, entry: Entry) -> Result<History, Refusal>
     requires { MoveFrame frame }
-    ensures { DecidesMove frame (Held clock.now entry.now) (number_in result) (after entry.now.history result) }
+    ensures { DecidesMove frame (Held clock.now (entry_of entry.entry)) (number_in result) (after entry.entry.history.now result) }
 {
     let numbered = Auction::is_number(arguments::byte(frame, 0));
     if frame.kind == 9 {

@@ -33,7 +33,7 @@ left x (Err e) = refl
 
 pub takes_clock : (f : Frame) (a : Auction) (r : Result Clock Refusal) (t : Clock) (k : ℕ) → DecidesClock f a r → t ≡ result_unwrap_or r a.clock → k ≡ number_in r →
     Takes a (ordered (call_in f)) (with_clock a t) (answer_line f.kind k [])
-takes_clock f a r t k w et ek = rw (et ∙ left a.clock r, ek) (takes_call f w.call a (with_clock a (after a.clock r)) (number_in r) w.asked w.answers)
+takes_clock f a r t k w et ek = rw (et ∙ left a.clock r, ek) (takes_call f w.call a (with_clock a (after a.clock r)) (number_in r) w.asked (w.answers a))
 
 -- ---- closings and settlings
 

@@ -69,7 +69,7 @@ pub fn run(
         if line_calls::is_move(kind) {
             let place = line_calls::mover(frame);
             let entry = auction.entry(place);
-            let history = match line_calls::decide_move(frame, &auction.clock, &entry) {
+            let history = match line_calls::decide_move(frame, &auction.clock, entry) {
                 Ok(history) => history,
                 Err(refused) => {
                     written = refusal_at(out, limit, written, kind, refused);

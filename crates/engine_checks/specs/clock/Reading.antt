@@ -1,6 +1,6 @@
 -- What the engine holds, read in the ledger's words: the contract of a test or a number is an equation with the rule of what it reads so. What it
 -- does not read is 0, or an empty array.
-use Rattle.std.specs.Prelude.{ℕ, ◌-◌, cond, List, [], ◌∷◌, get_or}
+use Rattle.std.specs.Prelude.{ℕ, zero, suc, ◌-◌, cond, List, [], ◌∷◌, get_or}
 use Rattle.rules_demand.specs.Answer.{Answer, demand_answer}
 use Rattle.rules_auction.specs.Ledger.{Developer, Ledger, nobody, with_developers, newcomer}
 use Rattle.rules_auction.specs.Ledger as rules
@@ -11,6 +11,15 @@ use Rattle.engine_checks.specs.declared.clock.Settings.{Settings}
 use Rattle.engine_checks.specs.declared.clock.Clock.{Clock}
 
 -- ---- the clock
+
+-- a number that is no phase's is read as Fresh
+abbrev pub phase_of : ℕ → rules.Phase
+phase_of zero = rules.Fresh
+phase_of (suc zero) = rules.Ready
+phase_of (suc (suc zero)) = rules.Round
+phase_of (suc (suc (suc zero))) = rules.Between
+phase_of (suc (suc (suc (suc zero)))) = rules.Closed
+phase_of (suc (suc (suc (suc (suc n))))) = rules.Fresh
 
 abbrev pub phase_in : Phase → rules.Phase
 phase_in Fresh = rules.Fresh

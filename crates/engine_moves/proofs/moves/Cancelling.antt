@@ -16,7 +16,7 @@ use Rattle.engine_held.specs.history.Held.{held_history, Cancelled}
 use Rattle.engine_held.specs.declared.history.History.{History}
 use Rattle.engine_moves.specs.closing_entries.Courses.{held_course}
 use Rattle.engine_checks.specs.declared.clock.Clock.{Clock}
-use Rattle.engine_moves.specs.declared.moves.Entry.{Entry}
+use Rattle.engine_moves.specs.moves.Entries.{Entry}
 use Rattle.engine_checks.specs.clock.Reading.{clock_in}
 use Rattle.engine_moves.specs.moves.Reading.{entry_in, MoveNumber}
 use Rattle.engine_moves.specs.moves.Entries.{seat, Held, Moves}

@@ -15,7 +15,7 @@ use Rattle.engine_checks.specs.clock.Held.{held_clock}
 use Rattle.engine_checks.specs.clock.Reading.{clock_in}
 use Rattle.engine_checks.specs.clock.ReadingLaws.{phase_read}
 use Rattle.engine_checks.specs.declared.clock.Clock.{Clock}
-use Rattle.engine_moves.specs.declared.moves.Entry.{Entry}
+use Rattle.engine_moves.specs.moves.Entries.{Entry}
 use Rattle.engine_moves.specs.moves.Reading.{standing_in, entry_in}
 use Rattle.engine_moves.specs.moves.Entries.{seat, held_entry, Held, MovedTo}
 use Rattle.engine_moves.specs.moves.EntryLaws.{seat_is}

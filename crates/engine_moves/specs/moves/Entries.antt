@@ -6,11 +6,12 @@ use Rattle.rules_auction.specs.Rounds.{step}
 use Rattle.laws_ledger.specs.Sound.{Sound}
 use Rattle.engine_held.specs.supply.ByProject.{place_of}
 use Rattle.engine_held.specs.levels.Held.{held_levels}
+use Rattle.engine_held.specs.declared.levels.Levels.{Levels}
 use Rattle.engine_held.specs.declared.history.History.{History}
 use Rattle.engine_moves.specs.closing_entries.Courses.{held_course}
 use Rattle.engine_checks.specs.clock.Held.{held_clock}
 use Rattle.engine_checks.specs.declared.clock.Clock.{Clock}
-use Rattle.engine_moves.specs.declared.moves.Entry.{Entry}
+use Rattle.engine_moves.specs.declared.moves.Entry as lent
 
 -- what an array of histories has behind its end
 abbrev pub no_history : History
@@ -20,6 +21,16 @@ no_history = record { prices = []; levels = []; count = 0; offered = 0; lodged =
 abbrev pub seat : ℕ → ℕ
 seat n = suc (place_of n)
 
+-- what an entry holds, as it is where it is lent
+pub record Entry : Type 0 where
+  pub kind : ℕ
+  pub declared : Levels
+  pub quantity : ℕ
+  pub history : History
+
+abbrev pub entry_of : lent.Entry → Entry
+entry_of e = record { kind = e.kind; declared = e.declared.now; quantity = e.quantity; history = e.history.now }
+
 -- what is held of a developer
 abbrev pub held_entry : Developer → Entry
 held_entry x = record { kind = x.declared.kind; declared = held_levels x.declared.levels; quantity = x.quantity; history = held_course x }
@@ -28,6 +39,30 @@ held_entry x = record { kind = x.declared.kind; declared = held_levels x.declare
 pub record Held (t : Clock) (e : Entry) (l : Ledger) (x : Developer) : Type 0 where
   pub clock : t ≡ held_clock l
   pub entry : e ≡ held_entry x
+
+-- ---- what a move reads: a clock or an entry with these parts of another; with its own, itself
+
+-- the phase, for a cancellation
+abbrev pub with_phase : Clock → Clock → Clock
+with_phase t now = record { phase = now.phase; settings = t.settings; opening = t.opening; closing = t.closing }
+
+-- the phase and the settings, for a lodged list
+abbrev pub with_settings : Clock → Clock → Clock
+with_settings t now = record { phase = now.phase; settings = now.settings; opening = t.opening; closing = t.closing }
+
+-- the phase and the round's prices, for an offer, which reads the whole entry
+abbrev pub with_prices : Clock → Clock → Clock
+with_prices t now = record { phase = now.phase; settings = t.settings; opening = now.opening; closing = now.closing }
+
+-- the kind and the history, for a cancellation
+abbrev pub with_history : Entry → Entry → Entry
+with_history e now = record { kind = now.kind; declared = e.declared; quantity = e.quantity; history = now.history }
+
+-- the kind, the declared levels and the history, for a lodged list
+abbrev pub with_declared : Entry → Entry → Entry
+with_declared e now = record { kind = now.kind; declared = now.declared; quantity = e.quantity; history = now.history }
+
+-- ---- a move decided
 
 -- k is the number of n's move, and h the history behind it at n's place
 pub record MovedTo (l : Ledger) (n : ℕ) (m : Move) (k : ℕ) (h : History) : Type 0 where

@@ -3,7 +3,7 @@ use Rattle.std.specs.Prelude.{ℕ, zero, suc, ◌≡◌, Bool, []}
 use Rattle.rules_auction.specs.Ledger.{Standing, none, made, Move, Developer, Ledger}
 use Rattle.rules_auction.specs.Refusals.{is_number, move_refusal}
 use Rattle.engine_held.specs.levels.Held.{levels_in}
-use Rattle.engine_moves.specs.declared.moves.Entry.{Entry}
+use Rattle.engine_moves.specs.moves.Entries.{Entry}
 
 -- whether an offer stands, by its number; which steps it has is not read
 abbrev pub standing_in : ℕ → Standing

@@ -20,7 +20,7 @@ use Rattle.engine_refusals.specs.declared.Refusal.{Refusal}
 use Rattle.engine_checks.specs.declared.clock.Clock.{Clock}
 use Rattle.engine_moves.specs.moves.Entries.{Moves}
 use Rattle.engine_auction.specs.Called.{sets_up, registers_by}
-use Rattle.engine_auction.specs.Decided.{AnswersClock, Enters}
+use Rattle.engine_auction.specs.Decided.{AnswersClock, with_round, Enters}
 use Rattle.engine_auction.specs.declared.Auction.{Auction}
 use Rattle.engine_auction.specs.declared.Newcomer.{Newcomer}
 use Rattle.record_lines.specs.line_calls.Decisions.{is_move, MoveFrame, RegistrationFrame, ClockFrame, developer_of}
@@ -104,7 +104,7 @@ module _ (f : Frame) (a : Auction) (k n kind g study day : ℕ) (ls : List ℕ) 
         call = registers_by Own k n kind study day ls;
         asked = record { order = ordered_as f 2 _ (λ z. omega arith) e refl ∙ ap Asks (sym is); kind = sym e; bare = λ z. omega arith };
         inside = w.inside;
-        entered = w.entered Own eg;
+        entered = λ b. w.entered Own eg b;
       }
 
   -- 08
@@ -117,13 +117,13 @@ module _ (f : Frame) (a : Auction) (k n kind g study day : ℕ) (ls : List ℕ) 
         call = registers_by (Named g) k n kind study day ls;
         asked = record { order = ordered_as f 8 _ (λ z. omega arith) e refl ∙ ap Asks (sym is); kind = sym e; bare = λ z. omega arith };
         inside = w.inside;
-        entered = w.entered (Named g) refl;
+        entered = λ b. w.entered (Named g) refl b;
       }
 
 -- ---- the clock
 
 module _ (f : Frame) (x : Auction) (r : Result Clock Refusal) where
-  pub open_decided : (n : ℕ) → n ≡ get_or (fields_in f) 0 0 → f.kind ≡ 3 → AnswersClock (Open n) x r → DecidesClock f x r
+  pub open_decided : (n : ℕ) → n ≡ get_or (fields_in f) 0 0 → f.kind ≡ 3 → ((b : Auction) → AnswersClock (Open n) (with_round b x) r) → DecidesClock f x r
   unfolding order_of
   open_decided n en e w = record {
     call = Open n;
@@ -132,7 +132,8 @@ module _ (f : Frame) (x : Auction) (r : Result Clock Refusal) where
   }
 
   pub set_up_decided : (ce d m1 m2 a : ℕ) → ce ≡ get_or (fields_in f) 0 0 → d ≡ get_or (fields_in f) 1 0 → m1 ≡ get_or (fields_in f) 2 0 → m2 ≡ get_or (fields_in f) 3 0 →
-      a ≡ get_or (fields_in f) 4 0 → f.kind ≡ 1 → AnswersClock (sets_up ce d m1 m2 a) x r → DecidesClock f x r
+      a ≡ get_or (fields_in f) 4 0 → f.kind ≡ 1 →
+      ((b : Auction) → AnswersClock (sets_up ce d m1 m2 a) (with_round b x) r) → DecidesClock f x r
   unfolding order_of
   set_up_decided ce d m1 m2 a ec ed e1 e2 ea e w =
       let is : sets_up ce d m1 m2 a ≡ set_up_of (fields_in f) = rw (ec, ed, e1, e2, ea) in

@@ -17,8 +17,7 @@ use Rattle.frame_reading.specs.arguments.FrameFields.{fields_in, Framed, Reads}
 use Rattle.engine_held.specs.supply.ByProject.{place_of}
 use Rattle.engine_held.specs.declared.history.History.{History}
 use Rattle.engine_checks.specs.clock.Reading.{phase_in}
-use Rattle.engine_moves.specs.moves.Entries.{seat, Held, MovedTo}
-use Rattle.engine_moves.specs.declared.moves.Entry.{Entry}
+use Rattle.engine_moves.specs.moves.Entries.{Entry, seat, Held, MovedTo}
 use Rattle.engine_auction.specs.Called.{Called}
 use Rattle.engine_auction.specs.Holds.{held_auction}
 use Rattle.engine_auction.specs.PhaseHeld.{phase_is}

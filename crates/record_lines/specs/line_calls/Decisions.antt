@@ -14,7 +14,7 @@ use Rattle.engine_checks.specs.declared.clock.Clock.{Clock}
 use Rattle.engine_moves.specs.moves.Entries.{Moves}
 use Rattle.engine_auction.specs.Called.{Called, answer_in}
 use Rattle.engine_auction.specs.Holds.{held_auction}
-use Rattle.engine_auction.specs.Decided.{AnswersClock, after_newcomer}
+use Rattle.engine_auction.specs.Decided.{AnswersClock, with_round, with_books, after_newcomer}
 use Rattle.engine_auction.specs.declared.Auction.{Auction}
 use Rattle.engine_auction.specs.declared.Newcomer.{Newcomer}
 
@@ -59,18 +59,18 @@ pub record DecidesMove (f : Frame) (held : Ledger → Developer → Type 0) (k :
   pub asked : Asked f (By (developer_of f) move)
   pub moves : Moves (developer_of f) move held k h
 
--- a registration: refused it leaves the auction, else it enters the newcomer at its place
+-- a registration, in every auction of this phase, these projects and kinds: refused it leaves the auction, else it enters the newcomer at its place
 pub record DecidesRegistration (f : Frame) (a : Auction) (r : Result Newcomer Refusal) : Type 0 where
   pub call : Call
   pub asked : Asked f call
   pub inside : IfOk r (λ x. x.place < 32)
-  pub entered : Called call a (after_newcomer a r) (answer_in r)
+  pub entered : (b : Auction) → Called call (with_books b a) (after_newcomer (with_books b a) r) (answer_in r)
 
--- a set-up or an opening
+-- a set-up or an opening, in every auction of this clock, these projects and quantities
 pub record DecidesClock (f : Frame) (a : Auction) (r : Result Clock Refusal) : Type 0 where
   pub call : Call
   pub asked : Asked f call
-  pub answers : AnswersClock call a r
+  pub answers : (b : Auction) → AnswersClock call (with_round b a) r
 
 -- ---- an order
 

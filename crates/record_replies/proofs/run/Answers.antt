@@ -152,14 +152,14 @@ pub loop-read-preserved-in-Err-decide_registration : goal.loop-read-preserved-in
 loop-read-preserved-in-Err-decide_registration c =
     let w = c.in-Err-decide_registration.ensures in
     again (goal.at.loop-read-preserved-in-Err-decide_registration c).Else-is_barred _ _ _ _ _ refl
-    (takes_call c.decode-frame.result w.call _ _ _ w.asked w.entered)
+    (takes_call c.decode-frame.result w.call _ _ _ w.asked (w.entered c.loop-read.auction))
     (λ e n. counts_asked _ e n c.decode-frame.result _ w.asked) c.refusal_at-written-in-Err-decide_registration.ensures
 
 pub loop-read-preserved-then-is_registration : goal.loop-read-preserved-then-is_registration
 loop-read-preserved-then-is_registration c =
     let w = c.in-Ok-decide_registration.ensures in
     again (goal.at.loop-read-preserved-then-is_registration c).Else-is_barred _ _ _ _ _ refl
-    (takes_call c.decode-frame.result w.call _ _ 0 w.asked w.entered)
+    (takes_call c.decode-frame.result w.call _ _ 0 w.asked (w.entered c.loop-read.auction))
     (λ e n. counts_asked _ e n c.decode-frame.result _ w.asked) c.plain_at-written-then-is_registration.ensures
 
 -- ---- the clock
@@ -189,7 +189,7 @@ loop-read-preserved-then-kind-eq5 c =
     let shows : ShowsClosing 0 rounded.result.excess rounded.result.remainder shown.result = rw (to_z-of_z fits) at shown.ensures in
     let a = c.loop-read.auction in
     let b = with_rounded a rounded.result in
-    let closes = rounded.ensures.closes (sym c.in_round.ensures ∙ c.if-not-in_round.false) in
+    let closes = rounded.ensures.closes a (sym c.in_round.ensures ∙ c.if-not-in_round.false) in
     counting (goal.at.loop-read-preserved-then-kind-eq5 c).Else-is_barred _ _ _ b _ _ _ (omega arith) (asks_close _ c.if-kind-eq5.true)
     (takes_closing a b (rounded_in rounded.result) _ closes shows)
     (rw (to_z-of_z fits) (counts_closing a _ _ b (rounded_in rounded.result) closes refl)) c.reply_at-written.ensures

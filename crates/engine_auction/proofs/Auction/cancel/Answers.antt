@@ -3,6 +3,7 @@ use mathlib.Core.Path.{refl}
 use Rattle.std.proofs.lemmas.Result.{err_from_is_err_and}
 use Rattle.rules_auction.specs.Ledger.{Cancel}
 use Rattle.engine_refusals.specs.NumberLaws.{number_not_0}
+use Rattle.engine_moves.specs.moves.Entries.{entry_of}
 use Rattle.engine_auction.proofs.Moving.{move_refused, move_taken}
 use Rattle.engine_auction.proofs.Auction.cancel.Goals as goal
 
@@ -11,11 +12,11 @@ returns-in_err-history c =
     let p = err_from_is_err_and c.from_residual.result c.from_residual.ensures.1 in
     let s = c.args in
     rw (p.1, p.2) (move_refused s.developer Cancel s.self c.place-place.result _ _ c.place-place.ensures.0
-    c.entry.ensures (c.in_err-history.ensures _ c.is_number-numbered.ensures) (number_not_0 _))
+    c.entry.ensures (c.in_err-history.ensures s.self.clock (entry_of c.entry.result) _ c.is_number-numbered.ensures) (number_not_0 _))
 
 pub returns : goal.returns
 returns c =
     let s = c.args in
     rw c.with_history.ensures
     (move_taken s.developer Cancel s.self c.place-place.result _ _ c.place-place.ensures.0
-    c.entry.ensures (c.in_ok-history.ensures _ c.is_number-numbered.ensures) refl)
+    c.entry.ensures (c.in_ok-history.ensures s.self.clock (entry_of c.entry.result) _ c.is_number-numbered.ensures) refl)

@@ -14,4 +14,4 @@ pub returns : goal.returns
 returns c =
     let rounded = c.closing_round-rounded in
     let fits : SFits w64 rounded.result.excess = search rules in
-    rw (to_z-of_z fits) (rounded.ensures.closes (sym c.in_round.ensures ∙ c.if-not-in_round.false))
+    rw (to_z-of_z fits) (rounded.ensures.closes c.args.self (sym c.in_round.ensures ∙ c.if-not-in_round.false))

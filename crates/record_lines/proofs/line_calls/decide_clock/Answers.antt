@@ -3,6 +3,7 @@ use mathlib.Core.Path.{refl}
 use Rattle.std.proofs.Common.{arith}
 use Rattle.rules_format.specs.Fields.{fixed}
 use Rattle.frame_reading.specs.arguments.FieldColumns.{below}
+use Rattle.engine_auction.specs.Decided.{with_round}
 use Rattle.record_lines.specs.line_calls.DecisionLaws.{framed}
 use Rattle.record_lines.proofs.line_calls.Framing.{sets_up_lem, open_decided, set_up_decided}
 use Rattle.record_lines.proofs.line_calls.decide_clock.Goals as goal
@@ -17,4 +18,4 @@ returns-then-frame-eq3 c = open_decided _ _ _ _ c.word-c.ensures c.if-frame-eq3.
 pub returns : goal.returns
 returns c =
     set_up_decided _ _ _ _ _ _ _ _ c.field-ce.ensures c.field-d.ensures c.field-m1.ensures c.field-m2.ensures c.field-a.ensures
-    (sets_up_lem _ c.requires c.if-frame-eq3.false) (c.setting_up.ensures c.args.auction.now)
+    (sets_up_lem _ c.requires c.if-frame-eq3.false) (λ b. c.setting_up.ensures (with_round b c.args.auction.now))
