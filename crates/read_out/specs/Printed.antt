@@ -50,13 +50,13 @@ pub data Prints : (bytes old new : List ℕ) → ℕ → Type 0 where
       Prints x.0.now x.1.0.now y.1.0.now r
 
 -- at the place a of the buffer `old`, before a reply of this kind; b is the place behind
-pub data PutsBefore : (kind : ℕ) (p : Option (Result Preview Refusal)) (old new : List ℕ) (a b : ℕ) → Type 0 where
+pub data PutsBefore : (kind : ℕ) (p : Result Preview Refusal) (old new : List ℕ) (a b : ℕ) → Type 0 where
   puts_before :
       (κs : Lfts 1) (x : ArgsD before_signature κs) (r : ℕ) (y : AtExit (ended_of 1 before_kinds.ps before_kinds.r) κs) →
       before_reads.Post κs x r y → PutsBefore x.1.1.0 x.1.1.1.0 x.0.now y.0.now x.1.0 r
 
 -- below it
-pub data PutsBelow : (kind : ℕ) (accepted : Bool) (p : Option (Result Preview Refusal)) (s : Option Settlement) (awards old new : List ℕ) (a b : ℕ) → Type 0 where
+pub data PutsBelow : (kind : ℕ) (accepted : Bool) (p : Result Preview Refusal) (s : Option Settlement) (awards old new : List ℕ) (a b : ℕ) → Type 0 where
   puts_below :
       (κs : Lfts 1) (x : ArgsD below_signature κs) (r : ℕ) (y : AtExit (ended_of 1 below_kinds.ps below_kinds.r) κs) → below_reads.Post κs x r y →
       PutsBelow x.1.1.0 x.1.1.1.0 x.1.1.1.1.0 x.1.1.1.1.1.0 x.1.1.1.1.1.1.0 x.0.now y.0.now x.1.0 r
@@ -150,11 +150,11 @@ module _ {M : Type 1} (e : TraceStated M) where
   point_asks_room κs x h = e.point_asks κs x h
 
   pub before_returned :
-      {kind : ℕ} {p : Option (Result Preview Refusal)} {old new : List ℕ} {a b : ℕ} → PutsBefore kind p old new a b → Puts (lines_before kind p) 100 old new a b
+      {kind : ℕ} {p : Result Preview Refusal} {old new : List ℕ} {a b : ℕ} → PutsBefore kind p old new a b → Puts (lines_before kind p) 100 old new a b
   before_returned (puts_before κs x r y q) = e.before_returns κs x r y q
 
   pub below_returned :
-      {kind : ℕ} {accepted : Bool} {p : Option (Result Preview Refusal)} {t : Option Settlement} {awards old new : List ℕ} {a b : ℕ} →
+      {kind : ℕ} {accepted : Bool} {p : Result Preview Refusal} {t : Option Settlement} {awards old new : List ℕ} {a b : ℕ} →
       PutsBelow kind accepted p t awards old new a b → Puts (lines_below kind accepted p t awards) 3000 old new a b
   below_returned (puts_below κs x r y q) = e.below_returns κs x r y q
 
@@ -163,11 +163,11 @@ module _ {M : Type 1} (e : TraceStated M) where
       Puts (point_line price before after) 100 old new a b
   point_returned (puts_point κs x r y q) = e.point_returns κs x r y q
 
-  pub preview_before : (kind : ℕ) (p : Option (Result Preview Refusal)) → (kind ≡ 5 → lines_before kind p ≡ preview_line p) × ((kind ≡ 5 → ⊥) → lines_before kind p ≡ [])
+  pub preview_before : (kind : ℕ) (p : Result Preview Refusal) → (kind ≡ 5 → lines_before kind p ≡ preview_line p) × ((kind ≡ 5 → ⊥) → lines_before kind p ≡ [])
   preview_before kind p = e.lines_before_lem kind p
 
   pub words_below :
-      (kind : ℕ) (p : Option (Result Preview Refusal)) (accepted : Bool) (t : Option Settlement) (awards : List ℕ) →
+      (kind : ℕ) (p : Result Preview Refusal) (accepted : Bool) (t : Option Settlement) (awards : List ℕ) →
       (accepted ≡ false → lines_below kind accepted p t awards ≡ [])
       × (accepted ≡ true → kind ≡ 5 → lines_below kind accepted p t awards ≡ closed_lines p)
       × (accepted ≡ true → kind ≡ 6 → lines_below kind accepted p t awards ≡ settled_lines t awards)
@@ -182,11 +182,11 @@ module _ {M : Type 1} (e : TraceStated M) where
 
 module _ {M : Type 1} (s : EngineCorrect M) {old new new' : List ℕ} {a b b' : ℕ} where
   pub same_before :
-      (kind : ℕ) (p : Option (Result Preview Refusal)) → PutsBefore kind p old new a b → PutsBefore kind p old new' a b' → (b ≡ b') × (new ≡ new')
+      (kind : ℕ) (p : Result Preview Refusal) → PutsBefore kind p old new a b → PutsBefore kind p old new' a b' → (b ≡ b') × (new ≡ new')
   same_before kind p w v = let e = of_trace (of_programs s) in text_decided e _ _ _ _ _ _ _ _ (before_returned e w) (before_returned e v)
 
   pub same_below :
-      (kind : ℕ) (accepted : Bool) (p : Option (Result Preview Refusal)) (t : Option Settlement) (awards : List ℕ) → PutsBelow kind accepted p t awards old new a b →
+      (kind : ℕ) (accepted : Bool) (p : Result Preview Refusal) (t : Option Settlement) (awards : List ℕ) → PutsBelow kind accepted p t awards old new a b →
       PutsBelow kind accepted p t awards old new' a b' → (b ≡ b') × (new ≡ new')
   same_below kind accepted p t awards w v =
       let e = of_trace (of_programs s) in text_decided e _ _ _ _ _ _ _ _ (below_returned e w) (below_returned e v)

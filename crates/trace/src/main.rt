@@ -40,11 +40,11 @@ fn with_room(rt: &impl Print, text: &[u8], end: usize) -> io::Result<usize>
 }
 
 // What a closing would answer; only before one is it looked at.
-fn look(auction: Auction, kind: usize) -> Option<Result<Preview, Refusal>> {
+fn look(auction: Auction, kind: usize) -> Result<Preview, Refusal> {
     if kind != 5 {
-        return None;
+        return Ok(trace_text::NO_PREVIEW);
     }
-    Some(readings::preview_closing(auction))
+    readings::preview_closing(auction)
 }
 
 // How many points of the supply curve stand below a reply: all of them, below an accepted closing.

@@ -11,7 +11,7 @@ use Rattle.engine_settling.specs.declared.Settlement.{Settlement}
 use Rattle.trace_text.specs.settling_text.SettledLines.{settled_lines}
 use Rattle.trace_text.specs.Words.{closed_lines, preview_line, lines_before, lines_below}
 
-module _ (kind : ℕ) (p : Option (Result Preview Refusal)) where
+module _ (kind : ℕ) (p : Result Preview Refusal) where
   pub before_closing : kind ≡ 5 → lines_before kind p ≡ preview_line p
   unfolding lines_before
   before_closing h = rw (eq-eqb kind 5 h)

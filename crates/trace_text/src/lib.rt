@@ -3,8 +3,7 @@
 #![tactic(auto)]
 
 ghost use Rattle.std.specs.Prelude.{◌+◌, ◌≤◌, length};
-ghost use Rattle.engine_looks.specs.readings.Readings.{preview_in};
-ghost use Rattle.trace_text.specs.Words.{closing_lines, closed_lines, previewed_line, point_line, lines_before, lines_below};
+ghost use Rattle.trace_text.specs.Words.{closing_lines, closed_lines, preview_line, point_line, lines_before, lines_below};
 ghost use Rattle.trace_text.specs.decimal_text.Puts.{Puts};
 
 use engine_looks::readings::Preview;
@@ -14,6 +13,13 @@ use engine_settling::Settlement;
 pub mod award_text;
 pub mod decimal_text;
 pub mod settling_text;
+
+// Zeros: where no preview is looked at, and in the places of a refused one.
+pub const NO_PREVIEW: Preview = Preview {
+    excess: 0,
+    remainder: 0,
+    closed: false,
+};
 
 // What an accepted closing says.
 fn put_closing(out: &mut [u8], at: usize, closing: Preview) -> usize
@@ -26,30 +32,20 @@ fn put_closing(out: &mut [u8], at: usize, closing: Preview) -> usize
 }
 
 // The same by its preview, which answers as the closing does.
-fn put_closed(out: &mut [u8], at: usize, preview: Option<Result<Preview, Refusal>>) -> usize
+fn put_closed(out: &mut [u8], at: usize, preview: Result<Preview, Refusal>) -> usize
     requires { at + 100 ≤ length out.old }
     ensures { Puts (closed_lines preview) 100 out.old out.new at result }
 {
-    match preview {
-        Some(answer) => match answer {
-            Ok(closing) => put_closing(out, at, closing),
-            Err(_) => at,
-        },
-        None => at,
-    }
+    put_closing(out, at, preview.unwrap_or(NO_PREVIEW))
 }
 
 // The line before a closing's reply (document 02, 6): of a refused one the number, and zeros.
-fn put_preview(out: &mut [u8], at: usize, answer: Result<Preview, Refusal>) -> usize
+fn put_preview(out: &mut [u8], at: usize, preview: Result<Preview, Refusal>) -> usize
     requires { at + 100 ≤ length out.old }
-    ensures { Puts (previewed_line (preview_in answer)) 100 out.old out.new at result }
+    ensures { Puts (preview_line preview) 100 out.old out.new at result }
 {
-    let number = answer_number(&answer);
-    let shown = answer.unwrap_or(Preview {
-        excess: 0,
-        remainder: 0,
-        closed: false,
-    });
+    let number = answer_number(&preview);
+    let shown = preview.unwrap_or(NO_PREVIEW);
     let named = decimal_text::put_name(out, at, b"preview ");
     let numbered = decimal_text::put_number(out, named, number as u64, 32);
     let bits = reply_values::bits_of(shown.excess);
@@ -74,7 +70,7 @@ pub fn put_before(
     out: &mut [u8],
     at: usize,
     kind: usize,
-    preview: Option<Result<Preview, Refusal>>,
+    preview: Result<Preview, Refusal>,
 ) -> usize
     requires { at + 100 ≤ length out.old }
     ensures { Puts (lines_before kind preview) 100 out.old out.new at result }
@@ -82,19 +78,16 @@ pub fn put_before(
     if kind != 5 {
         return at;
     }
-    match preview {
-        Some(answer) => put_preview(out, at, answer),
-        None => at,
-    }
+    put_preview(out, at, preview)
 }
 
-// What stands below a reply of this kind, by the preview of a closing and the settlement behind the line.
+// What stands below a reply of this kind, by the preview of a closing, which answers as the closing does, and the settlement behind the line.
 pub fn put_below(
     out: &mut [u8],
     at: usize,
     kind: usize,
     accepted: bool,
-    preview: Option<Result<Preview, Refusal>>,
+    preview: Result<Preview, Refusal>,
     settled: Option<Settlement>,
     awards: [u8; 192],
 ) -> usize

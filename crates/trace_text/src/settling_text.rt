@@ -6,6 +6,22 @@ ghost use Rattle.trace_text.specs.settling_text.SettledLines.{items, items_behin
 use crate::{award_text, decimal_text};
 use engine_settling::Settlement;
 
+// Where nothing was settled: 0 in every place.
+pub const UNSETTLED: Settlement = Settlement {
+    price: 0,
+    demand: 0,
+    remainder: 0,
+    total: 0,
+    choices: 0,
+    covering: 0,
+    kept: 0,
+    second: 0,
+    short: false,
+    insufficient: false,
+    paid: 0,
+    records: 0,
+};
+
 // What an accepted settling says before its awards.
 fn put_items(out: &mut [u8], at: usize, s: Settlement) -> usize
     requires { at + 400 ≤ length out.old }
@@ -50,7 +66,7 @@ fn put_settlement(out: &mut [u8], at: usize, s: Settlement, awards: [u8; 192]) -
     put_paid(out, last, s)
 }
 
-// Nothing where there is no settlement.
+// What the settlement behind a line says: zeros where there is none.
 pub fn put_settled(
     out: &mut [u8],
     at: usize,
@@ -60,8 +76,5 @@ pub fn put_settled(
     requires { at + 3000 ≤ length out.old }
     ensures { Puts (settled_lines settled awards) 3000 out.old out.new at result }
 {
-    match settled {
-        Some(settlement) => put_settlement(out, at, settlement, awards),
-        None => at,
-    }
+    put_settlement(out, at, settled.unwrap_or(UNSETTLED), awards)
 }

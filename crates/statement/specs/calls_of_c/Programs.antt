@@ -97,10 +97,10 @@ pub record TraceStated (M : Type 1) : Type 2 where
       Puts (point_line x.1.1.0 x.1.1.1.0 x.1.1.1.1.0) 100 x.0.now y.0.now x.1.0 r
   -- before a closing's reply its preview, and before no other a line
   pub lines_before_lem :
-      (kind : ℕ) (p : Option (Result Preview Refusal)) → (kind ≡ 5 → lines_before kind p ≡ preview_line p) × ((kind ≡ 5 → ⊥) → lines_before kind p ≡ [])
+      (kind : ℕ) (p : Result Preview Refusal) → (kind ≡ 5 → lines_before kind p ≡ preview_line p) × ((kind ≡ 5 → ⊥) → lines_before kind p ≡ [])
   -- below an accepted closing's or settling's what it says, and below no other a line
   pub lines_below_lem :
-      (kind : ℕ) (p : Option (Result Preview Refusal)) (accepted : Bool) (s : Option Settlement) (awards : List ℕ) →
+      (kind : ℕ) (p : Result Preview Refusal) (accepted : Bool) (s : Option Settlement) (awards : List ℕ) →
       (accepted ≡ false → lines_below kind accepted p s awards ≡ [])
       × (accepted ≡ true → kind ≡ 5 → lines_below kind accepted p s awards ≡ closed_lines p)
       × (accepted ≡ true → kind ≡ 6 → lines_below kind accepted p s awards ≡ settled_lines s awards)

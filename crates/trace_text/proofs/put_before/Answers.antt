@@ -1,7 +1,6 @@
--- Nothing before a reply of another kind, or where no preview is looked at.
-use mathlib.Core.Path.{◌∙◌, sym, ap}
+-- Nothing before a reply of another kind.
+use mathlib.Core.Path.{sym}
 use Rattle.std.proofs.Common.{arith}
-use Rattle.trace_text.specs.Words.{preview_line}
 use Rattle.trace_text.specs.decimal_text.PutsLaws.{puts_none, puts_as}
 use Rattle.trace_text.specs.WordsLaws.{before_closing, before_other}
 use Rattle.trace_text.proofs.put_before.Goals as goal
@@ -9,10 +8,6 @@ use Rattle.trace_text.proofs.put_before.Goals as goal
 pub returns-then-kind-ne5 : goal.returns-then-kind-ne5
 returns-then-kind-ne5 c = puts_as (puts_none _ 0 _ (omega arith)) _ 100 (sym (before_other _ _ c.if-kind-ne5.true)) (omega arith)
 
-pub returns-in-Some : goal.returns-in-Some
-unfolding preview_line
-returns-in-Some c = puts_as c.put_preview.ensures _ 100 (sym (before_closing _ _ c.if-kind-ne5.false ∙ ap preview_line c.in-Some.is)) (omega arith)
-
-pub returns-in-None : goal.returns-in-None
-unfolding preview_line
-returns-in-None c = puts_as (puts_none _ 0 _ (omega arith)) _ 100 (sym (before_closing _ _ c.if-kind-ne5.false ∙ ap preview_line c.in-None.is)) (omega arith)
+pub returns : goal.returns
+returns c =
+    puts_as c.put_preview.ensures _ 100 (sym (before_closing _ _ c.if-kind-ne5.false)) (omega arith)

@@ -1,17 +1,18 @@
--- What the closing says, or nothing.
+-- What the closing says, or zeros.
+use mathlib.Core.Path.{◌≡◌, refl}
+use Rattle.std.specs.Prelude.{List, ℕ, Result, Ok, Err}
+use Rattle.std.specs.Result.{result_unwrap_or}
 use Rattle.std.proofs.Common.{arith}
-use Rattle.trace_text.specs.Words.{closed_lines}
-use Rattle.trace_text.specs.decimal_text.PutsLaws.{puts_none}
+use Rattle.engine_refusals.specs.declared.Refusal.{Refusal}
+use Rattle.engine_looks.specs.declared.readings.Preview.{Preview}
+use Rattle.trace_text.specs.Words.{no_preview, closing_lines, closed_lines}
+use Rattle.trace_text.specs.decimal_text.PutsLaws.{puts_as}
 use Rattle.trace_text.proofs.put_closed.Goals as goal
 
-pub returns-in-Ok : goal.returns-in-Ok
+closed_lem : (r : Result Preview Refusal) (p : Preview) → p ≡ result_unwrap_or r no_preview → closing_lines p ≡ closed_lines r
 unfolding closed_lines
-returns-in-Ok c = rw (c.in-Some.is, c.in-Ok.is) c.put_closing.ensures
+closed_lem (Ok x) p e = rw e refl
+closed_lem (Err x) p e = rw e refl
 
-pub returns-in-Err : goal.returns-in-Err
-unfolding closed_lines
-returns-in-Err c = rw (c.in-Some.is, c.in-Err.is) (puts_none _ 100 _ (omega arith))
-
-pub returns-in-None : goal.returns-in-None
-unfolding closed_lines
-returns-in-None c = rw c.in-None.is (puts_none _ 100 _ (omega arith))
+pub returns : goal.returns
+returns c = puts_as c.put_closing.ensures _ 100 (closed_lem c.args.preview c.unwrap_or.result c.unwrap_or.ensures) (omega arith)

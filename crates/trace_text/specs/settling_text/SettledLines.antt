@@ -1,5 +1,5 @@
 -- A settlement in words and decimal numbers, an item a line.
-use Rattle.std.specs.Prelude.{ℕ, min, cond, Option, Some, None, List, [], ◌++◌}
+use Rattle.std.specs.Prelude.{ℕ, min, cond, false, Option, Some, None, List, ◌++◌}
 use Rattle.engine_settling.specs.declared.Settlement.{Settlement}
 use Rattle.trace_text.specs.decimal_text.Decimal.{bytes_of}
 use Rattle.trace_text.specs.decimal_text.Items.{item}
@@ -24,7 +24,25 @@ items_paid s = item (bytes_of "insufficient ") (cond s.insufficient 1 0) ++ item
 unfoldable pub settlement_lines : Settlement → List ℕ → List ℕ
 settlement_lines s awards = items s ++ award_lines awards (min s.records 32) ++ items_behind s ++ items_paid s
 
--- nothing where there is none
+-- where nothing was settled: 0 in every place
+abbrev pub unsettled : Settlement
+unsettled =
+    record {
+      price = 0;
+      demand = 0;
+      remainder = 0;
+      total = 0;
+      choices = 0;
+      covering = 0;
+      kept = 0;
+      second = 0;
+      short = false;
+      insufficient = false;
+      paid = 0;
+      records = 0;
+    }
+
+-- of the settlement behind a line: zeros where there is none
 unfoldable pub settled_lines : Option Settlement → List ℕ → List ℕ
-settled_lines None awards = []
 settled_lines (Some s) awards = settlement_lines s awards
+settled_lines None awards = settlement_lines unsettled awards
