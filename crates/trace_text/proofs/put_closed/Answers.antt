@@ -1,6 +1,6 @@
 -- What the closing says, or zeros.
 use mathlib.Core.Path.{◌≡◌, refl}
-use Rattle.std.specs.Prelude.{List, ℕ, Result, Ok, Err}
+use Rattle.std.specs.Prelude.{Result, Ok, Err}
 use Rattle.std.specs.Result.{result_unwrap_or}
 use Rattle.std.proofs.Common.{arith}
 use Rattle.engine_refusals.specs.declared.Refusal.{Refusal}
