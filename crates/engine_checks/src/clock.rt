@@ -77,8 +77,8 @@ impl From<Phase> for u8 {
 impl From<u8> for Phase {
     ghost from_gives = { λ n p. phase_in p ≡ phase_of n };
 
-    fn from(number: u8) -> Phase {
-        match number {
+    fn from(n: u8) -> Phase {
+        match n {
             1 => Phase::Ready,
             2 => Phase::Round,
             3 => Phase::Between,
