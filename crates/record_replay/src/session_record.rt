@@ -67,6 +67,17 @@ fn record_fits(session: &[u8], room: usize) -> bool
     true
 }
 
+// Copies bytes to the start of a buffer; those behind them stay. It is a loop, since of `copy_from_slice` here the compiler makes a call of memmove, which no
+// other call of the library needs of a host.
+fn copy(bytes: &[u8], out: &mut [u8])
+    requires { length bytes.now ≤ length out.old }
+    ensures { out.new ≡ laid bytes.now out.old }
+{
+    for (i, &byte) in bytes.iter().enumerate() {
+        out[i] = byte;
+    }
+}
+
 // Writes what the record has of a line at the start of a buffer, and gives how many bytes that are.
 fn put_kept(line: &[u8], out: &mut [u8]) -> usize
     requires { length (kept_text line.now) ≤ length out.old }
@@ -76,7 +87,7 @@ fn put_kept(line: &[u8], out: &mut [u8]) -> usize
         return 0;
     };
     let n = frame.len();
-    out[..n].copy_from_slice(frame);
+    copy(frame, out);
     field_writing::put_byte(&mut out[n..], 10);
     n + 1
 }
